@@ -1,0 +1,123 @@
+-- The integers as differences of two naturals: an equation of ℤ becomes one of ℕ, which omega proves. Then the laws of the
+-- ring that lib.IntN leaves out, and the ruleset `ring` for simp. Assumes nothing.
+use mathlib.Core.Path.{_≡_, refl, sym, ap, _∙_, subst}
+use mathlib.Core.Bool.{Bool, cond}
+use Prim.Native.Nat.{ℕ, zero, suc, _+_, _-_, _*_, _≤_, _<_}
+use native.Mathlib.Nat.{lt-of-not-le, le-dest}
+use native.Mathlib.Decide.{decLe}
+use native.Mathlib.Omega.{arith}
+use lib.IntN.{ℤ, pos, negsuc, negℤ, subℕ, _+ℤ_, _*ℤ_, *ℤ-comm, +ℤ-comm, +ℤ-assoc}
+use borrow.Author.Tests.{lt-ltb, le-ltb}
+
+pub below : {a b : ℕ} → a < b → subℕ a b ≡ negsuc (b - suc a)
+below {a} {b} h = ap (λ (t : Bool). cond t (negsuc (b - suc a)) (pos (a - b))) (lt-ltb a b h)
+
+pub above : {a b : ℕ} → b ≤ a → subℕ a b ≡ pos (a - b)
+above {a} {b} h = ap (λ (t : Bool). cond t (negsuc (b - suc a)) (pos (a - b))) (le-ltb a b h)
+
+-- two differences are equal where the crossed sums are
+pub diff-eq : (a b c d : ℕ) → a + d ≡ c + b → subℕ a b ≡ subℕ c d
+diff-eq a b c d e = either (decLe b a)
+  where
+    either : Dec (b ≤ a) → subℕ a b ≡ subℕ c d
+    either (yes h) = let k : d ≤ c = omega arith in above h ∙ ap pos (omega arith) ∙ sym (above k)
+    either (no n) =
+        let h : a < b = lt-of-not-le n in
+        let k : c < d = omega arith in
+        below h ∙ ap negsuc (omega arith) ∙ sym (below k)
+
+pub as-diff : (n : ℕ) → pos n ≡ subℕ n 0
+as-diff n = ap pos (omega arith) ∙ sym (above {a = n} {b = 0} (omega arith))
+
+pub neg-as-diff : (n : ℕ) → negℤ (pos n) ≡ subℕ 0 n
+neg-as-diff zero = refl
+neg-as-diff (suc n) = ap negsuc (omega arith) ∙ sym (below {a = 0} {b = suc n} (omega arith))
+
+-- a difference is a natural or the negative of one
+data View : ℕ → ℕ → Type 0 where
+  over : (b x : ℕ) → View (b + x) b
+  under : (a x : ℕ) → View a (a + suc x)
+
+view : (a b : ℕ) → View a b
+view a b = either (decLe b a)
+  where
+    either : Dec (b ≤ a) → View a b
+    either (yes h) = subst (λ (n : ℕ). View n b) (le-dest h .1) (over b (le-dest h .0))
+    either (no n) =
+        let l = le-dest (lt-of-not-le n) in
+        let e : a + suc (l .0) ≡ b = omega (arith, l .1) in
+        subst (λ (m : ℕ). View a m) e (under a (l .0))
+
+pub over-pos : (b x : ℕ) → subℕ (b + x) b ≡ pos x
+over-pos b x = diff-eq (b + x) b x 0 (omega arith) ∙ sym (as-diff x)
+
+under-neg : (a x : ℕ) → subℕ a (a + suc x) ≡ negsuc x
+under-neg a x = diff-eq a (a + suc x) 0 (suc x) (omega arith) ∙ sym (neg-as-diff (suc x))
+
+-- the sum of two differences
+add-views : {a b c d : ℕ} → View a b → View c d → subℕ a b +ℤ subℕ c d ≡ subℕ (a + c) (b + d)
+add-views (over b x) (over d y) = (λ i. over-pos b x i +ℤ over-pos d y i) ∙ as-diff (x + y) ∙ diff-eq (x + y) 0 (b + x + (d + y)) (b + d) (omega arith)
+add-views (over b x) (under c y) = (λ i. over-pos b x i +ℤ under-neg c y i) ∙ diff-eq x (suc y) (b + x + c) (b + (c + suc y)) (omega arith)
+add-views (under a x) (over d y) = (λ i. under-neg a x i +ℤ over-pos d y i) ∙ diff-eq y (suc x) (a + (d + y)) (a + suc x + d) (omega arith)
+add-views (under a x) (under c y) = (λ i. under-neg a x i +ℤ under-neg c y i) ∙ neg-as-diff (suc (suc (x + y))) ∙ diff-eq 0 (suc (suc (x + y))) (a + c) (a + suc x + (c + suc y)) (omega arith)
+
+pub diff-add : (a b c d : ℕ) → subℕ a b +ℤ subℕ c d ≡ subℕ (a + c) (b + d)
+diff-add a b c d = add-views (view a b) (view c d)
+
+-- the product of two differences
+mul-views : {a b c d : ℕ} → View a b → View c d → subℕ a b *ℤ subℕ c d ≡ subℕ (a * c + b * d) (a * d + b * c)
+mul-views (over b x) (over d y) = (λ i. over-pos b x i *ℤ over-pos d y i) ∙ as-diff (x * y) ∙ diff-eq (x * y) 0 ((b + x) * (d + y) + b * d) ((b + x) * d + b * (d + y)) (omega arith)
+mul-views (over b x) (under c y) = (λ i. over-pos b x i *ℤ under-neg c y i) ∙ neg-as-diff (x * suc y) ∙ diff-eq 0 (x * suc y) ((b + x) * c + b * (c + suc y)) ((b + x) * (c + suc y) + b * c) (omega arith)
+mul-views (under a x) (over d y) = (λ i. under-neg a x i *ℤ over-pos d y i) ∙ neg-as-diff (suc x * y) ∙ diff-eq 0 (suc x * y) (a * (d + y) + (a + suc x) * d) (a * d + (a + suc x) * (d + y)) (omega arith)
+mul-views (under a x) (under c y) = (λ i. under-neg a x i *ℤ under-neg c y i) ∙ as-diff (suc x * suc y) ∙ diff-eq (suc x * suc y) 0 (a * c + (a + suc x) * (c + suc y)) (a * (c + suc y) + (a + suc x) * c) (omega arith)
+
+pub diff-mul : (a b c d : ℕ) → subℕ a b *ℤ subℕ c d ≡ subℕ (a * c + b * d) (a * d + b * c)
+diff-mul a b c d = mul-views (view a b) (view c d)
+
+-- the parts of an integer above and below 0
+abbrev up : ℤ → ℕ
+up (pos n) = n
+up (negsuc n) = 0
+
+abbrev down : ℤ → ℕ
+down (pos n) = 0
+down (negsuc n) = suc n
+
+parts : (z : ℤ) → z ≡ subℕ (up z) (down z)
+parts (pos n) = as-diff n
+parts (negsuc n) = neg-as-diff (suc n)
+
+pub *ℤ-+ℤ : (a b c : ℤ) → a *ℤ (b +ℤ c) ≡ a *ℤ b +ℤ a *ℤ c
+*ℤ-+ℤ a b c =
+    (λ i. parts a i *ℤ (parts b i +ℤ parts c i))
+    ∙ at (up a) (down a) (up b) (down b) (up c) (down c)
+    ∙ sym (λ i. parts a i *ℤ parts b i +ℤ parts a i *ℤ parts c i)
+  where
+    at : (a a′ b b′ c c′ : ℕ) → subℕ a a′ *ℤ (subℕ b b′ +ℤ subℕ c c′) ≡ subℕ a a′ *ℤ subℕ b b′ +ℤ subℕ a a′ *ℤ subℕ c c′
+    at a a′ b b′ c c′ =
+        ap (λ (z : ℤ). subℕ a a′ *ℤ z) (diff-add b b′ c c′) ∙ diff-mul a a′ (b + c) (b′ + c′)
+        ∙ diff-eq (a * (b + c) + a′ * (b′ + c′)) (a * (b′ + c′) + a′ * (b + c)) (a * b + a′ * b′ + (a * c + a′ * c′)) (a * b′ + a′ * b + (a * c′ + a′ * c)) (omega arith)
+        ∙ sym (diff-add (a * b + a′ * b′) (a * b′ + a′ * b) (a * c + a′ * c′) (a * c′ + a′ * c))
+        ∙ sym (λ i. diff-mul a a′ b b′ i +ℤ diff-mul a a′ c c′ i)
+
+pub *ℤ-assoc : (a b c : ℤ) → a *ℤ b *ℤ c ≡ a *ℤ (b *ℤ c)
+*ℤ-assoc a b c =
+    (λ i. parts a i *ℤ parts b i *ℤ parts c i) ∙ at (up a) (down a) (up b) (down b) (up c) (down c) ∙ sym (λ i. parts a i *ℤ (parts b i *ℤ parts c i))
+  where
+    at : (a a′ b b′ c c′ : ℕ) → subℕ a a′ *ℤ subℕ b b′ *ℤ subℕ c c′ ≡ subℕ a a′ *ℤ (subℕ b b′ *ℤ subℕ c c′)
+    at a a′ b b′ c c′ =
+        ap (λ (z : ℤ). z *ℤ subℕ c c′) (diff-mul a a′ b b′) ∙ diff-mul (a * b + a′ * b′) (a * b′ + a′ * b) c c′
+        ∙ diff-eq ((a * b + a′ * b′) * c + (a * b′ + a′ * b) * c′) ((a * b + a′ * b′) * c′ + (a * b′ + a′ * b) * c) (a * (b * c + b′ * c′) + a′ * (b * c′ + b′ * c)) (a * (b * c′ + b′ * c) + a′ * (b * c + b′ * c′)) (omega arith)
+        ∙ sym (diff-mul a a′ (b * c + b′ * c′) (b * c′ + b′ * c)) ∙ sym (ap (λ (z : ℤ). subℕ a a′ *ℤ z) (diff-mul b b′ c c′))
+
+pub +ℤ-*ℤ : (a b c : ℤ) → (a +ℤ b) *ℤ c ≡ a *ℤ c +ℤ b *ℤ c
++ℤ-*ℤ a b c = *ℤ-comm (a +ℤ b) c ∙ *ℤ-+ℤ c a b ∙ (λ i. *ℤ-comm c a i +ℤ *ℤ-comm c b i)
+
+pub *ℤ-left-comm : (a b c : ℤ) → a *ℤ (b *ℤ c) ≡ b *ℤ (a *ℤ c)
+*ℤ-left-comm a b c = sym (*ℤ-assoc a b c) ∙ ap (λ (z : ℤ). z *ℤ c) (*ℤ-comm a b) ∙ *ℤ-assoc b a c
+
+pub +ℤ-left-comm : (a b c : ℤ) → a +ℤ (b +ℤ c) ≡ b +ℤ (a +ℤ c)
++ℤ-left-comm a b c = sym (+ℤ-assoc a b c) ∙ ap (λ (z : ℤ). z +ℤ c) (+ℤ-comm a b) ∙ +ℤ-assoc b a c
+
+-- for simp: sums and products are multiplied out and sorted
+pub ruleset ring = (*ℤ-+ℤ, +ℤ-*ℤ, *ℤ-assoc, *ℤ-comm, *ℤ-left-comm, +ℤ-assoc, +ℤ-comm, +ℤ-left-comm)

@@ -1,0 +1,27 @@
+-- `root::pairs_of` meets its contract. Assumes nothing.
+use mathlib.Core.Path.{ap, _∙_}
+use native.Mathlib.Omega.{arith}
+use lib.Count.{leading-le}
+use Rattle.wide.specs.Value.{value}
+use Rattle.root.specs.Pairs.{pairs}
+use Rattle.root.proofs.Digits.{one-word, two-words}
+use Rattle.root.proofs.pairs_of.Statement.{statement}
+use Rattle.root.proofs.pairs_of.Tie as tie
+
+sub-result : tie.Need-sub-result
+sub-result c = omega (arith, leading-le 64 (c .before .args .n .low))
+
+sub-result-2 : tie.Need-sub-result-2
+sub-result-2 c = omega (arith, leading-le 64 (c .before .args .n .high))
+
+returns : tie.Need-returns
+unfolding value
+returns c = let h = c .if1 .taken in one-word (c .before .args .n .low) (omega arith) ∙ ap pairs (omega arith)
+
+returns-2 : tie.Need-returns-2
+unfolding value
+returns-2 c = let h = c .if1 .left in two-words (c .before .args .n .high) (c .before .args .n .low) (omega arith) (omega arith) (omega arith)
+
+pub pairs-of-spec : {M : Type 1} → statement M
+pairs-of-spec = tie.close (tie.spec
+    sub-result sub-result-2 returns returns-2)

@@ -1,0 +1,78 @@
+// The least whole number whose square reaches a number of two words, found one binary digit at a time.
+ghost use mathlib.Core.Path.{_≡_};
+ghost use Prim.Native.Nat.{_+_, _*_, _/_, _%_, _^_, _<_, _≤_};
+ghost use lib.Dec.{leb};
+ghost use Rattle.search.specs.Least.{least};
+ghost use Rattle.wide.specs.Value.{value};
+ghost use Rattle.root.specs.Pairs.{pairs};
+use wide::Wide;
+
+// The least whole number whose square is at least n. Below 2^124 the root and what its square leaves fit a word at each step.
+pub fn root_up(n: Wide) -> u64
+    requires { ⌜ value n < 2 ^ 124 ⌝ }
+    ensures { λ r. ⌜ r ≡ least (λ x. leb (value n) (x * x)) ⌝ }
+{
+    let mut left = pairs_of(n);
+    let mut root = 0u64;
+    let mut rest = 0u64;
+    while 0 < left {
+        left -= 1;
+        let s = root_step(root, rest, pair_at(n, left));
+        root = s.root;
+        rest = s.rest;
+    }
+    if rest == 0 { root } else { root + 1 }
+}
+
+// What is held between two steps: the root so far, and what its square leaves.
+struct Held {
+    root: u64,
+    rest: u64,
+}
+
+// One binary digit of the root: two binary digits of the radicand are brought down.
+fn root_step(root: u64, rest: u64, digits: u64) -> Held
+    requires { ⌜ (rest ≤ 2 * root) × (root < 2 ^ 61) × (digits < 4) ⌝ }
+    ensures { λ r. ⌜ (r .root * r .root + r .rest ≡ 4 * (root * root + rest) + digits) × (r .rest ≤ 2 * r .root) ⌝ }
+{
+    let next = 4 * rest + digits;
+    let odd = 4 * root + 1;
+    if odd <= next {
+        Held {
+            root: 2 * root + 1,
+            rest: next - odd,
+        }
+    } else {
+        Held {
+            root: 2 * root,
+            rest: next,
+        }
+    }
+}
+
+// The digit of n in base 4 above its last m: two binary digits, which stand in one word.
+fn pair_at(n: Wide, m: u32) -> u64
+    requires { ⌜ m < 64 ⌝ }
+    ensures { λ r. ⌜ r ≡ value n / 4 ^ m % 4 ⌝ }
+{
+    let high = n.high;
+    let low = n.low;
+    if 32 <= m {
+        (high >> (2 * m - 64)) % 4
+    } else {
+        (low >> (2 * m)) % 4
+    }
+}
+
+// How many digits n has in base 4: half its binary length, padded to an even number.
+fn pairs_of(n: Wide) -> u32
+    ensures { λ r. ⌜ r ≡ pairs (value n) ⌝ }
+{
+    let high = n.high;
+    let low = n.low;
+    if high == 0 {
+        (65 - u64::leading_zeros(low)) / 2
+    } else {
+        (129 - u64::leading_zeros(high)) / 2
+    }
+}

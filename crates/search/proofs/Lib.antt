@@ -1,0 +1,4 @@
+pub mod Picks
+pub mod LeastOf
+pub mod Firsts
+pub mod Values

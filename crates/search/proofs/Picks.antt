@@ -1,0 +1,28 @@
+-- A choice by a test, by the fact that a branch of the code gives. Assumes nothing.
+use mathlib.Core.Path.{_≡_}
+use mathlib.Core.Bool.{Bool, true, false}
+use Prim.Native.Nat.{ℕ, _≤_, _<_}
+use lib.Dec.{ltb, leb, eqb}
+use borrow.Author.Tests.{lt-ltb, le-ltb, le-leb, lt-leb, eq-eqb, ne-eqb}
+use Rattle.search.specs.Pick.{pick}
+
+module _ {ℓ} {A : Type ℓ} where
+  pub if-true : {x : A} (y : A) {b : Bool} → b ≡ true → pick b x y ≡ x
+  unfolding pick
+  if-true y e = rw e
+
+  pub if-false : (x : A) {y : A} {b : Bool} → b ≡ false → pick b x y ≡ y
+  unfolding pick
+  if-false x e = rw e
+
+  pub if-eq : {x : A} (y : A) {a b : ℕ} → a ≡ b → pick (eqb a b) x y ≡ x
+  if-eq y e = if-true y (eq-eqb _ _ e)
+
+  pub if-ne : (x : A) {y : A} {a b : ℕ} → (a ≡ b → ⊥) → pick (eqb a b) x y ≡ y
+  if-ne x e = if-false x (ne-eqb _ _ e)
+
+  pub if-lt : {x : A} (y : A) {a b : ℕ} → a < b → pick (ltb a b) x y ≡ x
+  if-lt y e = if-true y (lt-ltb _ _ e)
+
+  pub if-ge : (x : A) {y : A} {a b : ℕ} → b ≤ a → pick (ltb a b) x y ≡ y
+  if-ge x e = if-false x (le-ltb _ _ e)
