@@ -1,0 +1,78 @@
+-- The reported buffer against the exact one. Assumes nothing.
+use mathlib.Core.Path.{ap}
+use mathlib.Core.List.{List, [], _∷_}
+use Prim.Native.Nat.{ℕ, _+_, _*_}
+use native.Mathlib.Nat.{mul-le-mul-left, mul-le-mul-right, mul-pos, mul-lt-mul-of-pos-left}
+use native.Mathlib.Omega.{arith}
+use lib.ListN.{length}
+use Rattle.search.proofs.LeastOf.{least-ceil}
+use Rattle.guideline.specs.Block.{K}
+use Rattle.guideline.specs.Fraction.{Fraction, _≤ᶠ_, whole}
+use Rattle.guideline.specs.Exact.{kAt}
+use Rattle.guideline.specs.Buffer.{Sheet, sumK, buffer, plus, Choice, sumAt, StrictlyBelowBuffer, lessAllowance, EachAccepted, AcceptedSheet}
+use Rattle.guideline.proofs.Exactly.{k-bound, k-near-by}
+use Rattle.guideline.proofs.Totals.{ro-law, bracket-is, buffer-law}
+
+-- ---- sums of fractions
+
+plus-high : (x y : Fraction) (k l : ℕ) → x ≤ᶠ whole k 0 → y ≤ᶠ whole l 0 → plus x y ≤ᶠ whole (k + l) 0
+plus-high x y k l p q = omega (arith, mul-le-mul-right (y .under) p, mul-le-mul-right (x .under) q)
+
+plus-low : (x y : Fraction) (k i l j : ℕ) → whole k i ≤ᶠ x → whole l j ≤ᶠ y → whole (k + l) (i + j) ≤ᶠ plus x y
+plus-low x y k i l j p q = omega (arith, mul-le-mul-right (y .under) p, mul-le-mul-right (x .under) q)
+
+-- at any choice, K's fractions come to at most the sum of K
+sum-high : (bs : List (List ℕ)) → EachAccepted bs → (c : Choice bs) → sumAt bs c ≤ᶠ whole (sumK bs) 0
+unfolding sumK
+sum-high [] vs c = omega arith
+sum-high (b ∷ bs) vs c = plus-high (kAt b (c .0)) (sumAt bs (c .2)) (K b) (sumK bs) (k-bound b (vs .0) (c .0) (c .1)) (sum-high bs (vs .1) (c .2))
+
+-- a choice at which they come to no less than the sum of K less two cents a block
+record Near (bs : List (List ℕ)) : Type 0 where
+  choice : Choice bs
+  near : whole (sumK bs) (2 * length bs) ≤ᶠ sumAt bs choice
+
+sum-near : (bs : List (List ℕ)) → EachAccepted bs → Near bs
+unfolding sumK
+sum-near [] vs = record { choice = tt; near = omega arith }
+sum-near (b ∷ bs) vs =
+    let k = k-near-by b (vs .0) 2 (omega arith) in
+    let r = sum-near bs (vs .1) in
+    let le = plus-low (kAt b (k .d)) (sumAt bs (r .choice)) (K b) 2 (sumK bs) (2 * length bs) (omega (arith, k .below)) (r .near) in
+    record { choice = (k .d, k .fits, r .choice); near = omega arith }
+
+-- ---- the buffer
+
+module _ (s : Sheet) (v : AcceptedSheet s) where
+  -- 'the reported buffer is at or above the exact one'
+  pub buffer-at : ¬ StrictlyBelowBuffer s (whole (buffer s) 0)
+  buffer-at t =
+      let x = sumAt (s .blocks) (t .choice) in
+      let g = s .g in
+      let m = x .under in
+      omega (
+        arith,
+        t .below,
+        mul-le-mul-left g (sum-high (s .blocks) (v .blocks-pass) (t .choice)),
+        mul-le-mul-left (g * m) (ro-law (s .volumes) (s .general) (v .amounts) .reaches),
+        mul-le-mul-left m (buffer-law s v .reaches),
+        ap (λ (z : ℕ). g * m * z) (bracket-is s v),
+      )
+
+  -- less the allowance it is strictly below it
+  pub buffer-near : StrictlyBelowBuffer s (lessAllowance s (buffer s))
+  buffer-near =
+      let r = sum-near (s .blocks) (v .blocks-pass) in
+      let x = sumAt (s .blocks) (r .choice) in
+      let g = s .g in
+      let m = x .under in
+      record {
+        choice = r .choice;
+        below = omega (
+          arith,
+          mul-le-mul-left g (r .near),
+          mul-lt-mul-of-pos-left (least-ceil 50000 _ _ (omega arith) (ro-law (s .volumes) (s .general) (v .amounts))) (mul-pos (v .g-low) (x .above)),
+          mul-lt-mul-of-pos-left (least-ceil 10000 _ _ (omega arith) (buffer-law s v)) (x .above),
+          ap (λ (z : ℕ). g * m * z) (bracket-is s v),
+        );
+      }

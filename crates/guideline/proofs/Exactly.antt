@@ -1,0 +1,229 @@
+-- The reported D and K against the exact ones. Assumes nothing.
+use mathlib.Core.Path.{_≡_, ap, _∙_}
+use mathlib.Core.List.{List}
+use Prim.Native.Nat.{ℕ, suc, _+_, _-_, _*_, max, _≤_, _<_}
+use native.Mathlib.Nat.{mul-le-mul-right, mul-sub, ne-of-gt}
+use native.Mathlib.Bridge.{le-prop}
+use native.Mathlib.Decide.{decLe, decLt}
+use native.Mathlib.Omega.{arith}
+use lib.IntN.{pos}
+use Rattle.search.proofs.Picks.{if-eq, if-ne}
+use Rattle.search.proofs.LeastOf.{least-short}
+use Rattle.guideline.specs.Block.{PC, seven, U, LT, Vh, y, largest, root, I, a, D, K, Accepted}
+use Rattle.guideline.specs.Fraction.{Fraction, _≤ᶠ_, _<ᶠ_, whole, quarters, thrice, squareLess, sumSquares}
+use Rattle.guideline.specs.Exact.{AtOrAboveI, AtOrAboveD, Fits, mTop, kOver, kAt, StrictlyBelowK}
+use Rattle.guideline.proofs.Bounds.{radicand, radicand-rises, root-thrice, m-rises-over, over-rises, k-above, near-largest, near-root, k-near}
+use Rattle.guideline.proofs.Fractions.{nat, nat-is, nat-rises, nat-le, square-is, mTop-is, square-from, radicand-nat, third-below}
+use Rattle.guideline.proofs.Figures.{q, q-is, q-least, v-sum, u-high, root-law, d-law, d-high, d-third, k-law, k-none}
+
+-- ---- small laws
+
+max-mul : (x y m z : ℕ) → x * m ≤ z → y * m ≤ z → max x y * m ≤ z
+max-mul x y m z p q = go (decLe x y)
+  where
+    go : Dec (x ≤ y) → max x y * m ≤ z
+    go (yes h) = let e : max x y ≡ y = omega arith in rw e q
+    go (no h) = let e : max x y ≡ x = omega arith in rw e p
+
+decided : {v : ℕ} (t : Dec (0 < v)) (h : 0 < v) → t ≡ yes h
+decided (yes k) h = ap yes (le-prop k h)
+decided (no k) h = absurd (k h)
+
+-- ---- K's fraction
+
+kAt-some : (b : List ℕ) (d : Fraction) → 0 < U b → (h : 0 < Vh b) → kAt b d ≡ kOver (U b) (LT b) (Vh b) d (yes h)
+unfolding kAt
+kAt-some b d k h = if-ne _ (ne-of-gt k) ∙ ap (kOver (U b) (LT b) (Vh b) d) (decided (decLt 0 (Vh b)) h)
+
+kAt-none : (b : List ℕ) (d : Fraction) → U b ≡ 0 → kAt b d ≡ whole 0 0
+unfolding kAt
+kAt-none b d e = if-eq _ e
+
+module _ (b : List ℕ) (v : Accepted b) where
+  v-pos : 0 < U b → 0 < Vh b
+  v-pos h = omega (arith, u-high b v)
+
+  -- a d from V/3 on is a natural over its `under`
+  third-nat : (d : Fraction) → whole (Vh b) 0 ≤ᶠ thrice d → Vh b * d .under ≤ 3 * nat d
+  third-nat d h = omega arith
+
+  -- K's fraction never falls
+  pub fraction-rises : (d e : Fraction) → whole (Vh b) 0 ≤ᶠ thrice d → d ≤ᶠ e → kAt b d ≤ᶠ kAt b e
+  fraction-rises d e low up = go (decLe 1 (U b))
+    where
+      zd : whole 0 0 ≤ᶠ d
+      zd = omega arith
+
+      go : Dec (1 ≤ U b) → kAt b d ≤ᶠ kAt b e
+      go (yes h) = rw (kAt-some b d h (v-pos h), kAt-some b e h (v-pos h))
+          (omega (
+            arith,
+            over-rises (48 * (U b * Vh b) + 6 * (LT b * Vh b)) (Vh b) (mTop (Vh b) d) (d .under) (mTop (Vh b) e) (e .under)
+                (rw (mTop-is (Vh b) d zd, mTop-is (Vh b) e (nat-rises d e zd up)) (m-rises-over (Vh b) (nat d) (d .under) (nat e) (e .under) (third-nat d low) (nat-le d e zd up))),
+          ))
+      go (no h) = rw (kAt-none b d (omega arith), kAt-none b e (omega arith)) (omega arith)
+
+  -- ---- I, and the reported D against the exact one
+
+  largest-in : largest b + 2 * PC b ≤ I b
+  unfolding I
+  largest-in = omega arith
+
+  root-in : root b + 2 * PC b ≤ I b
+  unfolding I
+  root-in = omega arith
+
+  i-largest : root b ≤ largest b → I b ≡ largest b + 2 * PC b
+  unfolding I
+  i-largest h = omega arith
+
+  i-root : largest b < root b → I b ≡ suc (root b - 1 + 2 * PC b)
+  unfolding I
+  i-root h = omega arith
+
+  -- what is below the exact I is at most the reported I
+  i-below : (i : Fraction) → ¬ AtOrAboveI b i → i ≤ᶠ whole (I b) 0
+  i-below i below = go (decLe (i .up) (I b * i .under + i .down))
+    where
+      at : I b * i .under + i .down ≤ i .up → AtOrAboveI b i
+      at h =
+          let c = 2 * PC b in
+          let m = i .under in
+          record {
+            floor = omega (arith, mul-le-mul-right m largest-in);
+            square = rw (q-is b) (omega (arith, square-from (q b) (root b) m (i .up) (i .down + c * m) (root-law b v .reaches) (omega (arith, mul-le-mul-right m root-in))));
+          }
+
+      go : Dec (i .up ≤ I b * i .under + i .down) → i ≤ᶠ whole (I b) 0
+      go (yes h) = omega arith
+      go (no h) = absurd (below (at (omega arith)))
+
+  -- the reported D is at or above the exact D
+  d-at : AtOrAboveD b (whole (D b) 0)
+  d-at =
+      record {
+        natural = omega arith;
+        below = λ i ni bi.
+            let e = nat-is i ni in
+            let m = i .under in
+            let le : nat i ≤ I b * m = omega (arith, i-below i bi) in
+            omega (arith, square-is (i .up) (i .down) (nat i) e, ap (λ (z : ℕ). a b * m * z) e, radicand-rises (a b * m) le, mul-le-mul-right (m * m) (d-law b v .reaches));
+        at-floor = omega (arith, radicand-rises (a b) largest-in, d-law b v .reaches);
+      }
+
+  -- what fits is at most the reported D
+  pub fits-below : (d : Fraction) → Fits b d → d ≤ᶠ whole (D b) 0
+  fits-below d f = go (decLe (d .up) (D b * d .under + d .down))
+    where
+      go : Dec (d .up ≤ D b * d .under + d .down) → d ≤ᶠ whole (D b) 0
+      go (yes h) = omega arith
+      go (no h) = absurd (f .within (record { smaller = whole (D b) 0; less = omega arith; at = d-at }))
+
+  -- ---- the reported K is not strictly below the exact K
+
+  -- K's fraction at what fits is at most the reported K
+  pub k-bound : (d : Fraction) → Fits b d → kAt b d ≤ᶠ whole (K b) 0
+  k-bound d f = go (decLe 1 (U b))
+    where
+      third : whole (Vh b) 0 ≤ᶠ thrice d
+      third = omega (arith, f .third)
+
+      go : Dec (1 ≤ U b) → kAt b d ≤ᶠ whole (K b) 0
+      go (yes h) =
+          let le = k-above (U b) (LT b) (Vh b) (D b) (K b) (nat d) (d .under) (third-nat d third) (omega (arith, fits-below d f)) (k-law b v h .reaches) in
+          rw (kAt-some b d h (v-pos h)) (omega (arith, mTop-is (Vh b) d (omega (arith, third))))
+      go (no h) = rw (kAt-none b d (omega arith)) (omega arith)
+
+  pub k-at : ¬ StrictlyBelowK b (whole (K b) 0)
+  k-at s = omega (arith, k-bound (s .d) (s .fits), s .below)
+
+  -- ---- K − 2 is strictly below it
+
+  -- what is at or above the exact D is at least V/3 ..
+  at-third : (e : Fraction) → AtOrAboveD b e → Vh b * e .under ≤ 3 * nat e
+  at-third e h = go (decLe 1 (seven (y b)))
+    where
+      c : ℕ
+      c = 2 * PC b
+
+      go : Dec (1 ≤ seven (y b)) → Vh b * e .under ≤ 3 * nat e
+      go (yes p) =
+          let i : Fraction = record { up = 3 * c + seven (y b); down = 0; under = 3; above = omega arith } in
+          let sq = h .below i (omega arith) (λ t. third-below (q b) (seven (y b)) c (omega arith) (q-least b) p (rw (q-is b) at (t .square))) in
+          let le = root-thrice _ _ _ (radicand-nat (a b) (3 * c + seven (y b)) 3 (omega arith) e (h .natural) sq) in
+          omega (arith, ap (λ (z : ℕ). z * e .under) (v-sum b v))
+      go (no p) =
+          let le = root-thrice _ _ _ (radicand-nat (a b) (largest b + c) 1 (omega arith) e (h .natural) (h .at-floor)) in
+          let s0 : Vh b ≡ c + a b = omega (arith, v-sum b v) in
+          omega (arith, ap (λ (z : ℕ). z * e .under) s0)
+
+  -- .. and above D − 2
+  at-near : (e : Fraction) → AtOrAboveD b e → D b * e .under < nat e + 2 * e .under
+  at-near e h = go (decLe 1 (D b)) (decLe (root b) (largest b))
+    where
+      c : ℕ
+      c = 2 * PC b
+
+      m : ℕ
+      m = e .under
+
+      one-less : 1 ≤ D b → D b * m ≡ (D b - 1) * m + m
+      one-less p = let k : D b ≡ D b - 1 + 1 = omega arith in omega (arith, ap (λ (z : ℕ). z * m) k)
+
+      on-naturals : (j : ℕ) → sumSquares (a b) (whole j 0) ≤ᶠ squareLess e 0 → radicand (a b) j * (m * m) ≤ nat e * nat e
+      on-naturals j k = omega (arith, radicand-nat (a b) j 1 (omega arith) e (h .natural) k)
+
+      short : 1 ≤ D b → (D b - 1) * (D b - 1) < radicand (a b) (I b)
+      short p = least-short (d-law b v) (D b - 1) (omega arith)
+
+      go : Dec (1 ≤ D b) → Dec (root b ≤ largest b) → D b * e .under < nat e + 2 * e .under
+      go (no p) r = let d0 : D b ≡ 0 = omega arith in omega (arith, e .above, ap (λ (z : ℕ). z * m) d0)
+      go (yes p) (yes r) =
+          let lt = near-largest (a b) (nat e) m (D b - 1) (e .above) (largest b + c) (rw (i-largest r) at (short p)) (on-naturals _ (h .at-floor)) in
+          omega (arith, one-less p, e .above)
+      go (yes p) (no r) =
+          let j = root b - 1 + c in
+          let below : ¬ AtOrAboveI b (whole j 0) =
+          λ t.
+          let sq : quarters (pos (q b)) ≤ᶠ squareLess (whole j 0) c = rw (q-is b) at (t .square) in
+          let k = root-law b v .first (root b - 1) (omega arith) in
+          omega arith in
+          let lt = near-root (a b) (nat e) m (D b - 1) (e .above) j (rw (i-root (omega arith)) at (short p)) (on-naturals j (h .below (whole j 0) (omega arith) below)) in
+          omega (arith, one-less p)
+
+  -- so the larger of D − 2 and V/3 fits
+  n₀ : ℕ
+  n₀ = max (3 * D b - 6) (Vh b)
+
+  d₀ : Fraction
+  d₀ = record { up = n₀; down = 0; under = 3; above = omega arith }
+
+  fits₀ : Fits b d₀
+  unfolding d₀ n₀
+  fits₀ =
+      record {
+        third = omega arith;
+        within = λ s.
+            let e = s .smaller in
+            let m = e .under in
+            omega (
+              arith,
+              nat-is e (s .at .natural),
+              s .less,
+              max-mul (3 * D b - 6) (Vh b) m (3 * nat e) (omega (arith, mul-sub m (3 * D b) 6, at-near e (s .at))) (at-third e (s .at)),
+            );
+      }
+
+  -- K less 2 or more is below K's fraction there
+  pub k-near-by : (n : ℕ) → 2 ≤ n → StrictlyBelowK b (whole (K b) n)
+  unfolding d₀ n₀
+  k-near-by n two = record { d = d₀; fits = fits₀; below = go (decLe 1 (U b)) (decLe 2 (K b)) }
+    where
+      go : Dec (1 ≤ U b) → Dec (2 ≤ K b) → whole (K b) n <ᶠ kAt b d₀
+      go (yes h) (yes k) =
+          let ke : K b ≡ K b - 2 + 2 = omega arith in
+          let low = d-third b v in
+          let near = k-near (U b) (LT b) (Vh b) (D b) (K b - 2) n₀ (d-high b v) (omega arith) (omega arith) (omega arith) (v-pos h) (least-short (k-law b v h) (suc (K b - 2)) (omega arith)) in
+          rw (kAt-some b d₀ h (v-pos h)) (omega (arith, ap (λ (z : ℕ). z * Vh b) ke, mul-le-mul-right (Vh b) two))
+      go (yes h) (no k) = let ku : K b ≤ 1 = omega arith in rw (kAt-some b d₀ h (v-pos h)) (omega (arith, u-high b v, mul-le-mul-right (Vh b) ku, mul-le-mul-right (Vh b) two))
+      go (no h) k = rw (kAt-none b d₀ (omega arith)) (omega (arith, k-none b v (omega arith)))

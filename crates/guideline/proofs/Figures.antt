@@ -1,0 +1,186 @@
+-- What the figures of an accepted block obey. Assumes nothing.
+use mathlib.Core.Path.{_≡_, sym, ap, _∙_}
+use mathlib.Core.List.{List}
+use Prim.Native.Nat.{ℕ, _+_, _*_, _/_, _^_, _≤_, _<_}
+use native.Mathlib.Nat.{mul-le-mul, mul-le-mul-left, ne-of-gt}
+use native.Mathlib.Decide.{decLe}
+use native.Mathlib.Omega.{arith}
+use lib.Dec.{leb}
+use lib.ListN.{getD}
+use lib.IntN.{ℤ, pos}
+use lib.Signed.{leZ}
+use borrow.Author.Tests.{le-leb, lt-leb}
+use Rattle.search.specs.Least.{least}
+use Rattle.search.proofs.Picks.{if-eq, if-ne}
+use Rattle.search.proofs.LeastOf.{LeastOf, Rising, least-of}
+use Rattle.amount.specs.Amount.{limit}
+use Rattle.guideline.specs.Block.{ir, lt, PC, A, seven, U, LT, Vh, y, ys, Q4, largest, root, I, a, D, kTop, requirement, K, Each, Accepted}
+use Rattle.guideline.proofs.Sums.{sum}
+use Rattle.guideline.proofs.Table.{form, form-least, form-most, quarter-form, quarter-natural}
+use Rattle.guideline.proofs.Bounds.{le-of-sq, radicand, radicand-most, root-thrice, m-rises, k-least, u-passes}
+
+-- ---- Q and its root
+
+-- four times Q, as a natural
+unfoldable pub q : List ℕ → ℕ
+q b = quarter-natural (ys b) .0
+
+pub q-is : (b : List ℕ) → Q4 b ≡ pos (q b)
+unfolding Q4 q
+q-is b = quarter-natural (ys b) .1
+
+-- the least number by a test against an integer that is a natural
+least-of-pos : {z : ℤ} {n : ℕ} → z ≡ pos n → (f : ℕ → ℕ) → Rising f → (w : ℕ) → w < 2 ^ 64 → n ≤ f w → LeastOf n f (least (λ r. leZ z (pos (f r))))
+least-of-pos {z} {n} e f rises w lt h = rw e (least-of n f rises w lt h)
+
+module _ (b : List ℕ) where
+  summed : sum 7 (λ i. pos (getD (ys b) i 0)) ≡ pos (seven (y b))
+  unfolding sum ys
+  summed = ap pos (omega arith)
+
+  formed : form (λ i. pos (getD (ys b) i 0)) ≡ pos (q b)
+  unfolding Q4
+  formed = sym (quarter-form (ys b)) ∙ q-is b
+
+  -- 8Q is at least the square of the sum of the y(i), and Q at most that square
+  pub q-least : seven (y b) * seven (y b) ≤ 2 * q b
+  q-least = rw summed at (form-least (λ i. pos (getD (ys b) i 0)) (q b) formed)
+
+  pub q-most : q b ≤ 4 * (seven (y b) * seven (y b))
+  q-most = form-most (λ i. getD (ys b) i 0) (q b) (seven (y b)) formed summed
+
+  pub largest-high : largest b ≤ seven (y b)
+  unfolding largest
+  largest-high = omega arith
+
+-- ---- K by U, LT, V and D
+
+module _ (u l v d : ℕ) where
+  pub requirement-none : u ≡ 0 → requirement u l v d ≡ 0
+  unfolding requirement
+  requirement-none e = if-eq _ e
+
+  pub requirement-some : 0 < u → requirement u l v d ≡ least (λ k. leb (kTop u l v d) (60 * (v * k)))
+  unfolding requirement
+  requirement-some h = if-ne 0 (ne-of-gt h)
+
+module _ (u l v : ℕ) (v-is : 2 * u ≡ v + l) (fits : u < 2 ^ 64) where
+  requirement-law : (d : ℕ) → d ≤ v → v ≤ 3 * d → 0 < u → LeastOf (kTop u l v d) (λ k. 60 * (v * k)) (requirement u l v d)
+  requirement-law d high low h =
+      rw (requirement-some u l v d h)
+      (least-of (kTop u l v d) (λ k. 60 * (v * k)) (λ m k le. omega (arith, mul-le-mul-left v le)) u fits (u-passes u l v d v-is high low))
+
+  -- 'K never falls as D rises'
+  pub requirement-rises : (d e : ℕ) → v ≤ 3 * d → d ≤ e → e ≤ v → requirement u l v d ≤ requirement u l v e
+  requirement-rises d e low up high = go (decLe 1 u)
+    where
+      go : Dec (1 ≤ u) → requirement u l v d ≤ requirement u l v e
+      go (yes h) =
+          requirement-law d (omega arith) low h .first (requirement u l v e)
+          (omega (arith, m-rises v d e low up, requirement-law e high (omega arith) h .reaches))
+      go (no h) = omega (arith, requirement-none u l v d (omega arith))
+
+-- ---- the figures
+
+module _ (b : List ℕ) (v : Accepted b) where
+  y-is : Each (λ i. y b i + lt b i ≡ 2 * ir b i)
+  unfolding y
+  y-is = omega arith
+
+  -- the widths of y(i), U and V
+  pub y-fits : Each (λ i. y b i ≤ 2 * limit)
+  unfolding y
+  y-fits = omega arith
+
+  -- V = 2U − LT, with no difference
+  pub v-is : 2 * U b ≡ Vh b + LT b
+  unfolding U LT Vh
+  v-is = omega arith
+
+  pub u-fits : U b ≤ 10 * limit
+  unfolding U A
+  u-fits = omega arith
+
+  pub u-high : U b ≤ Vh b
+  unfolding U LT Vh
+  u-high = omega arith
+
+  -- V is the sum of all that I and D are made of
+  pub v-sum : Vh b ≡ seven (y b) + 2 * PC b + a b
+  unfolding U LT a
+  v-sum = omega (arith, v-is, y-is)
+
+  v-small : Vh b < 2 ^ 64
+  v-small = omega (arith, v-is, u-fits)
+
+  pub u-small : U b < 2 ^ 64
+  u-small = omega (arith, u-fits)
+
+  pub root-law : LeastOf (q b) (λ r. 4 * (r * r)) (root b)
+  unfolding root
+  root-law =
+      let l : LeastOf (q b) _ (root b) = least-of-pos (q-is b) _ (λ m k le. omega (arith, mul-le-mul le le)) (seven (y b)) (omega (arith, v-small, v-sum)) (omega (arith, q-most b)) in
+      record { reaches = omega (arith, l .reaches); first = λ m h. l .first m (omega arith) }
+
+  -- I is at most V, also with a beside it
+  pub i-high : a b + I b ≤ Vh b
+  unfolding I
+  i-high = omega (arith, v-sum, largest-high b, root-law .first (seven (y b)) (q-most b))
+
+  pub d-law : LeastOf (radicand (a b) (I b)) (λ d. d * d) (D b)
+  unfolding D
+  d-law =
+      let l : LeastOf (radicand (a b) (I b)) _ (D b) = least-of (radicand (a b) (I b)) _ (λ m k le. omega (arith, mul-le-mul le le)) (Vh b) v-small (omega (arith, radicand-most (a b) (I b) (Vh b) i-high)) in
+      record { reaches = omega (arith, l .reaches); first = λ m h. l .first m (omega arith) }
+
+  pub d-high : D b ≤ Vh b
+  d-high = d-law .first (Vh b) (radicand-most (a b) (I b) (Vh b) i-high)
+
+  -- three roots reach the sum
+  sum-root : seven (y b) ≤ 3 * root b
+  sum-root = le-of-sq (seven (y b)) (3 * root b) (omega (arith, q-least b, root-law .reaches))
+
+  -- 'From the matrix, 3 × D is at least V'
+  pub d-third : Vh b ≤ 3 * D b
+  unfolding I
+  d-third = omega (arith, v-sum, sum-root, root-thrice (a b) (I b) (D b) (d-law .reaches))
+
+  pub k-law : 0 < U b → LeastOf (kTop (U b) (LT b) (Vh b) (D b)) (λ k. 60 * (Vh b * k)) (K b)
+  unfolding K
+  k-law h = requirement-law (U b) (LT b) (Vh b) v-is u-small (D b) d-high d-third h
+
+  pub k-none : U b ≡ 0 → K b ≡ 0
+  unfolding K
+  k-none e = requirement-none (U b) (LT b) (Vh b) (D b) e
+
+  pub k-high : K b ≤ U b
+  k-high = go (decLe 1 (U b))
+    where
+      go : Dec (1 ≤ U b) → K b ≤ U b
+      go (yes h) = k-law h .first (U b) (u-passes (U b) (LT b) (Vh b) (D b) v-is d-high d-third)
+      go (no h) = omega (arith, k-none (omega arith))
+
+  pub k-twice : LT b + D b ≤ 2 * K b
+  k-twice = go (decLe 1 (U b))
+    where
+      go : Dec (1 ≤ U b) → LT b + D b ≤ 2 * K b
+      go (yes h) = k-least (U b) (LT b) (Vh b) (D b) v-is d-high (K b) (omega (arith, u-high)) (k-law h .reaches)
+      go (no h) = omega (arith, v-is, d-high)
+
+  -- each figure fits the 18 columns of its line
+  pub figures-fit : (I b < 10 ^ 18) × (D b < 10 ^ 18) × (U b < 10 ^ 18) × (LT b < 10 ^ 18) × (K b < 10 ^ 18)
+  figures-fit = omega (arith, v-is, u-fits, i-high, d-high, k-high)
+
+-- ---- as code finds the root
+
+-- a sum of quarters that is a natural: its root is that of its quarter, rounded up
+pub root-is : (b : List ℕ) (q : ℕ) → Q4 b ≡ pos q → root b ≡ least (λ r. leb ((q + 3) / 4) (r * r))
+unfolding root
+root-is b q e = rw e (λ i. least (λ r. same (r * r) i))
+  where
+    same : (n : ℕ) → leb q (4 * n) ≡ leb ((q + 3) / 4) n
+    same n = go (decLe q (4 * n))
+      where
+        go : Dec (q ≤ 4 * n) → leb q (4 * n) ≡ leb ((q + 3) / 4) n
+        go (yes h) = le-leb q (4 * n) h ∙ sym (le-leb ((q + 3) / 4) n (omega arith))
+        go (no h) = lt-leb q (4 * n) (omega arith) ∙ sym (lt-leb ((q + 3) / 4) n (omega arith))

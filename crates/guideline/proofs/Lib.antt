@@ -1,0 +1,11 @@
+pub mod Sums
+pub mod Squares
+pub mod Table
+pub mod Bounds
+pub mod Fractions
+pub mod Figures
+pub mod Exactly
+pub mod Charges
+pub mod Totals
+pub mod ExactBuffer
+pub mod Demand

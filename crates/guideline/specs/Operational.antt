@@ -1,0 +1,60 @@
+-- Operational risk, chapter 8, after document 01, 'Operational risk'. The volumes are the operational call's list: for each territory
+-- eight pairs, the current and the prior volume of classes 1 to 8, one territory after the other. So the pair k, counted from 0 through
+-- the whole list, is of class k mod 8 + 1. The general figures are gross components, guarantee requirement and ceded premiums.
+-- Assumes nothing.
+use mathlib.Core.List.{List, [], _∷_}
+use Prim.Native.Nat.{ℕ, zero, suc, _+_, _-_, _*_, _/_, _%_, _≤_}
+use lib.Dec.{leb}
+use lib.ListN.{length, getD}
+use Rattle.amount.specs.Amount.{limit}
+use Rattle.search.specs.Least.{least}
+
+-- 'Eight volume classes .. with factors in ten-thousandths' (8.2.1). Direct premiums: individual life, group life, other, annuities
+-- excepted; reinsurance accepted; segregated funds with guarantees; annuities in payment; universal life accounts; other accounts
+-- and accumulating annuities
+unfoldable pub volumeFactors : List ℕ
+volumeFactors = 250 ∷ 250 ∷ 250 ∷ 175 ∷ 40 ∷ 15 ∷ 10 ∷ 10 ∷ []
+
+-- the factor, the current and the prior volume of the pair k
+abbrev pub factorOf : ℕ → ℕ
+factorOf k = getD volumeFactors (k % 8) 0
+
+abbrev pub current : List ℕ → ℕ → ℕ
+current l k = getD l (2 * k) 0
+
+abbrev pub prior : List ℕ → ℕ → ℕ
+prior l k = getD l (2 * k + 1) 0
+
+-- the sum of f over 0, 1, .. up to n, left out
+unfoldable pub total : (ℕ → ℕ) → ℕ → ℕ
+total f zero = 0
+total f (suc n) = total f n + f n
+
+-- 'Volume: factor × current' (8.2.1), over 10,000
+unfoldable pub volume : List ℕ → ℕ
+volume l = total (λ k. factorOf k * current l k) (length l / 2)
+
+-- 'Growth: factor × the excess of current over 120 % of prior, nothing if there is none; each class in each territory alone' (8.2.2),
+-- over 50,000: five times the excess is 5 × current − 6 × prior, cut at 0
+unfoldable pub growth : List ℕ → ℕ
+growth l = total (λ k. factorOf k * (5 * current l k - 6 * prior l k)) (length l / 2)
+
+-- 'General: 575 × gross components + 450 × the segregated fund guarantee requirement + 250 × ceded premiums' (8.2.3), over 10,000
+unfoldable pub general : List ℕ → ℕ
+general g = 575 * getD g 0 0 + 450 * getD g 1 0 + 250 * getD g 2 0
+
+-- the sum of the three, over 50,000: the exact operational figure is this over 50,000
+unfoldable pub operationalTop : List ℕ → List ℕ → ℕ
+operationalTop l g = 5 * volume l + growth l + 5 * general g
+
+-- 'rounded up once, at the end, to RO'
+unfoldable pub RO : List ℕ → List ℕ → ℕ
+RO l g = least (λ r. leb (operationalTop l g) (50000 * r))
+
+-- what rules 15 and 7 leave: volumes of at most 16 territories, and no amount above the limit
+pub record Amounts (l g : List ℕ) : Type 0 where
+  pub short : length l ≤ 256
+  pub volumes : (j : ℕ) → getD l j 0 ≤ limit
+  pub gross : getD g 0 0 ≤ limit
+  pub guarantee : getD g 1 0 ≤ limit
+  pub ceded : getD g 2 0 ≤ limit
