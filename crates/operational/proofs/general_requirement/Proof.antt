@@ -1,0 +1,16 @@
+-- `operational::general_requirement` meets its contract. Assumes nothing.
+use borrow.Author.Needs.{needs}
+use Rattle.guideline.specs.Operational.{general}
+use Rattle.operational.proofs.general_requirement.Statement.{statement}
+use Rattle.operational.proofs.general_requirement.Tie as tie
+
+returns : tie.Need-returns
+unfolding general
+returns c = search needs
+
+pub general-requirement-spec : {M : Type 1} → statement M
+general-requirement-spec =
+    tie.close
+    (tie.spec
+    (λ c. search needs) (λ c. search needs) (λ c. search needs) (λ c. search needs) (λ c. search needs) (λ c. search needs) (λ c. search needs) (λ c. search needs)
+    returns)

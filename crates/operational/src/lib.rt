@@ -1,0 +1,91 @@
+// The operational call: chapter 8 for all territories.
+ghost use mathlib.Core.Path.{_≡_};
+ghost use Prim.Native.Nat.{ℕ, _+_, _-_, _*_, _/_, _≤_, _<_};
+ghost use lib.Dec.{leb};
+ghost use lib.ListN.{length, getD};
+ghost use Rattle.search.specs.Least.{least};
+ghost use Rattle.amount.specs.Amount.{limit};
+ghost use Rattle.guideline.specs.Operational.{Amounts, volume, growth, general, operationalTop, RO};
+ghost use Rattle.operational.specs.Call.{stated, operationalCall};
+use refusal::Place;
+
+// Sixteen territories of eight pairs.
+const MOST_VOLUMES: usize = 256;
+
+pub enum OperationalAnswer {
+    Accepted(u64),
+    Refused(u8, Place),
+}
+
+// Volumes of any length, 16 numbers a territory, then gross components, guarantee requirement and ceded premiums.
+pub fn operational_call(volumes: &[u64], general: &[u64; 3]) -> OperationalAnswer
+    ensures { λ r. ⌜ stated r ≡ operationalCall (now (volumes .entry)) (now (general .entry)) ⌝ }
+{
+    let n = volumes.len();
+    if MOST_VOLUMES < n {
+        return OperationalAnswer::Refused(15, Place::Nowhere);
+    }
+    if n % 16 != 0 {
+        return OperationalAnswer::Refused(15, Place::Nowhere);
+    }
+    let above = amount::first_above(volumes);
+    if above < n {
+        return OperationalAnswer::Refused(7, Place::Position(above));
+    }
+    let after = amount::first_above(general);
+    if after < 3 {
+        return OperationalAnswer::Refused(7, Place::Position(n + after));
+    }
+    OperationalAnswer::Accepted(operational(volumes, general))
+}
+
+// The sum over 50,000 just fits a word: for 16 territories it is below 1.67 × 10^19.
+fn operational(volumes: &[u64], general: &[u64; 3]) -> u64
+    requires { ⌜ Amounts (now volumes) (now general) ⌝ }
+    ensures { λ r. ⌜ r ≡ RO (now (volumes .entry)) (now (general .entry)) ⌝ }
+{
+    rounded_up(business(volumes) + 5 * general_requirement(general))
+}
+
+// Over 10,000.
+fn general_requirement(figures: &[u64; 3]) -> u64
+    requires { ⌜ (getD (now figures) 0 0 ≤ limit) × (getD (now figures) 1 0 ≤ limit) × (getD (now figures) 2 0 ≤ limit) ⌝ }
+    ensures { λ r. ⌜ r ≡ general (now (figures .entry)) ⌝ }
+{
+    575 * figures[0] + 450 * figures[1] + 250 * figures[2]
+}
+
+// Volume and growth of all classes of all territories, over 50,000.
+fn business(volumes: &[u64]) -> u64
+    requires { ⌜ length (now volumes) ≤ 256 ⌝ }
+    requires { ⌜ ((k : ℕ) → getD (now volumes) k 0 ≤ limit) ⌝ }
+    ensures { λ r. ⌜ r ≡ 5 * volume (now (volumes .entry)) + growth (now (volumes .entry)) ⌝ }
+{
+    let n = volumes.len() / 2;
+    let mut sum = 0u64;
+    let mut k = 0usize;
+    while k < n {
+        sum += charge(
+            guideline::volume_factor(k % 8),
+            volumes[2 * k],
+            volumes[2 * k + 1],
+        );
+        k += 1;
+    }
+    sum
+}
+
+// A class in a territory, over 50,000. The excess over 120 % of the prior volume is in fifths, so that none is lost.
+fn charge(factor: u64, current: u64, prior: u64) -> u64
+    requires { ⌜ (factor ≤ 250) × (current ≤ limit) × (prior ≤ limit) ⌝ }
+    ensures { λ r. ⌜ r ≡ factor * (5 * current + (5 * current - 6 * prior)) ⌝ }
+{
+    factor * (5 * current + amount::excess(5 * current, 6 * prior))
+}
+
+fn rounded_up(top: u64) -> u64
+    requires { ⌜ top < 18000000000000000000 ⌝ }
+    ensures { λ r. ⌜ r ≡ least (λ x. leb top (50000 * x)) ⌝ }
+{
+    (top + 49999) / 50000
+}
