@@ -1,0 +1,4 @@
+pub mod Running
+pub mod Radicands
+pub mod Numerator
+pub mod Rules

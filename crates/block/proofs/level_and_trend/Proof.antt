@@ -1,0 +1,16 @@
+-- `block::level_and_trend` meets its contract. Assumes nothing.
+use borrow.Author.Needs.{needs}
+use Rattle.guideline.specs.Block.{LT}
+use Rattle.block.proofs.level_and_trend.Statement.{statement}
+use Rattle.block.proofs.level_and_trend.Tie as tie
+
+returns : tie.Need-returns
+unfolding LT
+returns c = search needs
+
+pub level-and-trend-spec : {M : Type 1} → statement M
+level-and-trend-spec =
+    tie.close
+    (tie.spec
+    (λ c. search needs) (λ c. search needs) (λ c. search needs) (λ c. search needs) (λ c. search needs) (λ c. search needs) (λ c. search needs) (λ c.
+    search needs) (λ c. search needs) (λ c. search needs) (λ c. search needs) (λ c. search needs) (λ c. search needs) returns)

@@ -1,0 +1,2 @@
+pub mod Calibrated
+pub mod Refuted

@@ -1,0 +1,91 @@
+-- Document 01's calibration points: the rows marked †, one table. Cents; I and D in half cents. A row has the outcome that the
+-- call's contract equates its answer with, and the figures that the paper's row gives, no others.
+-- Assumes nothing.
+use mathlib.Core.Bool.{Bool, true, false, _&&_}
+use mathlib.Core.List.{List, [], _∷_}
+use Prim.Native.Nat.{ℕ, suc}
+use lib.Dec.{eqb}
+use lib.ListN.{getD}
+use Rattle.refusal.specs.Outcome.{Outcome}
+use Rattle.refusal.specs.Outcome.Outcome.{accepted, refused}
+use Rattle.block.specs.Call.{blockCall}
+use Rattle.operational.specs.Call.{operationalCall}
+
+-- a figure and its place among the call's values
+pub record Figure : Type 0 where
+  pub place : ℕ
+  pub figure : ℕ
+
+abbrev I : ℕ → Figure
+I n = record { place = 0; figure = n }
+
+abbrev D : ℕ → Figure
+D n = record { place = 1; figure = n }
+
+abbrev U : ℕ → Figure
+U n = record { place = 2; figure = n }
+
+abbrev LT : ℕ → Figure
+LT n = record { place = 3; figure = n }
+
+abbrev K : ℕ → Figure
+K n = record { place = 4; figure = n }
+
+abbrev RO : ℕ → Figure
+RO n = record { place = 0; figure = n }
+
+pub record Row : Type 0 where
+  pub outcome : Outcome
+  pub figures : List Figure
+
+-- the call accepts, and gives each figure of the row
+unfoldable pub gives : Outcome → List Figure → Bool
+gives (refused n p) fs = false
+gives (accepted vs) [] = true
+gives (accepted vs) (f ∷ fs) = eqb (getD vs (f .place) (suc (f .figure))) (f .figure) && gives (accepted vs) fs
+
+unfoldable pub allGiven : List Row → Bool
+allGiven [] = true
+allGiven (r ∷ rs) = gives (r .outcome) (r .figures) && allGiven rs
+
+-- the volumes of one territory: its first class, and its seventh
+abbrev first : ℕ → ℕ → List ℕ
+first current prior = current ∷ prior ∷ 0 ∷ 0 ∷ 0 ∷ 0 ∷ 0 ∷ 0 ∷ 0 ∷ 0 ∷ 0 ∷ 0 ∷ 0 ∷ 0 ∷ 0 ∷ 0 ∷ []
+
+abbrev seventh : ℕ → ℕ → List ℕ
+seventh current prior = 0 ∷ 0 ∷ 0 ∷ 0 ∷ 0 ∷ 0 ∷ 0 ∷ 0 ∷ 0 ∷ 0 ∷ 0 ∷ 0 ∷ current ∷ prior ∷ 0 ∷ 0 ∷ []
+
+abbrev nothing : List ℕ
+nothing = 0 ∷ 0 ∷ 0 ∷ []
+
+-- a block of its 17 numbers, risks 1 to 7, then PC, credit and market
+abbrev pub points : List Row
+points =
+    -- the example of document 000
+    record {
+      outcome = blockCall (100000000 ∷ 70000000 ∷ 300000 ∷ 300000 ∷ 5000000 ∷ 1000000 ∷ 250000 ∷ 100000 ∷ 30000000 ∷ 15000000 ∷ 10000000 ∷ 4000000 ∷ 1000000 ∷ 0 ∷ 2500000 ∷ 20000000 ∷ 7500000 ∷ []);
+      figures = I 157884172 ∷ D 191405437 ∷ U 176550000 ∷ LT 90400000 ∷ K 151765333 ∷ [];
+    }
+    -- all zeros
+    ∷ record { outcome = blockCall (0 ∷ 0 ∷ 0 ∷ 0 ∷ 0 ∷ 0 ∷ 0 ∷ 0 ∷ 0 ∷ 0 ∷ 0 ∷ 0 ∷ 0 ∷ 0 ∷ 0 ∷ 0 ∷ 0 ∷ []); figures = I 0 ∷ D 0 ∷ U 0 ∷ LT 0 ∷ K 0 ∷ [] }
+    -- IR(1) 100
+    ∷ record { outcome = blockCall (100 ∷ 0 ∷ 0 ∷ 0 ∷ 0 ∷ 0 ∷ 0 ∷ 0 ∷ 0 ∷ 0 ∷ 0 ∷ 0 ∷ 0 ∷ 0 ∷ 0 ∷ 0 ∷ 0 ∷ []); figures = I 200 ∷ D 200 ∷ K 100 ∷ [] }
+    -- IR(1) 100, LT(1) 100
+    ∷ record { outcome = blockCall (100 ∷ 100 ∷ 0 ∷ 0 ∷ 0 ∷ 0 ∷ 0 ∷ 0 ∷ 0 ∷ 0 ∷ 0 ∷ 0 ∷ 0 ∷ 0 ∷ 0 ∷ 0 ∷ 0 ∷ []); figures = I 100 ∷ D 100 ∷ K 100 ∷ [] }
+    -- IR(1) 1, LT(1) 1
+    ∷ record { outcome = blockCall (1 ∷ 1 ∷ 0 ∷ 0 ∷ 0 ∷ 0 ∷ 0 ∷ 0 ∷ 0 ∷ 0 ∷ 0 ∷ 0 ∷ 0 ∷ 0 ∷ 0 ∷ 0 ∷ 0 ∷ []); figures = I 1 ∷ D 1 ∷ K 1 ∷ [] }
+    -- IR(5) 100, IR(6) 100
+    ∷ record { outcome = blockCall (0 ∷ 0 ∷ 0 ∷ 0 ∷ 0 ∷ 0 ∷ 0 ∷ 0 ∷ 100 ∷ 0 ∷ 100 ∷ 0 ∷ 0 ∷ 0 ∷ 0 ∷ 0 ∷ 0 ∷ []); figures = I 200 ∷ D 200 ∷ K 160 ∷ [] }
+    -- IR(1) 100, IR(2) 100
+    ∷ record { outcome = blockCall (100 ∷ 0 ∷ 100 ∷ 0 ∷ 0 ∷ 0 ∷ 0 ∷ 0 ∷ 0 ∷ 0 ∷ 0 ∷ 0 ∷ 0 ∷ 0 ∷ 0 ∷ 0 ∷ 0 ∷ []); figures = I 245 ∷ K 160 ∷ [] }
+    -- IR(1) 100, credit 100
+    ∷ record { outcome = blockCall (100 ∷ 0 ∷ 0 ∷ 0 ∷ 0 ∷ 0 ∷ 0 ∷ 0 ∷ 0 ∷ 0 ∷ 0 ∷ 0 ∷ 0 ∷ 0 ∷ 0 ∷ 100 ∷ 0 ∷ []); figures = D 347 ∷ K 178 ∷ [] }
+    -- VOL class 1: 15000, 10000
+    ∷ record { outcome = operationalCall (first 15000 10000) nothing; figures = RO 450 ∷ [] }
+    -- VOL class 1: 12000, 10000
+    ∷ record { outcome = operationalCall (first 12000 10000) nothing; figures = RO 300 ∷ [] }
+    -- VOL class 1: 22500, 15000
+    ∷ record { outcome = operationalCall (first 22500 15000) nothing; figures = RO 675 ∷ [] }
+    -- VOL class 7: 1, 1
+    ∷ record { outcome = operationalCall (seventh 1 1) nothing; figures = RO 1 ∷ [] }
+    ∷ []

@@ -1,0 +1,264 @@
+// Runs the block call and the operational call on figures that others printed, and on bad input. What it writes is compared with the
+// file stdout beside src/: document 000's and 003's figures as they stand there, and the answers that document 01's table names.
+use block::BlockAnswer;
+use libc::STDOUT_FILENO;
+use operational::OperationalAnswer;
+use refusal::Place;
+
+const MOST: u64 = 18446744073709551615;
+
+fn main() {
+    printed_example();
+    points();
+    bad_blocks();
+    printed_volumes();
+    bad_volumes();
+}
+
+fn say(text: &[u8]) {
+    io::write_all(STDOUT_FILENO, text);
+}
+
+fn number(n: u64) {
+    say(b" ");
+    io::print_decimal(STDOUT_FILENO, n);
+}
+
+fn wide(n: usize) -> u64 {
+    n as u64
+}
+
+fn rule(n: u8) -> u64 {
+    n as u64
+}
+
+fn refused(n: u8, p: Place) {
+    say(b"refused");
+    number(rule(n));
+    match p {
+        Place::Line(at) => {
+            say(b" line");
+            number(wide(at));
+        }
+        Place::Position(at) => {
+            say(b" position");
+            number(wide(at));
+        }
+        Place::Nowhere => {}
+    }
+    say(b"\n");
+}
+
+fn block_row(b: &[u64; 17]) {
+    let answer = block::block_call(b);
+    match answer {
+        BlockAnswer::Accepted(f) => {
+            say(b"I, D, U, LT, K:");
+            number(f.i);
+            number(f.d);
+            number(f.u);
+            number(f.lt);
+            number(f.k);
+            say(b"\n");
+        }
+        BlockAnswer::Refused(n, p) => {
+            refused(n, p);
+        }
+    }
+}
+
+fn operational_row(volumes: &[u64], general: &[u64; 3]) {
+    let answer = operational::operational_call(volumes, general);
+    match answer {
+        OperationalAnswer::Accepted(ro) => {
+            say(b"RO:");
+            number(ro);
+            say(b"\n");
+        }
+        OperationalAnswer::Refused(n, p) => {
+            refused(n, p);
+        }
+    }
+}
+
+// Half cents in whole dollars, rounded to the nearest.
+fn dollars(half_cents: u64) -> u64 {
+    half_cents / 200 + (half_cents % 200 + 100) / 200
+}
+
+// The example of document 000, section 11.2.4: each figure that it prints, in dollars, in its order.
+fn printed_example() {
+    let b = example();
+    let answer = block::block_call(&b);
+    let BlockAnswer::Accepted(f) = answer else {
+        return;
+    };
+    say(b"document 000\n");
+    let y1 = half_cents(b[0], b[1]);
+    number(dollars(y1));
+    number(dollars(half_cents(b[2], b[3])));
+    number(dollars(half_cents(b[4], b[5])));
+    number(dollars(half_cents(b[6], b[7])));
+    number(dollars(half_cents(b[8], b[9])));
+    number(dollars(half_cents(b[10], b[11])));
+    number(dollars(half_cents(b[12], b[13])));
+    let two = plus(b[0], b[2]);
+    let four = plus(two, plus(b[4], b[6]));
+    let components = plus(four, plus(b[8], plus(b[10], b[12])));
+    say(b"\ntotals");
+    number(dollars(plus(components, components)));
+    number(dollars(plus(f.lt, f.lt)));
+    let pc = plus(b[14], b[14]);
+    let a = plus(b[15], b[16]);
+    say(b"\nI");
+    number(dollars(amount::excess(f.i, pc)));
+    number(dollars(f.i));
+    // mortality is the largest of the seven
+    number(dollars(plus(y1, pc)));
+    say(b"\nA, D, U, K");
+    number(dollars(plus(a, a)));
+    number(dollars(f.d));
+    number(dollars(plus(f.u, f.u)));
+    number(dollars(plus(f.k, f.k)));
+    say(b"\n");
+}
+
+// 2 × IR − LT.
+fn half_cents(ir: u64, lt: u64) -> u64 {
+    amount::excess(plus(ir, ir), lt)
+}
+
+// The sum, or nothing where it does not fit.
+fn plus(x: u64, y: u64) -> u64 {
+    if y <= MOST - x { x + y } else { 0 }
+}
+
+fn example() -> [u64; 17] {
+    [
+        100000000,
+        70000000,
+        300000,
+        300000,
+        5000000,
+        1000000,
+        250000,
+        100000,
+        30000000,
+        15000000,
+        10000000,
+        4000000,
+        1000000,
+        0,
+        2500000,
+        20000000,
+        7500000,
+    ]
+}
+
+// Document 01's rows for a block.
+fn points() {
+    say(b"document 01\n");
+    block_row(&example());
+    let mut b = [0u64; 17];
+    block_row(&b);
+    b[0] = 100;
+    block_row(&b);
+    b[1] = 100;
+    block_row(&b);
+    b[0] = 1;
+    b[1] = 1;
+    block_row(&b);
+    b[0] = 100;
+    b[1] = 0;
+    b[2] = 100;
+    block_row(&b);
+    b[2] = 0;
+    b[15] = 100;
+    block_row(&b);
+    let mut c = [0u64; 17];
+    c[8] = 100;
+    c[10] = 100;
+    block_row(&c);
+    let mut d = [0u64; 17];
+    d[0] = 3000;
+    d[1] = 3001;
+    block_row(&d);
+}
+
+// Each position above the limit, alone.
+fn each_above() {
+    let mut at = 0usize;
+    while at < 17 {
+        let mut b = example();
+        b[at] = MOST;
+        block_row(&b);
+        at += 1;
+    }
+}
+
+// And two faults at once.
+fn bad_blocks() {
+    say(b"bad blocks\n");
+    each_above();
+    let mut b = example();
+    b[0] = 99999999999999;
+    block_row(&b);
+    b[0] = 100000000000000;
+    block_row(&b);
+    // 8 before 9, though 9 stands earlier
+    let mut c = example();
+    c[1] = 100000001;
+    c[13] = 1;
+    block_row(&c);
+    // 7 before 8 and 9, though it stands last
+    c[16] = MOST;
+    block_row(&c);
+    // LT(7) above IR(7) is 8
+    let mut d = example();
+    d[13] = 1000001;
+    block_row(&d);
+    // the first of two
+    let mut e = example();
+    e[5] = 5000001;
+    e[9] = 30000001;
+    block_row(&e);
+}
+
+// Document 003's examples, scaled by 1,000: 8.2.2, growth and acquisition.
+fn printed_volumes() {
+    say(b"document 003\n");
+    let none = [0u64; 3];
+    let mut v = [0u64; 16];
+    v[0] = 150000;
+    v[1] = 100000;
+    operational_row(&v, &none);
+    v[0] = 225000;
+    v[1] = 150000;
+    operational_row(&v, &none);
+    v[0] = 0;
+    v[1] = 0;
+    operational_row(&v, &[200000000, 0, 0]);
+    operational_row(&v, &[0, 100, 100]);
+}
+
+// Lengths, and a bad amount in either list.
+fn bad_volumes() {
+    say(b"bad volumes\n");
+    let none = [0u64; 3];
+    operational_row(&[0u64; 0], &none);
+    operational_row(&[0u64; 1], &none);
+    operational_row(&[0u64; 15], &none);
+    operational_row(&[0u64; 16], &none);
+    operational_row(&[0u64; 17], &none);
+    operational_row(&[0u64; 256], &none);
+    operational_row(&[0u64; 257], &none);
+    operational_row(&[0u64; 272], &none);
+    operational_row(&[99999999999999u64; 256], &[99999999999999; 3]);
+    operational_row(&[0u64; 16], &[0, 0, MOST]);
+    operational_row(&[0u64; 0], &[0, 100000000000000, MOST]);
+    let mut v = [0u64; 16];
+    v[7] = MOST;
+    operational_row(&v, &[MOST, 0, 0]);
+    operational_row(&[MOST; 17], &[MOST, 0, 0]);
+    operational_row(&[MOST; 16], &none);
+}
