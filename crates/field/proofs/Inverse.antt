@@ -1,0 +1,191 @@
+-- Reading and writing a field undo each other, over every width; a field's number has no more digits than the field has
+-- columns. Assumes nothing.
+use mathlib.Core.Path.{_≡_, refl, sym, ap, _∙_}
+use mathlib.Core.Logic.{_⊎_, inl, inr}
+use mathlib.Core.List.{List, [], _∷_, _++_, append-nil}
+use Prim.Native.Nat.{ℕ, zero, suc, _+_, _-_, _*_, _/_, _%_, _^_, _≤_, _<_}
+use native.Mathlib.Nat.{pow-le-pow-right, add-zero, zero-add, lt-of-lt-of-le, one-le-pow}
+use native.Mathlib.Decide.{decLe, ℕ-discrete}
+use native.Mathlib.Omega.{arith}
+use lib.ListN.{length}
+use lib.Seq.{append-snoc}
+use Rattle.search.proofs.Picks.{if-true, if-false, if-eq, if-ne, if-lt, if-ge}
+use Rattle.field.specs.Field.{field, digits, alone, glyph, before, column}
+use Rattle.field.specs.declared.Field.{Field}
+use Rattle.field.specs.declared.Field.the-variants.{Value, Bad}
+use Rattle.field.proofs.Reading.{grows}
+
+-- ---- a digit, and what no digit is
+
+bad-value : {A : Type 0} {F : Field} {r : ℕ} → F ≡ Bad → F ≡ Value r → A
+bad-value p q = let z : _≡_ {A = ℕ} 0 1 = cc in absurd (let y : ⊥ = omega arith in y)
+
+same-value : {F : Field} {a b : ℕ} → F ≡ Value a → F ≡ Value b → a ≡ b
+same-value p q = cc
+
+digit-read : (u b : ℕ) (t : List ℕ) → 48 ≤ b → b ≤ 57 → digits u (b ∷ t) ≡ digits (10 * u + (b - 48)) t
+unfolding digits
+digit-read u b t l h = if-ge _ l ∙ if-ge _ h
+
+-- where digits spell a number, the first of them is a digit and the rest spell it on
+record Spelled (u b : ℕ) (t : List ℕ) (r : ℕ) : Type 0 where
+  low : 48 ≤ b
+  high : b ≤ 57
+  rest : digits (10 * u + (b - 48)) t ≡ Value r
+
+order : (a b : ℕ) → (a < b) ⊎ (b ≤ a)
+order a b = elim (decLe b a) [ yes h ↦ inr h | no h ↦ inl (omega arith) ]
+
+spelled : (u b : ℕ) (t : List ℕ) (r : ℕ) → digits u (b ∷ t) ≡ Value r → Spelled u b t r
+unfolding digits
+spelled u b t r q =
+    elim (order b 48) [
+      | inl l ↦ bad-value (if-lt _ l) q
+      | inr l ↦ elim (order 57 b) [
+        | inl h ↦ bad-value (if-ge _ l ∙ if-lt _ h) q
+        | inr h ↦ record { low = l; high = h; rest = sym (digit-read u b t l h) ∙ q }
+      ]
+    ]
+
+-- ---- a field's number has no more digits than the field has columns
+
+digits-bound : (s : List ℕ) (u m r : ℕ) → u < 10 ^ m → digits u s ≡ Value r → r < 10 ^ (m + length s)
+unfolding digits
+digits-bound [] u m r h q = rw (← same-value refl q, add-zero) h
+digits-bound (b ∷ bs) u m r h q =
+    let p = spelled u b bs r q in
+    let e : m + 1 + length bs ≡ m + suc (length bs) = omega arith in
+    rw e at (digits-bound bs (10 * u + (b - 48)) (m + 1) r (grows u m b h (p .high)) (p .rest))
+
+alone-zero : (bs : List ℕ) (r : ℕ) → alone bs ≡ Value r → r ≡ 0
+alone-zero [] r q = same-value q refl
+alone-zero (b ∷ bs) r q = bad-value refl q
+
+pub field-bound : (s : List ℕ) (r : ℕ) → field s ≡ Value r → r < 10 ^ length s
+unfolding field
+field-bound [] r q = bad-value refl q
+field-bound (b ∷ bs) r q =
+    elim (ℕ-discrete b 32) [
+      | yes x ↦ lt-of-lt-of-le (field-bound bs r (sym (if-eq _ x) ∙ q)) (pow-le-pow-right (omega arith) (omega arith))
+      | no x ↦ elim (ℕ-discrete b 48) [
+        | yes y ↦ rw (alone-zero bs r (sym (if-ne _ x ∙ if-eq _ y) ∙ q)) (one-le-pow (suc (length bs)) 10 (omega arith))
+        | no y ↦
+            let z : 0 < 10 ^ 0 = omega arith in
+            rw zero-add at (digits-bound (b ∷ bs) 0 0 r z (sym (if-ne _ x ∙ if-ne _ y) ∙ q))
+      ]
+    ]
+
+-- ---- what is written is read back
+
+glyph-space : (v : ℕ) → v ≡ 0 → glyph v ≡ 32
+unfolding glyph
+glyph-space v e = if-eq _ e
+
+glyph-digit : (v : ℕ) → 0 < v → glyph v ≡ 48 + v % 10
+unfolding glyph
+glyph-digit v h = let n : v ≡ 0 → ⊥ = λ e. omega arith in if-ne _ n
+
+spaces-read : (w : ℕ) (t : List ℕ) → field (before w 0 ++ t) ≡ field t
+unfolding field before
+spaces-read zero t = refl
+spaces-read (suc w) t = rw (glyph-space 0 refl, append-snoc (before w 0) 32 t) (spaces-read w (32 ∷ t) ∙ if-true _ refl)
+
+first-read : (v : ℕ) (t : List ℕ) → 0 < v → v / 10 ≡ 0 → field ((48 + v % 10) ∷ t) ≡ digits v t
+unfolding field
+first-read v t h z =
+    let x : 48 + v % 10 ≡ 32 → ⊥ = λ e. omega arith in
+    let y : 48 + v % 10 ≡ 48 → ⊥ = λ e. omega arith in
+    let e : 10 * 0 + (48 + v % 10 - 48) ≡ v = omega arith in
+    if-ne _ x ∙ if-ne _ y ∙ digit-read 0 (48 + v % 10) t (omega arith) (omega arith) ∙ ap (λ (n : ℕ). digits n t) e
+
+next-read : (v : ℕ) (t : List ℕ) → digits (v / 10) ((48 + v % 10) ∷ t) ≡ digits v t
+next-read v t =
+    let e : 10 * (v / 10) + (48 + v % 10 - 48) ≡ v = omega arith in
+    digit-read (v / 10) (48 + v % 10) t (omega arith) (omega arith) ∙ ap (λ (n : ℕ). digits n t) e
+
+-- a number's digits are read off the columns that end in them
+number-read : (w v : ℕ) (t : List ℕ) → 0 < v → v / 10 < 10 ^ w → field (before w (v / 10) ++ ((48 + v % 10) ∷ t)) ≡ digits v t
+unfolding before
+number-read zero v t h b = first-read v t h (omega arith)
+number-read (suc w) v t h b =
+    elim (ℕ-discrete (v / 10) 0) [
+      | yes z ↦ rw z (spaces-read (suc w) ((48 + v % 10) ∷ t)) ∙ first-read v t h z
+      | no z ↦
+          let p : 0 < v / 10 = omega arith in
+          rw (glyph-digit (v / 10) p, append-snoc (before w (v / 10 / 10)) (48 + v / 10 % 10) ((48 + v % 10) ∷ t))
+          (number-read w (v / 10) ((48 + v % 10) ∷ t) p (omega arith)) ∙ next-read v t
+    ]
+
+pub read-back : (w v : ℕ) → 0 < w → v < 10 ^ w → field (column w v) ≡ Value v
+unfolding column digits field
+read-back zero v h b = absurd (omega arith)
+read-back (suc w) v h b =
+    elim (ℕ-discrete v 0) [
+      | yes z ↦ rw z (spaces-read w (48 ∷ []) ∙ if-false _ refl ∙ if-true _ refl)
+      | no z ↦ number-read w v [] (omega arith) (omega arith)
+    ]
+
+-- ---- what is read is written back
+
+space-before : (n v : ℕ) → v < 10 ^ n → before (suc n) v ≡ 32 ∷ before n v
+unfolding before
+space-before zero v h = rw (glyph-space v (omega arith))
+space-before (suc n) v h = ap (λ (l : List ℕ). l ++ (glyph v ∷ [])) (space-before n (v / 10) (omega arith))
+
+space-column : (n v : ℕ) → 0 < n → v < 10 ^ n → column (suc n) v ≡ 32 ∷ column n v
+unfolding column
+space-column zero v p h = absurd (omega arith)
+space-column (suc n) v p h = ap (λ (l : List ℕ). l ++ ((48 + v % 10) ∷ [])) (space-before n (v / 10) (omega arith))
+
+before-column : (n v : ℕ) → 0 < v → before n v ≡ column n v
+unfolding before column
+before-column zero v h = refl
+before-column (suc n) v h = rw (glyph-digit v h)
+
+-- a digit moves from what is left to read to what was written
+moved : (m u b : ℕ) (t : List ℕ) → 0 < 10 * u + (b - 48) → 48 ≤ b → b ≤ 57 → before m u ++ (b ∷ t) ≡ before (suc m) (10 * u + (b - 48)) ++ t
+unfolding before
+moved m u b t p l h =
+    let d : (10 * u + (b - 48)) / 10 ≡ u = omega arith in
+    let e : 48 + (10 * u + (b - 48)) % 10 ≡ b = omega arith in
+    rw (glyph-digit (10 * u + (b - 48)) p, d, e) (sym (append-snoc (before m u) b t))
+
+spelled-written : (s : List ℕ) (m u r : ℕ) → 0 < u → digits u s ≡ Value r → before m u ++ s ≡ column (m + length s) r
+unfolding digits
+spelled-written [] m u r h q = rw (append-nil, add-zero, ← same-value refl q) (before-column m u h)
+spelled-written (b ∷ bs) m u r h q =
+    let p = spelled u b bs r q in
+    let e : suc m + length bs ≡ m + suc (length bs) = omega arith in
+    moved m u b bs (omega arith) (p .low) (p .high) ∙ spelled-written bs (suc m) (10 * u + (b - 48)) r (omega arith) (p .rest) ∙ ap (λ (n : ℕ). column n r) e
+
+digits-written : (b : ℕ) (bs : List ℕ) (r : ℕ) → (b ≡ 48 → ⊥) → digits 0 (b ∷ bs) ≡ Value r → b ∷ bs ≡ column (suc (length bs)) r
+unfolding before
+digits-written b bs r n q =
+    let p = spelled 0 b bs r q in
+    let e : 1 + length bs ≡ suc (length bs) = omega arith in
+    let h : 0 < 10 * 0 + (b - 48) = omega arith in
+    moved 0 0 b bs h (p .low) (p .high) ∙ spelled-written bs 1 (10 * 0 + (b - 48)) r h (p .rest) ∙ ap (λ (n : ℕ). column n r) e
+
+alone-written : (bs : List ℕ) (r : ℕ) → alone bs ≡ Value r → 48 ∷ bs ≡ column (suc (length bs)) r
+unfolding column before
+alone-written [] r q = rw (← same-value refl q)
+alone-written (b ∷ bs) r q = bad-value refl q
+
+some-column : (s : List ℕ) (r : ℕ) → field s ≡ Value r → 0 < length s
+unfolding field
+some-column [] r q = bad-value refl q
+some-column (b ∷ bs) r q = omega arith
+
+pub written-back : (s : List ℕ) (r : ℕ) → field s ≡ Value r → s ≡ column (length s) r
+unfolding field
+written-back [] r q = bad-value refl q
+written-back (b ∷ bs) r q =
+    elim (ℕ-discrete b 32) [
+      | yes x ↦
+          let p : field bs ≡ Value r = sym (if-eq _ x) ∙ q in
+          rw x (ap (λ (l : List ℕ). 32 ∷ l) (written-back bs r p) ∙ sym (space-column (length bs) r (some-column bs r p) (field-bound bs r p)))
+      | no x ↦ elim (ℕ-discrete b 48) [
+        | yes y ↦ rw y (alone-written bs r (sym (if-ne _ x ∙ if-eq _ y) ∙ q))
+        | no y ↦ digits-written b bs r y (sym (if-ne _ x ∙ if-ne _ y) ∙ q)
+      ]
+    ]

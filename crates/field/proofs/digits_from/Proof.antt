@@ -1,0 +1,52 @@
+use mathlib.Core.Path.{_≡_, refl, sym, _∙_}
+use Prim.Native.Nat.{_≤_, _<_, _-_, _^_}
+use native.Mathlib.Omega.{arith}
+use native.Mathlib.Nat.{one-le-pow}
+use borrow.Author.Needs.{needs}
+use lib.ListN.{length, drop}
+use Rattle.field.specs.Field.{digits}
+use Rattle.field.proofs.Reading.{digits-low, digits-high, digits-more, digits-end, grows, narrow}
+use Rattle.field.proofs.digits_from.Statement.{statement}
+use Rattle.field.proofs.digits_from.Tie as tie
+
+abbrev Inv-loop : tie.InvT-loop
+Inv-loop s from v₀ i₀ v i = (i ≤ length s) × ((v < 10 ^ i) × (digits v (drop i s) ≡ digits 0 (drop from s)))
+
+abbrev μ-loop : tie.MeasureT-loop
+μ-loop s from v₀ i₀ v i = length s - i
+
+loop-holds : tie.Need-loop-holds Inv-loop μ-loop
+loop-holds c = (search needs, (one-le-pow (c .before .args .from) 10 (omega arith), refl))
+
+returns : tie.Need-returns Inv-loop μ-loop
+returns c = sym (digits-low _ _ (c .before .before .loop-test .taken) _ (c .if1 .taken)) ∙ c .before .before .before .loop .inv .1 .1
+
+returns-2 : tie.Need-returns-2 Inv-loop μ-loop
+returns-2 c = sym (digits-high _ _ (c .before .before .before .loop-test .taken) _ (c .before .if1 .left) (c .if2 .taken)) ∙ c .before .before .before .before .loop .inv .1 .1
+
+mul-v : tie.Need-mul-v Inv-loop μ-loop
+mul-v c = omega (arith, narrow (c .before .before .before .before .loop .i) (omega arith))
+
+add-v : tie.Need-add-v Inv-loop μ-loop
+add-v c = omega (arith, narrow (c .before .before .before .before .before .loop .i) (omega arith))
+
+loop-again : tie.Need-loop-again Inv-loop μ-loop
+loop-again c =
+    let l = c .before .before .before .before .before .loop in
+    let d = c .before .if2 .left in (
+      search needs,
+      (
+        rw (c .wide .ensures) (grows _ _ _ (l .inv .1 .0) d),
+        rw (c .wide .ensures) (sym (digits-more _ _ (c .before .before .before .before .loop-test .taken) _ (c .before .before .if1 .left) d) ∙ l .inv .1 .1),
+      ),
+    )
+
+returns-3 : tie.Need-returns-3 Inv-loop μ-loop
+returns-3 c = sym (digits-end _ _ (c .loop-test .left) _) ∙ c .before .loop .inv .1 .1
+
+pub digits-from-spec : {M : Type 1} → statement M
+digits-from-spec =
+    tie.close
+    (tie.spec
+    Inv-loop μ-loop loop-holds (λ c. search needs) returns returns-2 mul-v (λ c κs. search needs) (λ c. search needs) add-v (λ c. search needs) (λ c.
+    search needs) loop-again returns-3)

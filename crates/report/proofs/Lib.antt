@@ -1,0 +1,4 @@
+pub mod Listed
+pub mod Filled
+pub mod Stretches
+pub mod ReadBack

@@ -1,0 +1,139 @@
+-- The numbers of a report that is made of lines are read back off it. Assumes nothing.
+use mathlib.Core.Path.{_≡_, refl, sym, _∙_}
+use mathlib.Core.Bool.{Bool, true, false}
+use mathlib.Core.List.{List, [], _∷_, _++_, append-assoc, List-discrete}
+use Prim.Native.Nat.{ℕ, suc, _+_, _*_, _/_, _^_, _<_}
+use native.Mathlib.Decide.{ℕ-discrete}
+use native.Mathlib.Omega.{arith}
+use lib.Dec.{eqb}
+use borrow.Author.Tests.{eq-eqb, ne-eqb}
+use lib.ListN.{length, take, drop, length-append}
+use Rattle.search.specs.Pick.{pick}
+use Rattle.search.proofs.Picks.{if-true, if-false, if-eq, if-ne}
+use Rattle.field.specs.Field.{field, before, column}
+use Rattle.field.specs.declared.Field.{Field}
+use Rattle.field.specs.declared.Field.the-variants.{Value}
+use Rattle.field.proofs.Writing.{length-column}
+use Rattle.field.proofs.Inverse.{read-back}
+use Rattle.report.specs.Line.{key, reportLine, Row, lineOf, linesOf, same, numberIn, numberAt}
+use Rattle.report.proofs.Listed.{listed, is-listed}
+
+abbrev keyOf : Row → List ℕ
+keyOf r = key (r .code) (r .block) (r .item)
+
+-- a row that a line has the columns for
+pub record Printable (r : Row) : Type 0 where
+  pub code : length (r .code) ≡ 3
+  pub block : r .block < 100
+  pub item : r .item < 100
+  pub number : r .number < 10 ^ 18
+
+-- ---- what stands in the columns of a line
+
+pub length-line : (code : List ℕ) (block item number : ℕ) → length code ≡ 3 → length (reportLine code block item number) ≡ 29
+unfolding reportLine key
+length-line code block item number h = simp (length-append, length-column, h)
+
+module _ (r : Row) (p : Printable r) where
+  line-key : (rest : List ℕ) → take 9 (lineOf r ++ rest) ≡ keyOf r
+  unfolding listed column before reportLine key
+  line-key rest = rw (is-listed 3 (r .code) (p .code))
+
+  line-number : (rest : List ℕ) → take 18 (drop 10 (lineOf r ++ rest)) ≡ column 18 (r .number)
+  unfolding listed column before reportLine key
+  line-number rest = rw (is-listed 3 (r .code) (p .code))
+
+  line-rest : (rest : List ℕ) → drop 29 (lineOf r ++ rest) ≡ rest
+  unfolding listed column before reportLine key
+  line-rest rest = rw (is-listed 3 (r .code) (p .code))
+
+  key-code : take 3 (keyOf r) ≡ r .code
+  unfolding listed column before key
+  key-code = rw (is-listed 3 (r .code) (p .code))
+
+  key-block : field (take 2 (drop 4 (keyOf r))) ≡ Value (r .block)
+  unfolding listed column before key
+  key-block = rw (is-listed 3 (r .code) (p .code)) (read-back 2 (r .block) (omega arith) (p .block))
+
+  key-item : field (take 2 (drop 7 (keyOf r))) ≡ Value (r .item)
+  unfolding listed column before key
+  key-item = rw (is-listed 3 (r .code) (p .code)) (read-back 2 (r .item) (omega arith) (p .item))
+
+  -- a report that begins with a line: its number where its columns 1–9 are those looked for, else what the rest gives
+  step : (rest code : List ℕ) (block item : ℕ)
+      → numberAt (lineOf r ++ rest) code block item ≡ pick (same (keyOf r) (key code block item)) (field (column 18 (r .number))) (numberAt rest code block item)
+  unfolding numberAt numberIn
+  step rest code block item =
+      let n : length (lineOf r ++ rest) ≡ 29 + length rest = rw (length-append, length-line (r .code) (r .block) (r .item) (r .number) (p .code)) in
+      let e : length (lineOf r ++ rest) / 29 ≡ suc (length rest / 29) = omega arith in
+      rw (e, line-key rest, line-number rest, line-rest rest)
+
+-- ---- columns 1–9 are the same where code, block and item are
+
+same-bytes : (s : List ℕ) → same s s ≡ true
+unfolding same
+same-bytes [] = refl
+same-bytes (a ∷ s) = if-eq false {a = a} refl ∙ same-bytes s
+
+other-bytes : (s t : List ℕ) → (s ≡ t → ⊥) → same s t ≡ false
+unfolding same
+other-bytes [] [] n = absurd (n refl)
+other-bytes [] (b ∷ t) n = refl
+other-bytes (a ∷ s) [] n = refl
+other-bytes (a ∷ s) (b ∷ t) n =
+    elim (ℕ-discrete a b) [
+      | yes e ↦ if-eq _ e ∙ other-bytes s t (λ q. n (cc))
+      | no e ↦ if-ne _ e
+    ]
+
+-- the row has a code, a block and an item
+unfoldable pub rowIs : Row → List ℕ → ℕ → ℕ → Bool
+rowIs r code block item = pick (same (r .code) code) (pick (eqb (r .item) item) (eqb (r .block) block) false) false
+
+module _ (r s : Row) (p : Printable r) (q : Printable s) where
+  same-key : same (keyOf r) (keyOf s) ≡ rowIs r (s .code) (s .block) (s .item)
+  unfolding rowIs
+  same-key =
+      elim (List-discrete ℕ-discrete (r .code) (s .code)) [
+        | no n ↦ other-bytes (keyOf r) (keyOf s) (λ e. n (cc (key-code r p, key-code s q))) ∙ sym (if-false _ (other-bytes (r .code) (s .code) n))
+        | yes x ↦
+            let c : same (r .code) (s .code) ≡ true = rw x (same-bytes (s .code)) in
+            elim (ℕ-discrete (r .item) (s .item)) [
+              | no n ↦ other-bytes (keyOf r) (keyOf s) (λ e. n (cc (key-item r p, key-item s q))) ∙ sym (if-true _ c ∙ if-ne _ n)
+              | yes y ↦ elim (ℕ-discrete (r .block) (s .block)) [
+                | no n ↦ other-bytes (keyOf r) (keyOf s) (λ e. n (cc (key-block r p, key-block s q))) ∙ sym (if-true _ c ∙ if-eq _ y ∙ ne-eqb _ _ n)
+                | yes z ↦ rw (x, y, z) (same-bytes (keyOf s)) ∙ sym (if-true _ c ∙ if-eq _ y ∙ eq-eqb _ _ z)
+              ]
+            ]
+      ]
+
+-- ---- a list of rows
+
+abbrev pub AllPrintable : List Row → Type 0
+AllPrintable [] = Unit
+AllPrintable (r ∷ rs) = Printable r × AllPrintable rs
+
+-- the number of the first row that has a code, a block and an item; z where there is none
+unfoldable pub numberOf : List Row → List ℕ → ℕ → ℕ → Field → Field
+numberOf [] code block item z = z
+numberOf (r ∷ rs) code block item z = pick (rowIs r code block item) (Value (r .number)) (numberOf rs code block item z)
+
+-- a report of lines gives the numbers of its rows. s is what is looked for; its number plays no part.
+pub rows-read : (rs : List Row) (s : Row) (rest : List ℕ) → AllPrintable rs → Printable s
+    → numberAt (linesOf rs ++ rest) (s .code) (s .block) (s .item) ≡ numberOf rs (s .code) (s .block) (s .item) (numberAt rest (s .code) (s .block) (s .item))
+unfolding linesOf numberOf
+rows-read [] s rest p q = refl
+rows-read (r ∷ rs) s rest p q =
+    rw append-assoc
+    (step r (p .0) (linesOf rs ++ rest) (s .code) (s .block) (s .item)
+    ∙ rw (same-key r s (p .0) q, read-back 18 (r .number) (omega arith) (p .0 .number), rows-read rs s rest (p .1) q))
+
+pub lines-append : (rs ss : List Row) → linesOf (rs ++ ss) ≡ linesOf rs ++ linesOf ss
+unfolding linesOf
+lines-append [] ss = refl
+lines-append (r ∷ rs) ss = rw (lines-append rs ss, append-assoc)
+
+pub length-lines : (rs : List Row) → AllPrintable rs → length (linesOf rs) ≡ 29 * length rs
+unfolding linesOf
+length-lines [] p = refl
+length-lines (r ∷ rs) p = rw (length-append, length-line (r .code) (r .block) (r .item) (r .number) (p .0 .code), length-lines rs (p .1)) (omega arith)
