@@ -1,0 +1,5 @@
+pub mod Places
+pub mod Lines
+pub mod Numbers
+pub mod Marks
+pub mod Bounds

@@ -1,0 +1,114 @@
+-- The marks of a block's row: a search for one, and that for marks of entries one is found where the block exists. Assumes nothing.
+use mathlib.Core.Path.{_≡_, refl, sym, ap, _∙_}
+use mathlib.Core.Logic.{_⊎_, inl, inr}
+use mathlib.Core.List.{List, [], _∷_}
+use mathlib.Core.Bool.{Bool, true, false}
+use Prim.Native.Nat.{ℕ, zero, suc, _+_, _-_, _≤_, _<_}
+use native.Mathlib.Decide.{ℕ-discrete}
+use native.Mathlib.Omega.{arith}
+use lib.Dec.{eqb}
+use lib.ListN.{length, getD, set, replicate, getD-replicate}
+use lib.Seq.{getD-set-same, getD-set-other}
+use Rattle.search.specs.Pick.{pick}
+use Rattle.search.proofs.Picks.{if-true, if-false, if-eq, if-ne}
+use Rattle.lines.specs.Codes.{Key}
+use Rattle.lines.specs.declared.Code.{Code}
+use Rattle.lines.specs.declared.Code.the-variants.{Rsk, Oth, Vol, Gen}
+use Rattle.lines.specs.declared.Entry.{Entry}
+use Rattle.ledger.specs.Entries.{markOf, ofBlock, exists}
+use Rattle.ledger.specs.Tables.{places, placeOf, placeFor, table, anyMark, blockMarked}
+use Rattle.ledger.proofs.Places.{All, place-most, length-table}
+
+-- ---- a search of n places from `at` on, after i of them
+
+pub any-start : (m : List ℕ) {row at : ℕ} (n : ℕ) → row ≡ at → anyMark m (row + 0) (n - 0) ≡ anyMark m at n
+any-start m {row} {at} n q =
+    let e : row + 0 ≡ at = omega arith in
+    let d : n - 0 ≡ n = omega arith in
+    rw (e, d)
+
+module _ (m : List ℕ) (at n i : ℕ) where
+  pub any-found : i < n → (getD m (at + i) 0 ≡ 0 → ⊥) → anyMark m (at + i) (n - i) ≡ true
+  unfolding anyMark
+  any-found h q = let e : n - i ≡ suc (n - (i + 1)) = omega arith in rw e (if-ne _ q)
+
+  pub any-more : i < n → getD m (at + i) 0 ≡ 0 → anyMark m (at + (i + 1)) (n - (i + 1)) ≡ anyMark m (at + i) (n - i)
+  unfolding anyMark
+  any-more h q =
+      let e : n - i ≡ suc (n - (i + 1)) = omega arith in
+      let d : at + (i + 1) ≡ suc (at + i) = omega arith in
+      rw (e, d) (sym (if-eq _ q))
+
+  pub any-none : n ≤ i → anyMark m (at + i) (n - i) ≡ false
+  unfolding anyMark
+  any-none h = let e : n - i ≡ 0 = omega arith in rw e
+
+-- ---- a mark more
+
+any-zeros : (at n : ℕ) → at + n ≤ places → anyMark (replicate places 0) at n ≡ false
+unfolding anyMark
+any-zeros at zero h = refl
+any-zeros at (suc n) h = if-eq _ (getD-replicate places at 0 0 (omega arith)) ∙ any-zeros (suc at) n (omega arith)
+
+module _ (m : List ℕ) (p : ℕ) where
+  any-in : (at n : ℕ) → p < length m → at ≤ p → p < at + n → anyMark (set m p 1) at n ≡ true
+  unfolding anyMark
+  any-in at zero l h k = absurd (omega arith)
+  any-in at (suc n) l h k =
+      elim (ℕ-discrete (getD (set m p 1) at 0) 0) [
+        | no q ↦ if-ne _ q
+        | yes q ↦
+            let d : p ≡ at → ⊥ = λ e. clash e q in
+            if-eq _ q ∙ any-in (suc at) n l (omega arith) (omega arith)
+      ]
+    where
+      clash : p ≡ at → getD (set m p 1) at 0 ≡ 0 → ⊥
+      clash e q =
+          let z : _≡_ {A = ℕ} 1 0 = sym (getD-set-same m p 1 0 l) ∙ ap (λ (j : ℕ). getD (set m p 1) j 0) e ∙ q in
+          omega arith
+
+  any-out : (at n : ℕ) → (at ≤ p → p < at + n → ⊥) → anyMark (set m p 1) at n ≡ anyMark m at n
+  unfolding anyMark
+  any-out at zero o = refl
+  any-out at (suc n) o =
+      let d : at ≡ p → ⊥ = λ e. o (omega arith) (omega arith) in
+      rw (getD-set-other m p at 1 0 d, any-out (suc at) n (λ l h. o (omega arith) (omega arith)))
+
+-- ---- the marks of entries
+
+-- the ten places of a block's RSK and OTH lines
+abbrev Within : ℕ → ℕ → Type 0
+Within p b = (placeOf Rsk b 1 ≤ p) × (p < placeOf Rsk b 1 + 10)
+
+-- a line lies there where it makes the block exist; t is whether one of the others does
+row-line : (k : Code) (b c d : ℕ) → Key k b c → 1 ≤ d → (t : Bool)
+    → (Within (placeOf k b c) d × (pick (ofBlock k) (pick (eqb b d) true t) t ≡ true))
+    ⊎ ((placeOf Rsk d 1 ≤ placeOf k b c → placeOf k b c < placeOf Rsk d 1 + 10 → ⊥) × (pick (ofBlock k) (pick (eqb b d) true t) t ≡ t))
+unfolding placeOf
+row-line Rsk b c d v h t =
+    elim (ℕ-discrete b d) [
+      | yes q ↦ inl ((omega arith, omega arith), if-true _ refl ∙ if-eq _ q)
+      | no q ↦ inr (λ l u. omega arith, if-true _ refl ∙ if-ne _ q)
+    ]
+row-line Oth b c d v h t =
+    elim (ℕ-discrete b d) [
+      | yes q ↦ inl ((omega arith, omega arith), if-true _ refl ∙ if-eq _ q)
+      | no q ↦ inr (λ l u. omega arith, if-true _ refl ∙ if-ne _ q)
+    ]
+row-line Vol b c d v h t = inr (λ l u. omega arith, if-false _ refl)
+row-line Gen b c d v h t = inr (λ l u. omega arith, if-false _ refl)
+
+pub row-most : (b : ℕ) → b ≤ 16 → placeOf Rsk b 1 + 10 ≤ places
+unfolding placeOf
+row-most b h = omega arith
+
+pub exists-table : (es : List Entry) (b : ℕ) → All es → (1 ≤ b) × (b ≤ 16) → blockMarked (table markOf es) b ≡ exists es b
+unfolding table exists
+exists-table [] b all h = any-zeros (placeOf Rsk b 1) 10 (row-most b (h .1))
+exists-table (e ∷ es) b all h =
+    let v = all .0 .key in
+    let l : placeFor e < length (table markOf es) = rw length-table (place-most (e .code) (e .block) (e .class) v) in
+    elim (row-line (e .code) (e .block) (e .class) b v (h .0) (exists es b)) [
+      | inl w ↦ any-in (table markOf es) (placeFor e) (placeOf Rsk b 1) 10 l (w .0 .0) (w .0 .1) ∙ sym (w .1)
+      | inr w ↦ any-out (table markOf es) (placeFor e) (placeOf Rsk b 1) 10 (w .0) ∙ exists-table es b (all .1) h ∙ sym (w .1)
+    ]

@@ -1,0 +1,80 @@
+-- The lines of a sheet as a list of entries, and the figures that are taken from them: 'An absent line means zeros', and 'A block
+-- exists when it has an RSK or OTH line, zeros included'. Assumes nothing.
+use Prim.Native.Nat.{ℕ, zero, suc, _+_, _/_, _%_}
+use mathlib.Core.List.{List, [], _∷_, _++_}
+use mathlib.Core.Bool.{Bool, true, false}
+use lib.Dec.{ltb, eqb}
+use Rattle.search.specs.Pick.{pick}
+use Rattle.lines.specs.declared.Code.{Code}
+use Rattle.lines.specs.declared.Code.the-variants.{Rsk, Oth, Vol, Gen}
+use Rattle.lines.specs.declared.Entry.{Entry}
+
+-- a code's row in document 01's table of codes
+abbrev pub rank : Code → ℕ
+rank Rsk = 0
+rank Oth = 1
+rank Vol = 2
+rank Gen = 3
+
+-- whether an entry has this code, block and class
+unfoldable pub same : Code → ℕ → ℕ → Entry → Bool
+same k b c e = pick (eqb (rank k) (rank (e .code))) (pick (eqb b (e .block)) (eqb c (e .class)) false) false
+
+-- what f says of the line with this code, block and class, and 0 where there is none: 'An absent line means zeros'
+unfoldable pub lookup : (Entry → ℕ) → List Entry → Code → ℕ → ℕ → ℕ
+lookup f [] k b c = 0
+lookup f (e ∷ es) k b c = pick (same k b c e) (f e) (lookup f es k b c)
+
+-- the first amount of a line
+abbrev pub firstOf : Entry → ℕ
+firstOf e = e .first
+
+-- the second amount of a line
+abbrev pub secondOf : Entry → ℕ
+secondOf e = e .second
+
+-- 1 for a line that is there
+abbrev pub markOf : Entry → ℕ
+markOf e = 1
+
+-- 'code, block and class stood before'
+abbrev pub stood : List Entry → Code → ℕ → ℕ → Bool
+stood es k b c = ltb 0 (lookup markOf es k b c)
+
+-- the codes whose lines make a block exist
+abbrev pub ofBlock : Code → Bool
+ofBlock Rsk = true
+ofBlock Oth = true
+ofBlock Vol = false
+ofBlock Gen = false
+
+-- 'A block exists when it has an RSK or OTH line, zeros included'
+unfoldable pub exists : List Entry → ℕ → Bool
+exists [] b = false
+exists (e ∷ es) b = pick (ofBlock (e .code)) (pick (eqb (e .block) b) true (exists es b)) (exists es b)
+
+-- n pairs: f 0, g 0, f 1, g 1 and so on
+unfoldable pub pairs : (ℕ → ℕ) → (ℕ → ℕ) → ℕ → List ℕ
+pairs f g zero = []
+pairs f g (suc n) = pairs f g n ++ (f n ∷ []) ++ (g n ∷ [])
+
+-- 'The block call takes 17 numbers: seven pairs IR, LT, then PC, credit, market', by the first and the second amounts of lines
+unfoldable pub blockBy : (Code → ℕ → ℕ → ℕ) → (Code → ℕ → ℕ → ℕ) → ℕ → List ℕ
+blockBy first second b =
+    pairs (λ i. first Rsk b (i + 1)) (λ i. second Rsk b (i + 1)) 7 ++ (first Oth b 1 ∷ first Oth b 2 ∷ first Oth b 3 ∷ [])
+
+-- 'a list of 16 numbers per territory (eight pairs)', current and prior of classes 1 to 8, for territories 1 to 16
+unfoldable pub volumesBy : (Code → ℕ → ℕ → ℕ) → (Code → ℕ → ℕ → ℕ) → List ℕ
+volumesBy first second = pairs (λ i. first Vol (i / 8 + 1) (i % 8 + 1)) (λ i. second Vol (i / 8 + 1) (i % 8 + 1)) 128
+
+-- the 17 numbers of a block
+abbrev pub blockOf : List Entry → ℕ → List ℕ
+blockOf es b = blockBy (lookup firstOf es) (lookup secondOf es) b
+
+-- the volumes of all territories
+abbrev pub volumesOf : List Entry → List ℕ
+volumesOf es = volumesBy (lookup firstOf es) (lookup secondOf es)
+
+-- 'GEN: 1 gross components, 2 guarantee requirement, 3 ceded premiums, 4 g, 5 credits'
+abbrev pub general : List Entry → ℕ → ℕ
+general es c = lookup firstOf es Gen 0 c
