@@ -59,7 +59,7 @@ fn first_lt_above(b: &[u64; 17]) -> usize
     i
 }
 
-fn figures_of(b: &[u64; 17]) -> Figures
+pub fn figures_of(b: &[u64; 17]) -> Figures
     requires { ⌜ Accepted (now b) ⌝ }
     ensures { λ r. ⌜ (r .i ≡ I (now (b .entry))) × (r .d ≡ D (now (b .entry))) × (r .u ≡ U (now (b .entry))) × (r .lt ≡ LT (now (b .entry))) × (r .k ≡ K (now (b .entry))) ⌝ }
 {

@@ -40,7 +40,7 @@ pub fn operational_call(volumes: &[u64], general: &[u64; 3]) -> OperationalAnswe
 }
 
 // The sum over 50,000 just fits a word: for 16 territories it is below 1.67 × 10^19.
-fn operational(volumes: &[u64], general: &[u64; 3]) -> u64
+pub fn operational(volumes: &[u64], general: &[u64; 3]) -> u64
     requires { ⌜ Amounts (now volumes) (now general) ⌝ }
     ensures { λ r. ⌜ r ≡ RO (now (volumes .entry)) (now (general .entry)) ⌝ }
 {

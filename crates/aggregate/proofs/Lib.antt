@@ -1,0 +1,8 @@
+pub mod Blocks
+pub mod Stored
+pub mod WorkedOut
+pub mod Entries
+pub mod Reports
+pub mod Accuracy
+pub mod Room
+pub mod Steps

@@ -1,0 +1,17 @@
+-- `aggregate::scaled` meets its contract: no product passes a word. Assumes nothing.
+use Prim.Native.Nat.{_*_, _/_, _%_, _^_, _<_}
+use native.Mathlib.Omega.{arith}
+use Rattle.guideline.proofs.Totals.{buffer-split, split-fits}
+use Rattle.aggregate.proofs.scaled.Statement.{statement}
+use Rattle.aggregate.proofs.scaled.Tie as tie
+
+room : (c : tie.Start) → (c .args .g * (c .args .bracket / 10000) < 2 ^ 57) × (c .args .g * (c .args .bracket % 10000) < 2 ^ 28)
+room c = split-fits _ _ (c .pre .0) (c .pre .1)
+
+returns : tie.Need-returns
+returns c = buffer-split _ _ (c .pre .0) (c .pre .1)
+
+pub scaled-spec : {M : Type 1} → statement M
+scaled-spec =
+    tie.close
+    (tie.spec (λ c. omega (arith, room c)) (λ c. omega (arith, room c)) (λ c. omega (arith, room c)) (λ c. omega (arith, room c)) returns)

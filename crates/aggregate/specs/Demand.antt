@@ -1,0 +1,45 @@
+-- Demand 3 of the bytes that the sheet call leaves: 'The reported figures of demand 3 are those in the report that the sheet call leaves:
+-- the reported buffer is TOT item 3; of a block, the adjusted requirement is BLK item 5, K, the level and trend item 4, LT, the
+-- diversified requirement item 2, D, in half cents, and the undiversified one item 3, U.' 'The exact figures come from the sheet's
+-- amounts.'
+-- Assumes nothing.
+use mathlib.Core.Path.{_≡_}
+use mathlib.Core.Bool.{true}
+use mathlib.Core.List.{List}
+use Prim.Native.Nat.{ℕ, _+_, _*_, _≤_}
+use Rattle.refusal.specs.Outcome.{Outcome}
+use Rattle.refusal.specs.Outcome.Outcome.{accepted, refused}
+use Rattle.guideline.specs.Demand.{BufferDemand}
+use Rattle.field.specs.declared.Field.the-variants.{Value}
+use Rattle.report.specs.Line.{numberAt}
+use Rattle.lines.specs.declared.Entry.{Entry}
+use Rattle.ledger.specs.Entries.{exists}
+use Rattle.ledger.specs.Reading.{reading}
+use Rattle.ledger.specs.Reading.Reading.{whole}
+use Rattle.writing.specs.Rows.{BLK, TOT}
+use Rattle.aggregate.specs.Sheet.{sheetOf}
+
+-- 'For every block 2 × K is at least LT + D, and K is at most U', of the numbers read back off the report
+pub record ReportedBlock (report : List ℕ) (b : ℕ) : Type 0 where
+  pub d : ℕ
+  pub u : ℕ
+  pub lt : ℕ
+  pub k : ℕ
+  pub reads-d : numberAt report BLK b 2 ≡ Value d
+  pub reads-u : numberAt report BLK b 3 ≡ Value u
+  pub reads-lt : numberAt report BLK b 4 ≡ Value lt
+  pub reads-k : numberAt report BLK b 5 ≡ Value k
+  pub twice : lt + d ≤ 2 * k
+  pub within : k ≤ u
+
+-- the reported buffer, read back off the report, against the exact one; and every block that exists
+pub record ReportDemand (es : List Entry) (report : List ℕ) : Type 0 where
+  pub buffer : ℕ
+  pub reads-buffer : numberAt report TOT 0 3 ≡ Value buffer
+  pub accurate : BufferDemand (sheetOf es) buffer
+  pub blocks : (b : ℕ) → exists es b ≡ true → ReportedBlock report b
+
+-- demand 3 for a sheet, the call's outcome and the report afterwards: a sheet that is accepted has lines, and the report meets it
+abbrev pub Demand3 : List ℕ → Outcome → List ℕ → Type 0
+Demand3 sheet (accepted vs) report = (es : List Entry) × (reading sheet ≡ whole es) × ReportDemand es report
+Demand3 sheet (refused n p) report = Unit {0}

@@ -1,0 +1,4 @@
+pub mod Sheet
+pub mod Call
+pub mod Demand
+pub mod Parts

@@ -1,0 +1,452 @@
+//! Writes the stored cases of a test program into two files: `cases INPUT EXPECTED`.
+//!
+//! INPUT: for each case a header of 12 bytes, the sheet's length in 5 digits with leading zeros, a space, the room in 5
+//! digits with leading zeros, a line feed; then the sheet's bytes.
+//!
+//! EXPECTED: for each case a line in the form of a report's line, `ACC`, 0, 0 and the report's length where the sheet is
+//! accepted, `REF`, the refusal's number, the kind of its place (0 nowhere, 1 line, 2 position) and the place (0 where
+//! nowhere) where it is refused; then all bytes of the room, which were 35 ('#') before the call; then a line feed.
+//!
+//! Every case says here by hand what is answered; nothing is written unless the reference answers so.
+
+use reference::*;
+use std::{env, error::Error, fs};
+
+type Line = (&'static str, u64, u64, u64, u64);
+
+struct Case {
+    sheet: Vec<u8>,
+    room: usize,
+    answer: Result<usize, Refusal>,
+}
+
+struct Cases(Vec<Case>);
+
+impl Cases {
+    /// Accepted with so many blocks; three bytes of the room are past the report.
+    fn accepted(&mut self, blocks: usize, sheet: Vec<u8>) {
+        let length = report_length(blocks);
+        self.0.push(Case { sheet, room: length + 3, answer: Ok(length) });
+    }
+
+    /// Refused, although the room would hold one block's report.
+    fn refused(&mut self, refusal: Refusal, sheet: Vec<u8>) {
+        self.room(report_length(1) + 3, Err(refusal), sheet);
+    }
+
+    fn room(&mut self, room: usize, answer: Result<usize, Refusal>, sheet: Vec<u8>) {
+        self.0.push(Case { sheet, room, answer });
+    }
+}
+
+fn at(number: u8, line: usize) -> Refusal {
+    Refusal::at_line(number, line)
+}
+
+fn nowhere(number: u8) -> Refusal {
+    Refusal::nowhere(number)
+}
+
+fn sheet(lines: &[Line]) -> Vec<u8> {
+    lines
+        .iter()
+        .flat_map(|&(code, block, class, first, second)| sheet_line(code, block, class, first, second))
+        .collect()
+}
+
+/// One line of risk 1, then g: a sound sheet of one block, into whose first line bytes are put.
+const RISK: Line = ("RSK", 1, 1, 100, 40);
+const G: Line = ("GEN", 0, 4, 10_000, 0);
+
+/// The sound sheet with these bytes from this column of line 1 on. Columns count from 1.
+fn put(column: usize, bytes: &[u8]) -> Vec<u8> {
+    let mut sheet = sheet(&[RISK, G]);
+    sheet[column - 1..column - 1 + bytes.len()].copy_from_slice(bytes);
+    sheet
+}
+
+/// Document 01's whole run: document 000's example as block 1.
+fn whole_run() -> Vec<u8> {
+    sheet(&[
+        ("RSK", 1, 1, 100_000_000, 70_000_000),
+        ("RSK", 1, 2, 300_000, 300_000),
+        ("RSK", 1, 3, 5_000_000, 1_000_000),
+        ("RSK", 1, 4, 250_000, 100_000),
+        ("RSK", 1, 5, 30_000_000, 15_000_000),
+        ("RSK", 1, 6, 10_000_000, 4_000_000),
+        ("RSK", 1, 7, 1_000_000, 0),
+        ("OTH", 1, 1, 2_500_000, 0),
+        ("OTH", 1, 2, 20_000_000, 0),
+        ("OTH", 1, 3, 7_500_000, 0),
+        ("VOL", 1, 1, 15_000, 10_000),
+        ("GEN", 0, 1, 200_000_000, 0),
+        ("GEN", 0, 4, 10_000, 0),
+    ])
+}
+
+/// All 293 lines, ascending, every amount the largest; LT (but for risk 7), prior volumes and credits as given.
+fn full(seconds: u64) -> Vec<Line> {
+    const MOST: u64 = LARGEST_AMOUNT;
+    let mut lines = Vec::new();
+    for block in 1..=16 {
+        lines.extend((1..=7).map(|class| ("RSK", block, class, MOST, if class == 7 { 0 } else { seconds })));
+        lines.extend((1..=3).map(|class| ("OTH", block, class, MOST, 0)));
+        lines.extend((1..=8).map(|class| ("VOL", block, class, MOST, seconds)));
+    }
+    lines.extend((1..=3).map(|class| ("GEN", 0, class, MOST, 0)));
+    lines.extend([("GEN", 0, 4, LARGEST_SCALAR, 0), ("GEN", 0, 5, seconds, 0)]);
+    lines
+}
+
+/// Every hundredth line in turn. 293 is a prime number, so that each comes once.
+fn shuffled(lines: &[Line]) -> Vec<Line> {
+    (0..lines.len()).map(|i| lines[(100 * i + 7) % lines.len()]).collect()
+}
+
+fn cases() -> Vec<Case> {
+    let mut c = Cases(Vec::new());
+
+    // Document 01's whole run.
+    c.accepted(1, whole_run());
+
+    // Every row that a sheet can give, with its number and place, alone and beside a fault that is tested later.
+
+    // 1 beside 2: a full sheet and one byte more. (Above 11,720 bytes and alone is 11,760 at least.)
+    c.room(0, Err(nowhere(1)), [sheet(&full(0)), b"\n".to_vec()].concat());
+    // 2 alone: the last line feed is missing.
+    c.refused(nowhere(2), sheet(&[RISK, G])[..79].to_vec());
+    // 2 beside 3: line 1 breaks the layout too.
+    c.refused(nowhere(2), put(4, b"x")[..79].to_vec());
+    // 3 alone.
+    c.refused(at(3, 1), put(40, b" "));
+    // 3 beside 4 in the same line.
+    c.refused(at(3, 1), put(1, b"XXXX"));
+    // 3 beside 12: the broken line is the g line.
+    c.refused(at(3, 2), [sheet(&[RISK]), put(4, b"x")[..40].to_vec()].concat());
+    // 4 alone.
+    c.refused(at(4, 2), sheet(&[RISK, ("RIS", 1, 2, 100, 0), G]));
+    // 4 beside 5: block 17 of no code.
+    c.refused(at(4, 1), sheet(&[("rsk", 17, 1, 100, 0), G]));
+    // 4, a code of the report.
+    c.refused(at(4, 1), sheet(&[("BLK", 1, 1, 100, 0), G]));
+    // 5 alone: RSK block 0.
+    c.refused(at(5, 1), sheet(&[("RSK", 0, 1, 100, 0), G]));
+    // 5 alone: RSK block 17.
+    c.refused(at(5, 1), sheet(&[("RSK", 17, 1, 100, 0), G]));
+    // 5 alone: OTH block 17.
+    c.refused(at(5, 2), sheet(&[G, ("OTH", 17, 1, 100, 0)]));
+    // 5 alone: VOL block 99.
+    c.refused(at(5, 2), sheet(&[G, ("VOL", 99, 1, 100, 0)]));
+    // 5 alone: GEN block 1.
+    c.refused(at(5, 2), sheet(&[G, ("GEN", 1, 1, 100, 0)]));
+    // 5 beside 6.
+    c.refused(at(5, 1), sheet(&[("VOL", 0, 9, 100, 0), G]));
+    // 6 alone: RSK class 0.
+    c.refused(at(6, 1), sheet(&[("RSK", 1, 0, 100, 0), G]));
+    // 6 alone: RSK class 8.
+    c.refused(at(6, 1), sheet(&[("RSK", 16, 8, 100, 0), G]));
+    // 6 alone: OTH class 4.
+    c.refused(at(6, 1), sheet(&[("OTH", 1, 4, 100, 0), G]));
+    // 6 alone: VOL class 9.
+    c.refused(at(6, 1), sheet(&[("VOL", 1, 9, 100, 0), G]));
+    // 6 alone: GEN class 6.
+    c.refused(at(6, 1), sheet(&[("GEN", 0, 6, 100, 0), G]));
+    // 6 beside 8: a second amount too.
+    c.refused(at(6, 1), sheet(&[("GEN", 0, 0, 100, 1), G]));
+    // 8 alone: OTH with a second amount.
+    c.refused(at(8, 1), sheet(&[("OTH", 1, 2, 100, 1), G]));
+    // 8 alone: GEN with a second amount.
+    c.refused(at(8, 2), sheet(&[G, ("GEN", 0, 3, 100, 100)]));
+    // 8 alone: LT(7) not 0.
+    c.refused(at(8, 2), sheet(&[RISK, ("RSK", 1, 7, 100, 1), G]));
+    // 8 beside 9: LT(7) above IR(7).
+    c.refused(at(8, 1), sheet(&[("RSK", 1, 7, 0, 1), G]));
+    // 8 beside 10: a g line with both amounts wrong.
+    c.refused(at(8, 1), sheet(&[("GEN", 0, 4, 0, 1)]));
+    // 8 beside 11: the line stood before.
+    c.refused(at(8, 3), sheet(&[("OTH", 1, 1, 100, 0), G, ("OTH", 1, 1, 100, 1)]));
+    // 9 alone: document 01's LT 3001 over IR 3000.
+    c.refused(at(9, 1), sheet(&[("RSK", 1, 2, 3_000, 3_001), G]));
+    // 9 beside 11: the line stood before.
+    c.refused(at(9, 2), sheet(&[RISK, ("RSK", 1, 1, 0, 1), G]));
+    // 9 beside 12: and there is no g line.
+    c.refused(at(9, 1), sheet(&[("RSK", 16, 6, 0, LARGEST_AMOUNT)]));
+    // 10 alone: the largest amount as g.
+    c.refused(at(10, 2), sheet(&[RISK, ("GEN", 0, 4, LARGEST_AMOUNT, 0)]));
+    // 10 beside 14: no room either.
+    c.room(0, Err(at(10, 1)), sheet(&[("GEN", 0, 4, 20_002, 0), RISK]));
+    // 11 alone.
+    c.refused(at(11, 3), sheet(&[RISK, G, RISK]));
+    // 11 beside 12: and there is no g line.
+    c.refused(at(11, 2), sheet(&[RISK, RISK]));
+    // 12 alone.
+    c.refused(nowhere(12), sheet(&[RISK]));
+    // 12 beside 13: credits above the bracket.
+    c.refused(nowhere(12), sheet(&[RISK, ("GEN", 0, 5, 1_000_000, 0)]));
+    // 12 beside 14: no room either.
+    c.room(0, Err(nowhere(12)), sheet(&[RISK]));
+    // 13 alone.
+    c.refused(nowhere(13), sheet(&[RISK, G, ("GEN", 0, 5, LARGEST_AMOUNT, 0)]));
+    // 13 beside 14: no room either.
+    c.room(0, Err(nowhere(13)), sheet(&[G, ("GEN", 0, 5, 1, 0)]));
+    // 14 alone: room for no block, and there is one.
+    c.room(report_length(0), Err(nowhere(14)), sheet(&[RISK, G]));
+
+    // Two bad lines: the first one answers.
+
+    // 11 in line 2, 3 in line 3.
+    c.refused(at(11, 2), [sheet(&[RISK, RISK]), put(4, b"x")].concat());
+    // 9 in line 1, 4 in line 2.
+    c.refused(at(9, 1), sheet(&[("RSK", 1, 1, 0, 1), ("XXX", 1, 1, 0, 0), G]));
+    // 3 in line 1, 3 in line 2.
+    c.refused(at(3, 1), [put(4, b"x")[..40].to_vec(), put(4, b"x")].concat());
+    // A bad line as the last of 293: OTH 16 3 has become a second OTH 16 2.
+    let mut last = full(0);
+    last.retain(|line| *line != ("OTH", 16, 3, LARGEST_AMOUNT, 0));
+    last.push(("OTH", 16, 2, LARGEST_AMOUNT, 0));
+    c.room(0, Err(at(11, 293)), sheet(&last));
+
+    // Duplicates.
+
+    // Equal amounts, one line apart.
+    c.refused(at(11, 3), sheet(&[("VOL", 2, 8, 5, 6), G, ("VOL", 2, 8, 5, 6)]));
+    // Other amounts.
+    c.refused(at(11, 2), sheet(&[("VOL", 2, 8, 5, 6), ("VOL", 2, 8, 0, 0), G]));
+    // A repeated g line, good.
+    c.refused(at(11, 2), sheet(&[G, ("GEN", 0, 4, 20_000, 0)]));
+    // A repeated g line, bad.
+    c.refused(at(10, 2), sheet(&[G, ("GEN", 0, 4, 0, 0)]));
+    // No duplicates: the same block and class under three codes, the same class of two blocks.
+    c.accepted(
+        2,
+        sheet(&[RISK, ("OTH", 1, 1, 7, 0), ("VOL", 1, 1, 9, 3), ("RSK", 2, 1, 100, 40), ("GEN", 0, 1, 9, 0), G]),
+    );
+
+    // The scalar.
+
+    // g 0.
+    c.refused(at(10, 1), sheet(&[("GEN", 0, 4, 0, 0)]));
+    // g 1.
+    c.accepted(1, sheet(&[("GEN", 0, 4, 1, 0), RISK]));
+    // g 20,000.
+    c.accepted(1, sheet(&[("GEN", 0, 4, 20_000, 0), RISK]));
+    // g 20,001.
+    c.refused(at(10, 1), sheet(&[("GEN", 0, 4, 20_001, 0)]));
+
+    // 293 lines with 16 blocks at the largest amounts.
+
+    // Ascending; LT, prior volumes and credits the largest as well.
+    c.accepted(16, sheet(&full(LARGEST_AMOUNT)));
+    // Shuffled; LT, prior volumes and credits 0, which gives the largest figures of all.
+    c.accepted(16, sheet(&shuffled(&full(0))));
+
+    // Blocks that exist by zeros alone.
+
+    // A risk of zeros.
+    c.accepted(1, sheet(&[("RSK", 3, 5, 0, 0), G]));
+    // Credit of zero, in block 16, before a block with amounts.
+    c.accepted(2, sheet(&[("OTH", 16, 2, 0, 0), RISK, G]));
+    // Volumes make no block.
+    c.accepted(0, sheet(&[("VOL", 5, 1, 15_000, 10_000), G]));
+    // The scalar alone.
+    c.accepted(0, sheet(&[G]));
+
+    // Lengths.
+
+    // The empty sheet.
+    c.room(report_length(0), Err(nowhere(12)), Vec::new());
+    // 1 byte.
+    c.refused(nowhere(2), b"\n".to_vec());
+    // 39 bytes: a line without its line feed.
+    c.refused(nowhere(2), sheet(&[G])[..39].to_vec());
+    // 41 bytes: a line and an empty line.
+    c.refused(nowhere(2), [sheet(&[G]), b"\n".to_vec()].concat());
+    // 11,720 bytes, not too long: 293 lines of spaces.
+    c.refused(at(3, 1), vec![b' '; 11_720]);
+    // 11,721 bytes, too long: spaces, and no room.
+    c.room(0, Err(nowhere(1)), vec![b' '; 11_721]);
+
+    // Bytes.
+
+    // NUL in a number.
+    c.refused(at(3, 1), put(23, b"\0"));
+    // NUL between the columns.
+    c.refused(at(3, 1), put(7, b"\0"));
+    // NUL in the code.
+    c.refused(at(4, 1), put(3, b"\0"));
+    // Carriage return in a number.
+    c.refused(at(3, 1), put(39, b"\r"));
+    // Carriage return between the columns.
+    c.refused(at(3, 1), put(10, b"\r"));
+    // Carriage return in the code.
+    c.refused(at(4, 1), put(1, b"\r"));
+    // Carriage return in place of the line feed.
+    c.refused(at(3, 1), put(40, b"\r"));
+    // Tab in a number, before its digits.
+    c.refused(at(3, 1), put(11, b"\t"));
+    // Tab between the columns.
+    c.refused(at(3, 1), put(25, b"\t"));
+    // Tab in the code.
+    c.refused(at(4, 1), put(2, b"\t"));
+    // A byte above 127 in a number: the digit 1 with its highest bit set.
+    c.refused(at(3, 1), put(6, b"\xB1"));
+    // A byte above 127 between the columns: a space with its highest bit set.
+    c.refused(at(3, 1), put(4, b"\xA0"));
+    // A byte above 127 in the code: an R with its highest bit set.
+    c.refused(at(4, 1), put(1, b"\xD2"));
+    // Line feed in the code.
+    c.refused(at(4, 1), put(3, b"\n"));
+    // A digit between class and first amount.
+    c.refused(at(3, 1), put(10, b"1"));
+    // A digit between the amounts.
+    c.refused(at(3, 1), put(25, b"0"));
+    // A leading zero of the block.
+    c.refused(at(3, 1), put(5, b"01"));
+    // A leading zero of the class.
+    c.refused(at(3, 1), put(8, b"01"));
+    // A leading zero of the first amount.
+    c.refused(at(3, 1), put(21, b"0100"));
+    // A leading zero of the second amount, which is 00.
+    c.refused(at(3, 1), put(38, b"00"));
+    // A left-justified block.
+    c.refused(at(3, 1), put(5, b"1 "));
+    // A left-justified class.
+    c.refused(at(3, 1), put(8, b"1 "));
+    // A left-justified first amount.
+    c.refused(at(3, 1), put(11, b"100           "));
+    // A left-justified second amount.
+    c.refused(at(3, 1), put(26, b"40            "));
+    // No digit in the block.
+    c.refused(at(3, 1), put(5, b"  "));
+    // No digit in the second amount.
+    c.refused(at(3, 1), put(26, b"              "));
+    // A space inside a number.
+    c.refused(at(3, 1), put(22, b"1 0"));
+    // A sign before a number.
+    c.refused(at(3, 1), put(37, b"-40"));
+
+    // Credits. IR 100 with LT 40 has K 100; the bracket is 100 + 500 + RO 23.
+
+    // Equal to the bracket: the buffer is 0.
+    c.accepted(1, sheet(&[RISK, ("GEN", 0, 2, 500, 0), G, ("GEN", 0, 5, 623, 0)]));
+    // One cent above.
+    c.refused(nowhere(13), sheet(&[RISK, ("GEN", 0, 2, 500, 0), G, ("GEN", 0, 5, 624, 0)]));
+
+    // Rooms for one block's report of 232 bytes.
+
+    // Empty.
+    c.room(0, Err(nowhere(14)), sheet(&[RISK, G]));
+    // One byte short.
+    c.room(231, Err(nowhere(14)), sheet(&[RISK, G]));
+    // Exact.
+    c.room(232, Ok(232), sheet(&[RISK, G]));
+    // One byte long.
+    c.room(233, Ok(232), sheet(&[RISK, G]));
+
+    // "Miscalibrations to exclude", and roots of every block.
+
+    // An odd LT: K stays at U.
+    c.accepted(1, sheet(&[("RSK", 1, 1, 1, 1), G]));
+    // Roots that would be rounded down to the nearest, in two blocks.
+    c.accepted(2, sheet(&[("RSK", 1, 1, 3, 0), ("RSK", 1, 2, 3, 0), ("RSK", 7, 1, 100, 0), ("OTH", 7, 2, 100, 0), G]));
+    // A shrinking class and a shrinking territory beside a growing class.
+    c.accepted(0, sheet(&[("VOL", 1, 1, 15_000, 10_000), ("VOL", 1, 2, 0, 90_000), ("VOL", 2, 1, 1, 90_000), G]));
+    // PC where the floor is the larger, and where the root is.
+    c.accepted(
+        2,
+        sheet(&[
+            ("RSK", 1, 5, 100, 0),
+            ("RSK", 1, 6, 100, 0),
+            ("OTH", 1, 1, 50, 0),
+            ("RSK", 2, 1, 100, 31),
+            ("RSK", 2, 3, 80, 0),
+            ("OTH", 2, 1, 50, 0),
+            ("OTH", 2, 3, 33, 0),
+            G,
+        ]),
+    );
+    c.0
+}
+
+/// The header and the sheet.
+fn input(case: &Case) -> Vec<u8> {
+    let mut bytes = format!("{:05} {:05}\n", case.sheet.len(), case.room).into_bytes();
+    bytes.extend(&case.sheet);
+    bytes
+}
+
+/// The answer's line and the room after the call.
+fn expected(case: &Case) -> Result<Vec<u8>, String> {
+    let mut room = vec![b'#'; case.room];
+    let answer = sheet_call(&case.sheet, &mut room);
+    if answer != case.answer {
+        return Err(format!("written {:?}, answered {answer:?}", case.answer));
+    }
+    let mut bytes = match answer {
+        Ok(length) => report_line("ACC", 0, 0, length as u64),
+        Err(Refusal { number, place }) => {
+            let (kind, place) = match place {
+                Place::Nowhere => (0, 0),
+                Place::Line(line) => (1, line),
+                Place::Position(position) => (2, position),
+            };
+            report_line("REF", number.into(), kind, place as u64)
+        }
+    };
+    bytes.extend(room);
+    bytes.push(b'\n');
+    Ok(bytes)
+}
+
+fn main() -> Result<(), Box<dyn Error>> {
+    let arguments: Vec<String> = env::args().skip(1).collect();
+    let [input_file, expected_file] = &arguments[..] else {
+        return Err("usage: cases INPUT EXPECTED".into());
+    };
+    let (mut inputs, mut outputs) = (Vec::new(), Vec::new());
+    let cases = cases();
+    for (at, case) in cases.iter().enumerate() {
+        inputs.extend(input(case));
+        outputs.extend(expected(case).map_err(|why| format!("case {}: {why}", at + 1))?);
+    }
+    fs::write(input_file, inputs)?;
+    fs::write(expected_file, outputs)?;
+    println!("{} cases", cases.len());
+    Ok(())
+}
+
+#[cfg(test)]
+mod tests {
+    use super::*;
+
+    #[test]
+    fn the_reference_answers_as_written() {
+        let cases = cases();
+        assert!(cases.len() <= 115, "{} cases", cases.len());
+        for (at, case) in cases.iter().enumerate() {
+            assert!(case.sheet.len() <= 11_721 && case.room <= 2_500);
+            assert_eq!(input(case).len(), 12 + case.sheet.len());
+            let expected = expected(case).unwrap_or_else(|why| panic!("case {}: {why}", at + 1));
+            assert_eq!(expected.len(), REPORT_LINE_BYTES + case.room + 1);
+            if let Ok(length) = case.answer {
+                demand3(&case.sheet, &expected[REPORT_LINE_BYTES..REPORT_LINE_BYTES + length]).unwrap();
+            }
+        }
+    }
+
+    #[test]
+    fn no_case_stands_twice() {
+        let mut cases: Vec<Vec<u8>> = cases().iter().map(input).collect();
+        let all = cases.len();
+        cases.sort();
+        cases.dedup();
+        assert_eq!(cases.len(), all);
+    }
+
+    #[test]
+    fn every_row_of_a_sheet_stands() {
+        let numbers: std::collections::BTreeSet<u8> =
+            cases().iter().filter_map(|case| case.answer.err().map(|refusal| refusal.number)).collect();
+        assert_eq!(numbers.into_iter().collect::<Vec<u8>>(), [1, 2, 3, 4, 5, 6, 8, 9, 10, 11, 12, 13, 14]);
+    }
+}

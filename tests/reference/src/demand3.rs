@@ -1,0 +1,120 @@
+//! Demand 3, checked on a sheet and its report without floating point.
+//!
+//! "The exact values": the exact I is the larger of the root of Q and the largest y, plus 2PC; the exact D is the root
+//! of a² + aI + I² with the exact I; the exact K is K's fraction at the exact D, because the fraction never falls as d
+//! rises from V / 3 on; the exact buffer is g times the unrounded bracket with these K.
+//!
+//! How the bracket decides. Each radicand is multiplied by SCALE², so that the whole numbers at and next to its root
+//! enclose the root times SCALE, 20 digits after the point (and meet it where the root is whole there). Every further
+//! step never falls as a root rises, so the lower ends give a buffer at or below the exact one and the upper ends one
+//! at or above it.
+//! - The reported buffer must be at or above the exact one: met when it is at or above the upper end, broken when it is
+//!   below the lower end.
+//! - The reported buffer less the allowance must be strictly below the exact one: met when it is below the lower end,
+//!   broken when it is at or above the upper end.
+//!
+//! Between the ends the bracket can't decide, and the sheet counts as agreeing.
+
+use crate::big::Big;
+use crate::block::{terms, Terms};
+use crate::operational::over_50_000;
+use crate::sheet::{number, read_sheet};
+use crate::REPORT_LINE_BYTES;
+
+/// Even, so that a quarter of SCALE² is a whole number.
+const SCALE: u128 = 100_000_000_000_000_000_000;
+
+/// For an accepted sheet and its report: does demand 3 hold?
+pub fn demand3(sheet: &[u8], report: &[u8]) -> Result<(), String> {
+    judge(sheet, report).map(|_| ())
+}
+
+/// As demand3, and whether the bracket decided both bounds of the buffer.
+pub fn judge(sheet: &[u8], report: &[u8]) -> Result<bool, String> {
+    let sheet = read_sheet(sheet).map_err(|refusal| format!("the sheet is refused: {refusal:?}"))?;
+    let n = sheet.blocks.len();
+
+    // For every block 2 × K is at least LT + D, and K is at most U, all as reported.
+    for (at, &block) in sheet.blocks.keys().enumerate() {
+        let item = |item: usize| figure(report, 5 * at + item - 1, "BLK", block, item);
+        let (d, u, lt, k) = (item(2)?, item(3)?, item(4)?, item(5)?);
+        if 2 * u128::from(k) < u128::from(lt) + u128::from(d) {
+            return Err(format!("block {block}: 2 × K is below LT + D"));
+        }
+        if k > u {
+            return Err(format!("block {block}: K is above U"));
+        }
+    }
+    let buffer = figure(report, 5 * n + 2, "TOT", 0, 3)?;
+
+    // The exact sum of K, in cents × SCALE².
+    let (mut lower, mut upper) = (Big::from(0), Big::from(0));
+    for (block, amounts) in &sheet.blocks {
+        let (low, high) = exact_k(&terms(amounts)).ok_or(format!("block {block}: no d fits"))?;
+        lower = lower + low;
+        upper = upper + high;
+    }
+
+    // Both sides times 10,000 × 50,000 × SCALE²; credits and allowance stand where they are added.
+    let cents = Big::from(SCALE) * Big::from(SCALE);
+    let of = |amount: u64| Big::from(u128::from(amount));
+    let (g, ten_thousand, fifty_thousand) = (of(sheet.scalar()), Big::from(10_000), Big::from(50_000));
+    let ro = Big::from(over_50_000(&sheet.volumes, &sheet.operational()));
+    let reported = (of(buffer) * ten_thousand + g * of(sheet.credits())) * fifty_thousand * cents;
+    let exact = |sum_of_k: Big| g * ((sum_of_k + of(sheet.guarantee()) * cents) * fifty_thousand + ro * cents);
+    // The allowance is g × (2n + 1) + 1 cents.
+    let allowance = (g * Big::from(2 * n as u128 + 1) + ten_thousand) * fifty_thousand * cents;
+
+    let (lower, upper) = (exact(lower), exact(upper));
+    if reported < lower {
+        return Err(format!("the buffer {buffer} is below the exact one"));
+    }
+    if reported >= upper + allowance {
+        return Err(format!("the buffer {buffer} is the allowance or more above the exact one"));
+    }
+    Ok(reported >= upper && reported < lower + allowance)
+}
+
+/// The ends of the exact K, in cents × SCALE². None when no d fits: "3 × d is at least V" fails at the exact D.
+fn exact_k(t: &Terms) -> Option<(Big, Big)> {
+    if t.u == 0 {
+        return Some((Big::from(0), Big::from(0)));
+    }
+    let scale = Big::from(SCALE);
+    // I × SCALE
+    let (low, high) = (Big::from(t.quarters) * Big::from(SCALE / 2) * Big::from(SCALE / 2)).roots();
+    let i = |root: Big| root.max(Big::from(t.largest) * scale) + Big::from(t.twice_pc) * scale;
+    // D × SCALE
+    let a = Big::from(t.a) * scale;
+    let radicand = |i: Big| a * a + a * i + i * i;
+    let (low, high) = (radicand(i(low)).roots().0, radicand(i(high)).roots().1);
+
+    let v = Big::from(t.v) * scale;
+    if Big::from(3) * high < v {
+        return None;
+    }
+    // M × SCALE², the larger of 0 and 7V² − 31dV + 30d². At V / 3 it is 0, and a lower end below that doesn't count.
+    let m = |d: Big| {
+        let (plus, minus) = (Big::from(7) * v * v + Big::from(30) * d * d, Big::from(31) * d * v);
+        if plus > minus && Big::from(3) * d >= v {
+            plus - minus
+        } else {
+            Big::from(0)
+        }
+    };
+    // 48 × U × V + 6 × LT × V + M over 60 × V
+    let rest = Big::from(48 * t.u * t.v + 6 * t.lt * t.v) * scale * scale;
+    let divisor = u64::try_from(60 * t.v).unwrap();
+    Some(((rest + m(low)).quotients(divisor).0, (rest + m(high)).quotients(divisor).1))
+}
+
+/// The number on a report's line, which must be the line of this code, block and item.
+fn figure(report: &[u8], line: usize, code: &str, block: u64, item: usize) -> Result<u64, String> {
+    let wrong = || format!("line {} isn't the line {code} {block} {item}", line + 1);
+    let start = REPORT_LINE_BYTES * line;
+    let bytes = report.get(start..start + REPORT_LINE_BYTES).ok_or_else(wrong)?;
+    if &bytes[..10] != format!("{code} {block:>2} {item:>2} ").as_bytes() || bytes[28] != b'\n' {
+        return Err(wrong());
+    }
+    number(&bytes[10..28]).ok_or_else(wrong)
+}

@@ -1,0 +1,77 @@
+//! Generated sheets.
+
+use reference::generate::{accepted, case};
+use reference::*;
+use std::collections::{BTreeMap, BTreeSet};
+
+/// Every accepted sheet that the generator makes is accepted, and demand 3 holds for its report.
+#[test]
+fn demand_3_on_accepted_sheets() {
+    let (sheets, mut undecided) = (6_000, 0);
+    let (mut blocks, mut longest) = (BTreeSet::new(), 0);
+    for index in 0..sheets {
+        let sheet = accepted(3, index);
+        let mut report = vec![b'#'; LONGEST_REPORT];
+        let length = sheet_call(&sheet, &mut report).unwrap_or_else(|refusal| panic!("sheet {index}: {refusal:?}"));
+        blocks.insert((length / REPORT_LINE_BYTES - 3) / 5);
+        longest = longest.max(sheet.len());
+        match judge(&sheet, &report[..length]) {
+            Ok(decided) => undecided += u64::from(!decided),
+            Err(why) => panic!("sheet {index}: {why}"),
+        }
+    }
+    println!("{sheets} sheets, {undecided} of them not decided by the bracket");
+    assert!(undecided < sheets / 100);
+    assert!((0..=16).all(|n| blocks.contains(&n)) && longest == LONGEST_SHEET, "sheets of all sizes");
+}
+
+/// A buffer below the reported one by the bracket's rounding, or above it by the allowance, is found out.
+#[test]
+fn demand_3_finds_wrong_buffers() {
+    for index in 0..500 {
+        let sheet = accepted(4, index);
+        let mut report = vec![0; LONGEST_REPORT];
+        let length = sheet_call(&sheet, &mut report).unwrap();
+        let last = length - REPORT_LINE_BYTES;
+        let buffer: u64 = std::str::from_utf8(&report[last + 10..length - 1]).unwrap().trim().parse().unwrap();
+        // The allowance is at most 2 × (2 × 16 + 1) + 1 = 67 cents.
+        let above = [&report[..last], &report_line("TOT", 0, 3, buffer + 67)].concat();
+        assert!(demand3(&sheet, &above).is_err(), "sheet {index}");
+        if buffer >= 67 {
+            let below = [&report[..last], &report_line("TOT", 0, 3, buffer - 67)].concat();
+            assert!(demand3(&sheet, &below).is_err(), "sheet {index}");
+        }
+    }
+}
+
+/// The cases reach every row that a sheet can give; a refusal changes no byte, and an answer none past its length.
+#[test]
+fn cases_reach_every_row() {
+    let (cases, mut counts) = (20_000, BTreeMap::new());
+    for index in 0..cases {
+        let (sheet, room) = case(5, index);
+        assert!(room <= LONGEST_REPORT + 3);
+        let mut report = vec![b'#'; room];
+        let answer = sheet_call(&sheet, &mut report);
+        let length = answer.unwrap_or(0);
+        assert!(report[length..].iter().all(|&byte| byte == b'#'), "case {index}");
+        if let Ok(length) = answer {
+            assert_eq!(demand3(&sheet, &report[..length]), Ok(()), "case {index}");
+        }
+        let number = answer.map_or_else(|refusal| refusal.number, |_| 0);
+        *counts.entry(number).or_insert(0) += 1;
+    }
+    println!("answers of {cases} cases, 0 for accepted: {counts:?}");
+    let reached: Vec<u8> = counts.keys().copied().collect();
+    assert_eq!(reached, [0, 1, 2, 3, 4, 5, 6, 8, 9, 10, 11, 12, 13, 14]);
+    assert!(counts.values().all(|&count| count >= 100), "{counts:?}");
+}
+
+/// The same seed and index give the same case.
+#[test]
+fn cases_repeat() {
+    for index in 0..200 {
+        assert_eq!(case(6, index), case(6, index));
+    }
+    assert!((0..200).any(|index| case(6, index) != case(7, index)));
+}

@@ -1,0 +1,199 @@
+//! The figures that the papers print.
+
+use reference::*;
+
+/// The example of document 000, in cents: seven pairs IR, LT, then PC, credit, market.
+#[rustfmt::skip]
+const EXAMPLE: [u64; 17] = [
+    100_000_000, 70_000_000,
+    300_000, 300_000,
+    5_000_000, 1_000_000,
+    250_000, 100_000,
+    30_000_000, 15_000_000,
+    10_000_000, 4_000_000,
+    1_000_000, 0,
+    2_500_000, 20_000_000, 7_500_000,
+];
+
+/// A block of zeros but for these positions.
+fn block(amounts: &[(usize, u64)]) -> [u64; 5] {
+    let mut b = [0; 17];
+    for &(position, amount) in amounts {
+        b[position] = amount;
+    }
+    block_call(&b).unwrap()
+}
+
+/// RO of one territory with one class.
+fn volume(class: usize, current: u64, prior: u64) -> u64 {
+    let mut volumes = [0; 16];
+    volumes[2 * (class - 1)] = current;
+    volumes[2 * (class - 1) + 1] = prior;
+    operational_call(&volumes, &[0; 3]).unwrap()
+}
+
+/// The sheet call with the longest report's room.
+fn run(sheet: &[u8]) -> Result<Vec<u8>, Refusal> {
+    let mut report = vec![b'#'; LONGEST_REPORT];
+    let length = sheet_call(sheet, &mut report)?;
+    assert!(report[length..].iter().all(|&byte| byte == b'#'));
+    report.truncate(length);
+    Ok(report)
+}
+
+fn whole_run_sheet() -> Vec<u8> {
+    let mut sheet = Vec::new();
+    for class in 1..=7 {
+        let at = 2 * (class as usize - 1);
+        sheet.extend(sheet_line("RSK", 1, class, EXAMPLE[at], EXAMPLE[at + 1]));
+    }
+    for class in 1..=3 {
+        sheet.extend(sheet_line("OTH", 1, class, EXAMPLE[13 + class as usize], 0));
+    }
+    sheet.extend(sheet_line("VOL", 1, 1, 15_000, 10_000));
+    sheet.extend(sheet_line("GEN", 0, 1, 200_000_000, 0));
+    sheet.extend(sheet_line("GEN", 0, 4, 10_000, 0));
+    sheet
+}
+
+const WHOLE_RUN: &str = "\
+BLK  1  1          157884172
+BLK  1  2          191405437
+BLK  1  3          176550000
+BLK  1  4           90400000
+BLK  1  5          151765333
+TOT  0  1          151765333
+TOT  0  2           11500450
+TOT  0  3          163265783
+";
+
+/// "Calibration points": the rows of the block call.
+#[test]
+fn calibration_of_the_block() {
+    assert_eq!(block_call(&EXAMPLE), Ok([157_884_172, 191_405_437, 176_550_000, 90_400_000, 151_765_333]));
+    assert_eq!(block(&[]), [0; 5]);
+    let [i, d, _, _, k] = block(&[(0, 100)]);
+    assert_eq!([i, d, k], [200, 200, 100]);
+    let [i, d, _, _, k] = block(&[(0, 100), (1, 100)]);
+    assert_eq!([i, d, k], [100, 100, 100]);
+    let [i, d, _, _, k] = block(&[(0, 1), (1, 1)]);
+    assert_eq!([i, d, k], [1, 1, 1]);
+    let [i, d, _, _, k] = block(&[(8, 100), (10, 100)]);
+    assert_eq!([i, d, k], [200, 200, 160]);
+    let [i, _, _, _, k] = block(&[(0, 100), (2, 100)]);
+    assert_eq!([i, k], [245, 160]);
+    let [_, d, _, _, k] = block(&[(0, 100), (15, 100)]);
+    assert_eq!([d, k], [347, 178]);
+}
+
+/// "Calibration points": the rows of the operational call.
+#[test]
+fn calibration_of_operational_risk() {
+    assert_eq!(volume(1, 15_000, 10_000), 450);
+    assert_eq!(volume(1, 12_000, 10_000), 300);
+    assert_eq!(volume(1, 22_500, 15_000), 675);
+    assert_eq!(volume(7, 1, 1), 1);
+}
+
+/// "Calibration points": the refused rows.
+#[test]
+fn calibration_of_refusals() {
+    let mut b = [0; 17];
+    (b[2], b[3]) = (3_000, 3_001);
+    assert_eq!(block_call(&b), Err(Refusal::at_position(9, 3)));
+    assert_eq!(run(&sheet_line("RSK", 1, 2, 3_000, 3_001)), Err(Refusal::at_line(9, 1)));
+    assert_eq!(run(&sheet_line("GEN", 0, 4, 0, 0)), Err(Refusal::at_line(10, 1)));
+    assert_eq!(run(&sheet_line("GEN", 0, 4, 20_001, 0)), Err(Refusal::at_line(10, 1)));
+    assert_eq!(run(b""), Err(Refusal::nowhere(12)));
+}
+
+/// Document 000's printed figures, whole dollars, ours rounded to the nearest.
+#[test]
+fn example_of_document_000() {
+    let [i, d, u, lt, k] = block_call(&EXAMPLE).unwrap();
+    let of_half_cents = |figure: u64| (figure + 100) / 200;
+    let of_cents = |figure: u64| (figure + 50) / 100;
+    assert_eq!(of_half_cents(i), 789_421);
+    assert_eq!(of_half_cents(i - 2 * EXAMPLE[14]), 764_421);
+    assert_eq!(of_half_cents(d), 957_027);
+    assert_eq!(of_cents(u), 1_765_500);
+    assert_eq!(of_cents(lt), 904_000);
+    assert_eq!(of_cents(k), 1_517_653);
+}
+
+/// Document 003's two examples, times 1,000: volume and growth together.
+#[test]
+fn examples_of_document_003() {
+    assert_eq!(volume(1, 150_000, 100_000), 4_500);
+    assert_eq!(volume(1, 225_000, 150_000), 6_750);
+}
+
+/// "Calibration points": the whole run's bytes.
+#[test]
+fn whole_run() {
+    assert_eq!(String::from_utf8(run(&whole_run_sheet()).unwrap()).unwrap(), WHOLE_RUN);
+}
+
+/// "What is turned away": the block call's order and places.
+#[test]
+fn refusals_of_the_block_call() {
+    let over = LARGEST_AMOUNT + 1;
+    let mut b = [0; 17];
+    (b[13], b[5]) = (1, 1);
+    assert_eq!(block_call(&b), Err(Refusal::at_position(8, 13)));
+    b[16] = over;
+    assert_eq!(block_call(&b), Err(Refusal::at_position(7, 16)));
+    b[0] = u64::MAX;
+    assert_eq!(block_call(&b), Err(Refusal::at_position(7, 0)));
+    let mut b = [0; 17];
+    (b[5], b[9]) = (1, 1);
+    assert_eq!(block_call(&b), Err(Refusal::at_position(9, 5)));
+    let mut b = [LARGEST_AMOUNT; 17];
+    b[13] = 0;
+    assert!(block_call(&b).is_ok());
+}
+
+/// "What is turned away": the operational call's order and places.
+#[test]
+fn refusals_of_the_operational_call() {
+    let over = LARGEST_AMOUNT + 1;
+    assert_eq!(operational_call(&[], &[0; 3]), Ok(0));
+    assert_eq!(operational_call(&[], &[0, over, over]), Err(Refusal::at_position(7, 1)));
+    assert_eq!(operational_call(&[0; 16], &[0, 0, over]), Err(Refusal::at_position(7, 18)));
+    assert_eq!(operational_call(&[over; 16], &[over; 3]), Err(Refusal::at_position(7, 0)));
+    assert_eq!(operational_call(&[over; 15], &[over; 3]), Err(Refusal::nowhere(15)));
+    assert_eq!(operational_call(&[over; 272], &[over; 3]), Err(Refusal::nowhere(15)));
+    assert_eq!(operational_call(&[0; 257], &[0; 3]), Err(Refusal::nowhere(15)));
+    assert!(operational_call(&[LARGEST_AMOUNT; 256], &[LARGEST_AMOUNT; 3]).is_ok());
+}
+
+/// "Operational risk": a shrinking class isn't netted against a growing one, and the sum is rounded once.
+#[test]
+fn classes_stand_alone() {
+    let mut volumes = [0; 32];
+    (volumes[0], volumes[1]) = (15_000, 10_000);
+    (volumes[2], volumes[3]) = (0, 90_000);
+    (volumes[16], volumes[17]) = (0, 90_000);
+    assert_eq!(operational_call(&volumes, &[0; 3]), Ok(450));
+    // Eight volumes of a cent without growth: 1,000 ten-thousandths, less than a cent.
+    assert_eq!(operational_call(&[1; 16], &[0; 3]), Ok(1));
+    assert_eq!(operational_call(&[0; 16], &[100, 100, 100]), Ok(13));
+}
+
+/// Demand 3 holds for the whole run, and figures that are a little off break it.
+#[test]
+fn demand_3_on_the_whole_run() {
+    let sheet = whole_run_sheet();
+    assert_eq!(demand3(&sheet, WHOLE_RUN.as_bytes()), Ok(()));
+    let other = |from: &str, to: &str| demand3(&sheet, WHOLE_RUN.replacen(from, to, 1).as_bytes());
+    // g is 1 and n is 1: the allowance is 4 cents.
+    assert!(other("163265783", "163265781").is_err());
+    assert_eq!(other("163265783", "163265786"), Ok(()));
+    assert!(other("163265783", "163265787").is_err());
+    assert!(other("163265783", "999999999").is_err());
+    assert!(other("BLK  1  5          151765333", "BLK  1  5          176550001").is_err());
+    assert!(other("BLK  1  5          151765333", "BLK  1  5          140902718").is_err());
+    assert_eq!(other("BLK  1  5          151765333", "BLK  1  5          140902719"), Ok(()));
+    assert!(other("TOT  0  3", "TOT  0  4").is_err());
+    assert!(demand3(&sheet, &WHOLE_RUN.as_bytes()[..203]).is_err());
+}
