@@ -1,17 +1,16 @@
 -- Demand 3 of what the sheet call gives: it follows from the call's outcome and the report's bytes. Assumes nothing.
-use mathlib.Core.Path.{_≡_, refl, sym, ap, _∙_}
-use mathlib.Core.Bool.{Bool, true, false}
-use mathlib.Core.List.{List, [], _∷_, _++_}
+use mathlib.Core.Path.{_≡_, refl}
+use mathlib.Core.Bool.{true}
+use mathlib.Core.List.{List, _++_}
 use Prim.Native.Nat.{ℕ, _-_, _≤_, _<_}
 use native.Mathlib.Omega.{arith}
-use lib.Dec.{ltb, eqb}
-use lib.ListN.{length, getD, drop}
+use lib.ListN.{getD}
 use borrow.Author.Tests.{ltb-true, ltb-false}
-use Rattle.search.specs.Pick.{pick}
+use Rattle.search.proofs.Picks.{by-test}
 use Rattle.refusal.specs.declared.Place.{Place}
 use Rattle.field.specs.declared.Field.the-variants.{Value}
-use Rattle.guideline.specs.Block.{I, D, U, LT, K}
-use Rattle.guideline.specs.Buffer.{Sheet, available, buffer, AcceptedSheet}
+use Rattle.guideline.specs.Block.{D, U, LT, K}
+use Rattle.guideline.specs.Buffer.{available, buffer, AcceptedSheet}
 use Rattle.guideline.proofs.Figures.{k-high, k-twice, figures-fit}
 use Rattle.guideline.proofs.Totals.{totals-fit}
 use Rattle.guideline.proofs.Demand.{buffer-demand}
@@ -19,7 +18,7 @@ use Rattle.report.specs.Line.{linesOf, numberAt}
 use Rattle.lines.specs.declared.Code.the-variants.{Gen}
 use Rattle.lines.specs.declared.Entry.{Entry}
 use Rattle.ledger.specs.Entries.{lookup, markOf, exists, stood, blockOf}
-use Rattle.ledger.specs.Reading.{Reading, reading, entriesOf}
+use Rattle.ledger.specs.Reading.{Reading, reading}
 use Rattle.ledger.specs.Reading.Reading.{whole, stopped}
 use Rattle.ledger.proofs.Places.{All}
 use Rattle.ledger.proofs.Lines.{all-read}
@@ -91,11 +90,6 @@ module _ (es : List Entry) (all : All es) (scalar : 0 < lookup markOf es Gen 0 4
 
 unfoldable Holds : List ℕ → Done → Type 0
 Holds s d = Demand3 s (d .outcome) (d .report)
-
-by-test : (P : Done → Type 0) (t : Bool) (a b : Done) → (t ≡ true → P a) → (t ≡ false → P b) → P (pick t a b)
-unfolding pick
-by-test P true a b h k = h refl
-by-test P false a b h k = k refl
 
 module _ (s r : List ℕ) where
   -- a sheet that is turned away promises nothing

@@ -2,49 +2,34 @@
 use mathlib.Core.Path.{_≡_, refl, sym, ap, _∙_, subst⁻¹}
 use mathlib.Core.Bool.{Bool, true, false, true≢false}
 use mathlib.Core.List.{List, [], _∷_, _++_}
-use Prim.Native.Nat.{ℕ, zero, suc, _+_, _≤_, _<_}
+use Prim.Native.Nat.{ℕ, _+_, _≤_, _<_}
 use native.Mathlib.Omega.{arith}
 use lib.Dec.{eqb}
-use lib.ListN.{length, getD}
 use borrow.Author.Tests.{eqb-true}
-use Rattle.amount.specs.Amount.{limit}
 use Rattle.guideline.specs.Block.{Accepted}
 use Rattle.guideline.specs.Operational.{Amounts}
 use Rattle.guideline.specs.Buffer.{Sheet}
 use Rattle.search.specs.Pick.{pick}
 use Rattle.search.proofs.Picks.{if-true, if-false}
+use Rattle.guideline.proofs.Figures.{accepted-of}
 use Rattle.lines.specs.Codes.{Key}
 use Rattle.lines.specs.declared.Code.{Code}
 use Rattle.lines.specs.declared.Code.the-variants.{Rsk, Oth, Vol, Gen}
 use Rattle.lines.specs.declared.Entry.{Entry}
-use Rattle.ledger.specs.Entries.{lookup, firstOf, secondOf, markOf, ofBlock, exists, general, blockBy, volumesBy, blockOf, volumesOf}
+use Rattle.ledger.specs.Entries.{lookup, firstOf, secondOf, markOf, ofBlock, exists, general, blockOf}
 use Rattle.ledger.specs.Tables.{table, tabled, blockMarked}
 use Rattle.ledger.proofs.Places.{All, length-table}
 use Rattle.ledger.proofs.Numbers.{block-table, volumes-table, general-table}
 use Rattle.ledger.proofs.Marks.{exists-table}
-use Rattle.ledger.proofs.Bounds.{Sound, block-sound, length-volumes, volumes-most, general-most, scalar-within}
+use Rattle.ledger.proofs.Bounds.{block-sound, length-volumes, volumes-most, general-most, scalar-within}
 use Rattle.writing.proofs.Ascents.{ascending-same}
-use Rattle.writing.specs.Rows.{ascending, blockRows}
+use Rattle.writing.specs.Rows.{blockRows}
 use Rattle.aggregate.specs.Sheet.{blocksBy, sheetBy, blockRowsBy, figuresOf, totalsOf, sheetOf, rowsOf}
 use Rattle.aggregate.specs.Parts.{numbersAt, sheetAt, rowsAt, Tables}
 
--- a block's numbers that the lines' rules leave are those of a block that is accepted
-sound-accepted : (ns : List ℕ) → Sound ns → Accepted ns
-sound-accepted ns s =
-    let a = s .amounts in
-    let w = s .trend in
-    record {
-      ir-fits = (a 0, a 2, a 4, a 6, a 8, a 10, a 12);
-      lt-within = (w 0 (omega arith), w 1 (omega arith), w 2 (omega arith), w 3 (omega arith), w 4 (omega arith), w 5 (omega arith), w 6 (omega arith));
-      lt-seven = s .last;
-      pc-fits = a 14;
-      credit-fits = a 15;
-      market-fits = a 16;
-    }
-
 module _ (es : List Entry) (all : All es) where
   pub block-accepted : (b : ℕ) → Accepted (blockOf es b)
-  block-accepted b = sound-accepted (blockOf es b) (block-sound es all b)
+  block-accepted b = let s = block-sound es all b in accepted-of (blockOf es b) (s .amounts) (s .last) (s .trend)
 
   pub amounts-within : Amounts (sheetOf es .volumes) (sheetOf es .general)
   unfolding sheetBy

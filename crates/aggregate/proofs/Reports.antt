@@ -1,6 +1,5 @@
 -- The report as it is written, over the tables: its length, its bytes, and rules 13 and 14 before it. Assumes nothing.
 use mathlib.Core.Path.{_≡_, refl, sym, ap, _∙_}
-use mathlib.Core.Bool.{true}
 use mathlib.Core.List.{List, [], _∷_, _++_}
 use Prim.Native.Nat.{ℕ, _+_, _-_, _*_, _^_, _≤_, _<_}
 use native.Mathlib.Omega.{arith}
@@ -21,7 +20,7 @@ use Rattle.writing.specs.Rows.{blockRows, ascending, totalRows, fiveOf}
 use Rattle.writing.proofs.Ascents.{ascending-same}
 use Rattle.writing.proofs.Lengths.{length-blocks, length-totals}
 use Rattle.aggregate.specs.declared.Worked.{Worked}
-use Rattle.aggregate.specs.Sheet.{blocksBy, sheetBy, blockRowsBy, figuresOf, totalsOf}
+use Rattle.aggregate.specs.Sheet.{blocksBy, sheetBy, blockRowsBy}
 use Rattle.aggregate.specs.Call.{Done, turnedAway, reportLength, rule13, rule14}
 use Rattle.aggregate.specs.Parts.{numbersAt, sheetAt, rowsAt, Tables, WorkedOut}
 use Rattle.aggregate.proofs.Blocks.{count-most, blocks-accepted}

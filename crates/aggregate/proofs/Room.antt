@@ -1,13 +1,12 @@
 -- With room for the longest report, 16 blocks, the sheet call never answers 14. Assumes nothing.
 use mathlib.Core.Path.{_≡_, refl, subst}
-use mathlib.Core.Bool.{Bool, true, false}
 use mathlib.Core.List.{List, [], _∷_}
 use Prim.Native.Nat.{ℕ, zero, suc, _+_, _≤_, _<_}
 use native.Mathlib.Omega.{arith}
 use borrow.Author.Tests.{ltb-true}
 use lib.Dec.{ltb}
 use lib.ListN.{length, take, drop}
-use Rattle.search.specs.Pick.{pick}
+use Rattle.search.proofs.Picks.{by-test}
 use Rattle.refusal.specs.Outcome.{Outcome}
 use Rattle.refusal.specs.Outcome.Outcome.{accepted, refused}
 use Rattle.refusal.specs.declared.Place.{Place}
@@ -29,11 +28,6 @@ use Rattle.aggregate.specs.Sheet.{sheetOf}
 use Rattle.aggregate.specs.Call.{Done, reportLength, rule13, rule14, afterLines, sheetCall}
 use Rattle.aggregate.proofs.Blocks.{count-most}
 
-by-test {ℓ} : {A : Type ℓ} (P : A → Type 0) (t : Bool) (a b : A) → (t ≡ true → P a) → P b → P (pick t a b)
-unfolding pick
-by-test P true a b h k = h refl
-by-test P false a b h k = k
-
 -- ---- the rules of a line are below 14
 
 unfoldable LineBelow : Line → Type 0
@@ -43,10 +37,11 @@ LineBelow (Refused r) = r < 14
 ruled-below : (k : Code) (n : Numbers) → LineBelow (ruledOf k n)
 unfolding LineBelow ruledOf
 ruled-below k n =
-    by-test LineBelow _ _ _ (λ t. omega arith)
-    (by-test LineBelow _ _ _ (λ t. omega arith)
-    (by-test LineBelow _ _ _ (λ t. omega arith)
-    (by-test LineBelow _ _ _ (λ t. omega arith) (by-test LineBelow _ _ _ (λ t. omega arith) tt))))
+    by-test LineBelow _ _ _ (λ t. omega arith) λ t.
+    by-test LineBelow _ _ _ (λ t. omega arith) λ t.
+    by-test LineBelow _ _ _ (λ t. omega arith) λ t.
+    by-test LineBelow _ _ _ (λ t. omega arith) λ t.
+    by-test LineBelow _ _ _ (λ t. omega arith) (λ t. tt)
 
 judged-below : (l : Layout) (c : Coded) → LineBelow (judged l c)
 unfolding LineBelow
@@ -61,7 +56,7 @@ ReadingBelow (stopped es r i) = r < 14
 on-line-below : (l : Line) (i : ℕ) (seen : List Entry) (next : List Entry → Reading) → LineBelow l → ((t : List Entry) → ReadingBelow (next t)) → ReadingBelow (onLine l i seen next)
 unfolding LineBelow ReadingBelow onLine
 on-line-below (Refused r) i seen next h k = h
-on-line-below (Good e) i seen next h k = by-test ReadingBelow _ _ _ (λ t. omega arith) (k (e ∷ seen))
+on-line-below (Good e) i seen next h k = by-test ReadingBelow _ _ _ (λ t. omega arith) (λ t. k (e ∷ seen))
 
 read-below : (n i : ℕ) (s : List ℕ) (seen : List Entry) → ReadingBelow (readFrom n i s seen)
 unfolding ReadingBelow readFrom lineOf
@@ -84,13 +79,18 @@ module _ (s r : List ℕ) (room : 2407 ≤ length r) where
   after-below (stopped es n i) h = λ e. omega arith
   after-below (whole es) h =
       by-test Clear _ _ _
-      (λ t. by-test Clear _ _ _ (λ u e. omega arith)
-      (by-test Clear (ltb (length r) (reportLength (sheetOf es))) _ _ (λ u e. omega (arith, ltb-true (length r) (reportLength (sheetOf es)) u, count-most (exists es) (lookup firstOf es) (lookup secondOf es))) tt))
-      (λ e. omega arith)
+      (λ t.
+      by-test Clear _ _ _ (λ u e. omega arith) λ v.
+      by-test Clear (ltb (length r) (reportLength (sheetOf es))) _ _
+      (λ u e. omega (arith, ltb-true (length r) (reportLength (sheetOf es)) u, count-most (exists es) (lookup firstOf es) (lookup secondOf es)))
+      (λ u. tt))
+      (λ t e. omega arith)
 
   clear : Clear (sheetCall s r)
   unfolding Not14 sheetCall
-  clear = by-test Clear _ _ _ (λ t e. omega arith) (by-test Clear _ _ _ (λ t. after-below (reading s) (read-below _ 1 s [])) (λ e. omega arith))
+  clear =
+      by-test Clear _ _ _ (λ t e. omega arith) λ t.
+      by-test Clear _ _ _ (λ u. after-below (reading s) (read-below _ 1 s [])) (λ u e. omega arith)
 
   pub never-14 : (p : Place) → sheetCall s r .outcome ≡ refused 14 p → ⊥
   unfolding Not14

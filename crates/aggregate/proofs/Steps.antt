@@ -13,10 +13,10 @@ use Rattle.refusal.specs.declared.Place.{Place}
 use Rattle.refusal.specs.declared.Place.the-variants as place
 use Rattle.lines.specs.declared.Code.the-variants.{Gen}
 use Rattle.lines.specs.declared.Entry.{Entry}
-use Rattle.ledger.specs.Entries.{firstOf, secondOf, markOf, stood}
+use Rattle.ledger.specs.Entries.{stood}
 use Rattle.ledger.specs.Reading.{Reading, reading, entriesOf, outcomeOf, stated}
 use Rattle.ledger.specs.Reading.Reading.{whole, stopped}
-use Rattle.ledger.specs.Tables.{table, tabled, Filled}
+use Rattle.ledger.specs.Tables.{tabled, Filled}
 use Rattle.ledger.specs.declared.Answer.{Answer}
 use Rattle.ledger.specs.declared.Answer.the-variants as answer
 use Rattle.ledger.proofs.Lines.{all-read}

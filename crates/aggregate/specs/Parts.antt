@@ -3,10 +3,9 @@
 use mathlib.Core.Path.{_≡_}
 use mathlib.Core.Bool.{Bool, true}
 use mathlib.Core.List.{List, [], _∷_, _++_}
-use Prim.Native.Nat.{ℕ, _+_, _-_, _*_, _≤_}
+use Prim.Native.Nat.{ℕ, _+_, _-_, _≤_}
 use lib.ListN.{length, set}
-use Rattle.search.specs.Pick.{pick}
-use Rattle.guideline.specs.Block.{Accepted, K}
+use Rattle.guideline.specs.Block.{Accepted}
 use Rattle.guideline.specs.Operational.{Amounts}
 use Rattle.guideline.specs.Buffer.{Sheet, sumK}
 use Rattle.report.specs.Line.{Row}

@@ -9,7 +9,7 @@ use lib.Dec.{ltb}
 use borrow.Author.Tests.{ltb-false}
 use lib.ListN.{length, getD, length-append, List·getD-eq-default, List·getD-append}
 use lib.Seq.{getD-append-add}
-use Rattle.search.proofs.Firsts.{Found, found-from, found-unique, none-passes}
+use Rattle.search.proofs.Firsts.{found-from, found-unique, none-passes}
 use Rattle.amount.specs.Amount.{limit, above, firstAbove}
 
 -- where no amount is above the limit, none is

@@ -1,12 +1,11 @@
 -- The numerator of K as the code makes it. Assumes nothing.
-use mathlib.Core.Path.{_≡_, sym, ap, _∙_}
+use mathlib.Core.Path.{_≡_, sym, _∙_}
 use mathlib.Core.List.{List}
 use Prim.Native.Nat.{ℕ, _+_, _-_, _*_, _^_, _≤_, _<_}
 use native.Mathlib.Nat.{mul-assoc, mul-le-mul, mul-le-mul-left, lt-of-le-of-lt}
 use native.Mathlib.Omega.{arith}
 use lib.Dec.{leb, lit<}
 use Rattle.search.specs.Least.{least}
-use Rattle.amount.specs.Amount.{limit}
 use Rattle.guideline.specs.Block.{Accepted, U, LT, Vh, D, K, kTop, requirement}
 use Rattle.guideline.proofs.Bounds.{factored, u-passes}
 use Rattle.guideline.proofs.Figures.{requirement-some, v-is, u-high, u-fits, d-high, d-third}

@@ -1,27 +1,18 @@
 -- The radicands of I and D as the code makes them, and the room that they leave. Assumes nothing.
-use mathlib.Core.Path.{_≡_, refl, sym, ap, _∙_}
-use mathlib.Core.List.{List, [], _∷_}
-use Prim.Native.Nat.{ℕ, zero, suc, max, _+_, _*_, _/_, _^_, _≤_, _<_}
+use mathlib.Core.Path.{_≡_, sym, ap, _∙_}
+use mathlib.Core.List.{List}
+use Prim.Native.Nat.{ℕ, _+_, _*_, _/_, _^_, _≤_, _<_}
 use native.Mathlib.Nat.{mul-le-mul, lt-of-le-of-lt}
 use native.Mathlib.Omega.{arith}
 use lib.Dec.{leb, lit<}
 use lib.ListN.{getD}
 use lib.IntN.{ℤ, pos}
 use Rattle.search.specs.Least.{least}
+use Rattle.search.proofs.AtMost.{at-most-at}
 use Rattle.guideline.specs.Factors.{quarterSum}
 use Rattle.guideline.specs.Block.{Accepted, PC, A, Vh, seven, y, ys, Q4, largest, root, I, a, D}
 use Rattle.guideline.proofs.Figures.{q, q-is, q-most, y-fits, v-is, u-fits, v-sum, i-high, root-is}
 use Rattle.block.specs.Parts.{largestOf}
-
--- each number of a list is at most m
-abbrev AtMost : ℕ → List ℕ → Type 0
-AtMost m [] = Unit {0}
-AtMost m (x ∷ xs) = (x ≤ m) × AtMost m xs
-
-at-most : (m : ℕ) (l : List ℕ) → AtMost m l → (i : ℕ) → getD l i 0 ≤ m
-at-most m [] h i = omega arith
-at-most m (x ∷ xs) h zero = h .0
-at-most m (x ∷ xs) h (suc i) = at-most m xs (h .1) i
 
 -- ---- D
 
@@ -45,7 +36,7 @@ module _ (b : List ℕ) (h : Accepted b) where
   unfolding ys
   ys-fit i =
       let f = y-fits b h in
-      at-most 200000000000000 (ys b) (omega arith, (omega arith, (omega arith, (omega arith, (omega arith, (omega arith, (omega arith, tt))))))) i
+      at-most-at 200000000000000 (ys b) (omega arith, (omega arith, (omega arith, (omega arith, (omega arith, (omega arith, (omega arith, tt))))))) i
 
   v-small : Vh b ≤ 1999999999999980
   v-small = omega (arith, v-is b h, u-fits b h)

@@ -3,7 +3,7 @@ use mathlib.Core.Path.{_≡_, sym, ap, _∙_}
 use mathlib.Core.List.{List, [], _∷_}
 use Prim.Native.Nat.{ℕ, _+_, _*_, _≤_, _<_}
 use native.Mathlib.Omega.{arith}
-use lib.ListN.{length, getD}
+use lib.ListN.{length}
 use borrow.Author.Tests.{ltb-false}
 use Rattle.search.proofs.Picks.{if-lt, if-ge, if-eq, if-ne}
 use Rattle.search.proofs.Firsts.{none-passes}
@@ -12,6 +12,7 @@ use Rattle.refusal.specs.declared.Place.the-variants.{Position}
 use Rattle.amount.specs.Amount.{firstAbove}
 use Rattle.amount.proofs.Amounts.{none-above}
 use Rattle.guideline.specs.Block.{Accepted, lt, I, D, U, LT, K}
+use Rattle.guideline.proofs.Figures.{accepted-of}
 use Rattle.block.specs.Call.{ltAbove, firstLtAbove, rule9, rule8, blockCall}
 
 module _ (b : List ℕ) (long : length b ≡ 17) where
@@ -51,14 +52,4 @@ module _ (b : List ℕ) (long : length b ≡ 17) where
 
       pub acceptable : 7 ≤ s → Accepted b
       unfolding firstLtAbove
-      acceptable k =
-          let a = none-above b (omega arith) in
-          let w : (i : ℕ) → i < 7 → getD b (2 * i + 1) 0 ≤ getD b (2 * i) 0 = λ i l. ltb-false _ _ (none-passes (ltAbove b) 7 (omega arith) i l) in
-          record {
-            ir-fits = (a 0, a 2, a 4, a 6, a 8, a 10, a 12);
-            lt-within = (w 0 (omega arith), w 1 (omega arith), w 2 (omega arith), w 3 (omega arith), w 4 (omega arith), w 5 (omega arith), w 6 (omega arith));
-            lt-seven = z;
-            pc-fits = a 14;
-            credit-fits = a 15;
-            market-fits = a 16;
-          }
+      acceptable k = accepted-of b (none-above b (omega arith)) z (λ i l. ltb-false _ _ (none-passes (ltAbove b) 7 (omega arith) i l))

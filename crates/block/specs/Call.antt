@@ -12,7 +12,6 @@ use Rattle.refusal.specs.Outcome.{Outcome}
 use Rattle.refusal.specs.Outcome.Outcome.{accepted, refused}
 use Rattle.refusal.specs.declared.Place.the-variants.{Position}
 use Rattle.guideline.specs.Block.{lt, I, D, U, LT, K}
-use Rattle.block.specs.declared.Figures.{Figures}
 use Rattle.block.specs.declared.BlockAnswer.{BlockAnswer}
 use Rattle.block.specs.declared.BlockAnswer.the-variants.{Accepted, Refused}
 

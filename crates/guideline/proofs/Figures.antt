@@ -19,6 +19,19 @@ use Rattle.guideline.proofs.Sums.{sum}
 use Rattle.guideline.proofs.Table.{form, form-least, form-most, quarter-form, quarter-natural}
 use Rattle.guideline.proofs.Bounds.{le-of-sq, radicand, radicand-most, root-thrice, m-rises, k-least, u-passes}
 
+-- ---- a block that is accepted, by its 17 numbers
+
+pub accepted-of : (b : List ℕ) → ((k : ℕ) → getD b k 0 ≤ limit) → getD b 13 0 ≡ 0 → ((i : ℕ) → i < 7 → getD b (2 * i + 1) 0 ≤ getD b (2 * i) 0) → Accepted b
+accepted-of b a z w =
+    record {
+      ir-fits = (a 0, a 2, a 4, a 6, a 8, a 10, a 12);
+      lt-within = (w 0 (omega arith), w 1 (omega arith), w 2 (omega arith), w 3 (omega arith), w 4 (omega arith), w 5 (omega arith), w 6 (omega arith));
+      lt-seven = z;
+      pc-fits = a 14;
+      credit-fits = a 15;
+      market-fits = a 16;
+    }
+
 -- ---- Q and its root
 
 -- four times Q, as a natural

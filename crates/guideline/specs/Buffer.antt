@@ -6,7 +6,6 @@ use native.Mathlib.Omega.{arith}
 use lib.Dec.{leb}
 use lib.ListN.{length, getD}
 use Rattle.search.specs.Least.{least}
-use Rattle.amount.specs.Amount.{limit}
 use Rattle.guideline.specs.Block.{Accepted, K}
 use Rattle.guideline.specs.Operational.{Amounts, operationalTop, RO}
 use Rattle.guideline.specs.Fraction.{Fraction, _<ᶠ_, whole}

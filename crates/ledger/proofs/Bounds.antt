@@ -9,7 +9,9 @@ use lib.Dec.{eqb}
 use lib.ListN.{length, getD, length-append}
 use lib.Seq.{append-snoc, getD-append-seam, getD-append-add}
 use borrow.Author.Tests.{eqb-true}
+use Rattle.amount.specs.Amount.{limit}
 use Rattle.search.specs.Pick.{pick}
+use Rattle.search.proofs.AtMost.{AtMost, at-most-append, at-most-at}
 use Rattle.lines.specs.declared.Code.{Code}
 use Rattle.lines.specs.declared.Code.the-variants.{Rsk, Oth, Vol, Gen}
 use Rattle.lines.specs.declared.Entry.{Entry}
@@ -47,11 +49,11 @@ module _ (R : ℕ → ℕ → ℕ → Type 0) (k : Code) (b c : ℕ) (none : R 0
       go false q r = r
 
 module _ (es : List Entry) (all : All es) where
-  first-most : (k : Code) (b c : ℕ) → lookup firstOf es k b c ≤ 99999999999999
-  first-most k b c = looked-up (λ f s m. f ≤ 99999999999999) k b c (omega arith) (λ f s a. a .first-most) es all
+  first-most : (k : Code) (b c : ℕ) → lookup firstOf es k b c ≤ limit
+  first-most k b c = looked-up (λ f s m. f ≤ limit) k b c (omega arith) (λ f s a. a .first-most) es all
 
-  second-most : (k : Code) (b c : ℕ) → lookup secondOf es k b c ≤ 99999999999999
-  second-most k b c = looked-up (λ f s m. s ≤ 99999999999999) k b c (omega arith) (λ f s a. a .second-most) es all
+  second-most : (k : Code) (b c : ℕ) → lookup secondOf es k b c ≤ limit
+  second-most k b c = looked-up (λ f s m. s ≤ limit) k b c (omega arith) (λ f s a. a .second-most) es all
 
   trend-most : (b c : ℕ) → lookup secondOf es Rsk b c ≤ lookup firstOf es Rsk b c
   trend-most b c = looked-up (λ f s m. s ≤ f) Rsk b c (omega arith) (λ f s a. a .trend refl) es all
@@ -63,23 +65,10 @@ module _ (es : List Entry) (all : All es) where
   pub scalar-within : 0 < lookup markOf es Gen 0 4 → (1 ≤ general es 4) × (general es 4 ≤ 20000)
   scalar-within = looked-up (λ f s m. 0 < m → (1 ≤ f) × (f ≤ 20000)) Gen 0 4 (λ h. absurd (omega arith)) (λ f s a h. a .scalar refl refl) es all
 
-  pub general-most : (c : ℕ) → general es c ≤ 99999999999999
+  pub general-most : (c : ℕ) → general es c ≤ limit
   general-most c = first-most Gen 0 c
 
 -- ---- the numbers of a list
-
-abbrev Every : List ℕ → Type 0
-Every [] = Unit {0}
-Every (x ∷ xs) = (x ≤ 99999999999999) × Every xs
-
-every-append : (xs ys : List ℕ) → Every xs → Every ys → Every (xs ++ ys)
-every-append [] ys p q = q
-every-append (x ∷ xs) ys p q = (p .0, every-append xs ys (p .1) q)
-
-every-at : (xs : List ℕ) → Every xs → (k : ℕ) → getD xs k 0 ≤ 99999999999999
-every-at [] p k = omega arith
-every-at (x ∷ xs) p zero = p .0
-every-at (x ∷ xs) p (suc k) = every-at xs (p .1) k
 
 module _ (f g : ℕ → ℕ) where
   length-pairs : (n : ℕ) → length (pairs f g n) ≡ 2 * n
@@ -87,10 +76,10 @@ module _ (f g : ℕ → ℕ) where
   length-pairs zero = refl
   length-pairs (suc n) = simp (length-append, length-pairs n) (omega arith)
 
-  every-pairs : (n : ℕ) → ((i : ℕ) → f i ≤ 99999999999999) → ((i : ℕ) → g i ≤ 99999999999999) → Every (pairs f g n)
+  pairs-most : (n : ℕ) → ((i : ℕ) → f i ≤ limit) → ((i : ℕ) → g i ≤ limit) → AtMost limit (pairs f g n)
   unfolding pairs
-  every-pairs zero p q = tt
-  every-pairs (suc n) p q = every-append (pairs f g n ++ (f n ∷ [])) (g n ∷ []) (every-append (pairs f g n) (f n ∷ []) (every-pairs n p q) (p n, tt)) (q n, tt)
+  pairs-most zero p q = tt
+  pairs-most (suc n) p q = at-most-append limit (pairs f g n ++ (f n ∷ [])) (g n ∷ []) (at-most-append limit (pairs f g n) (f n ∷ []) (pairs-most n p q) (p n, tt)) (q n, tt)
 
   pairs-more : (n : ℕ) (t : List ℕ) → pairs f g (suc n) ++ t ≡ pairs f g n ++ (f n ∷ g n ∷ t)
   unfolding pairs
@@ -110,7 +99,7 @@ module _ (f g : ℕ → ℕ) where
 -- the 17 numbers of a block as the block call wants them
 pub record Sound (ns : List ℕ) : Type 0 where
   pub long : length ns ≡ 17
-  pub amounts : (k : ℕ) → getD ns k 0 ≤ 99999999999999
+  pub amounts : (k : ℕ) → getD ns k 0 ≤ limit
   pub last : getD ns 13 0 ≡ 0
   pub trend : (i : ℕ) → i < 7 → getD ns (2 * i + 1) 0 ≤ getD ns (2 * i) 0
 
@@ -125,9 +114,9 @@ module _ (es : List Entry) (all : All es) where
   block-sound b =
       record {
         long = simp (length-append, length-pairs);
-        amounts = every-at (blockOf es b) (every-append (pairs (λ i. lookup firstOf es Rsk b (i + 1)) (λ i. lookup secondOf es Rsk b (i + 1)) 7)
+        amounts = at-most-at limit (blockOf es b) (at-most-append limit (pairs (λ i. lookup firstOf es Rsk b (i + 1)) (λ i. lookup secondOf es Rsk b (i + 1)) 7)
             (lookup firstOf es Oth b 1 ∷ lookup firstOf es Oth b 2 ∷ lookup firstOf es Oth b 3 ∷ [])
-            (every-pairs _ _ 7 (λ i. first-most es all Rsk b (i + 1)) (λ i. second-most es all Rsk b (i + 1)))
+            (pairs-most _ _ 7 (λ i. first-most es all Rsk b (i + 1)) (λ i. second-most es all Rsk b (i + 1)))
             (first-most es all Oth b 1, (first-most es all Oth b 2, (first-most es all Oth b 3, tt))));
         last = risks b 6 (omega arith) .1 ∙ trend-none es all b;
         trend = λ i h. rw (risks b i h .0, risks b i h .1) (trend-most es all b (i + 1));
@@ -137,6 +126,6 @@ module _ (es : List Entry) (all : All es) where
   unfolding volumesBy
   length-volumes = length-pairs _ _ 128
 
-  pub volumes-most : (k : ℕ) → getD (volumesOf es) k 0 ≤ 99999999999999
+  pub volumes-most : (k : ℕ) → getD (volumesOf es) k 0 ≤ limit
   unfolding volumesBy
-  volumes-most = every-at (volumesOf es) (every-pairs _ _ 128 (λ i. first-most es all Vol (i / 8 + 1) (i % 8 + 1)) (λ i. second-most es all Vol (i / 8 + 1) (i % 8 + 1)))
+  volumes-most = at-most-at limit (volumesOf es) (pairs-most _ _ 128 (λ i. first-most es all Vol (i / 8 + 1) (i % 8 + 1)) (λ i. second-most es all Vol (i / 8 + 1) (i % 8 + 1)))

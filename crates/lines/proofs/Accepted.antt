@@ -8,6 +8,7 @@ use lib.Dec.{ltb}
 use lib.ListN.{length, take, drop, length-drop}
 use lib.Seq.{length-take-le}
 use borrow.Author.Tests.{ltb-false, eqb-true, not-false}
+use Rattle.amount.specs.Amount.{limit}
 use Rattle.search.specs.Pick.{pick}
 use Rattle.search.proofs.Picks.{if-true, if-false, if-eq}
 use Rattle.field.specs.Field.{field}
@@ -29,8 +30,8 @@ use Rattle.lines.specs.declared.Line.the-variants.{Good, Refused}
 
 -- the amounts that a code and a class let pass
 pub record Amounts (k : Code) (c first second : ℕ) : Type 0 where
-  pub first-most : first ≤ 99999999999999
-  pub second-most : second ≤ 99999999999999
+  pub first-most : first ≤ limit
+  pub second-most : second ≤ limit
   pub single : singleOf k c ≡ true → second ≡ 0
   pub trend : k ≡ Rsk → second ≤ first
   pub scalar : k ≡ Gen → c ≡ 4 → (1 ≤ first) × (first ≤ 20000)
@@ -80,7 +81,7 @@ scalar-of c first q e =
     let u = neither (ltb first 1) (ltb 20000 first) (sym (if-eq _ e) ∙ q) in
     (ltb-false _ _ (u .one), ltb-false _ _ (u .two))
 
-module _ (k : Code) (n : Numbers) (a : n .first ≤ 99999999999999) (b : n .second ≤ 99999999999999) where
+module _ (k : Code) (n : Numbers) (a : n .first ≤ limit) (b : n .second ≤ limit) where
   ruled-good : (e : Entry) → ruledOf k n ≡ Good e → Ranged e
   unfolding ruledOf
   ruled-good e q =
@@ -121,7 +122,7 @@ fields-read (Value x) Bad f g n q = broken-sound refl q
 fields-read Bad c f g n q = broken-sound refl q
 
 -- an amount has 14 columns
-amount-most : (s : List ℕ) (k r : ℕ) → k + 14 ≤ length s → field (take 14 (drop k s)) ≡ Value r → r ≤ 99999999999999
+amount-most : (s : List ℕ) (k r : ℕ) → k + 14 ≤ length s → field (take 14 (drop k s)) ≡ Value r → r ≤ limit
 amount-most s k r h q =
     let l : length (take 14 (drop k s)) ≡ 14 = length-take-le 14 (drop k s) (rw length-drop (omega arith)) in
     let b : r < 10 ^ 14 = rw l at (field-bound _ r q) in

@@ -5,7 +5,7 @@ ghost use lib.Dec.{leb};
 ghost use lib.ListN.{length, getD};
 ghost use Rattle.search.specs.Least.{least};
 ghost use Rattle.amount.specs.Amount.{limit};
-ghost use Rattle.guideline.specs.Operational.{Amounts, volume, growth, general, operationalTop, RO};
+ghost use Rattle.guideline.specs.Operational.{Amounts, volume, growth, general, RO};
 ghost use Rattle.operational.specs.Call.{stated, operationalCall};
 use refusal::Place;
 

@@ -2,7 +2,7 @@
 use mathlib.Core.Path.{_≡_, refl, sym, _∙_}
 use mathlib.Core.Bool.{Bool, true, false}
 use mathlib.Core.List.{List, [], _∷_, _++_, append-assoc, List-discrete}
-use Prim.Native.Nat.{ℕ, suc, _+_, _*_, _/_, _^_, _<_}
+use Prim.Native.Nat.{ℕ, suc, _+_, _/_, _^_, _<_}
 use native.Mathlib.Decide.{ℕ-discrete}
 use native.Mathlib.Omega.{arith}
 use lib.Dec.{eqb}
@@ -132,8 +132,3 @@ pub lines-append : (rs ss : List Row) → linesOf (rs ++ ss) ≡ linesOf rs ++ l
 unfolding linesOf
 lines-append [] ss = refl
 lines-append (r ∷ rs) ss = rw (lines-append rs ss, append-assoc)
-
-pub length-lines : (rs : List Row) → AllPrintable rs → length (linesOf rs) ≡ 29 * length rs
-unfolding linesOf
-length-lines [] p = refl
-length-lines (r ∷ rs) p = rw (length-append, length-line (r .code) (r .block) (r .item) (r .number) (p .0 .code), length-lines rs (p .1)) (omega arith)

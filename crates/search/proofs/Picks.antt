@@ -1,9 +1,9 @@
 -- A choice by a test, by the fact that a branch of the code gives. Assumes nothing.
-use mathlib.Core.Path.{_≡_}
+use mathlib.Core.Path.{_≡_, refl}
 use mathlib.Core.Bool.{Bool, true, false}
 use Prim.Native.Nat.{ℕ, _≤_, _<_}
-use lib.Dec.{ltb, leb, eqb}
-use borrow.Author.Tests.{lt-ltb, le-ltb, le-leb, lt-leb, eq-eqb, ne-eqb}
+use lib.Dec.{ltb, eqb}
+use borrow.Author.Tests.{lt-ltb, le-ltb, eq-eqb, ne-eqb}
 use Rattle.search.specs.Pick.{pick}
 
 module _ {ℓ} {A : Type ℓ} where
@@ -26,3 +26,9 @@ module _ {ℓ} {A : Type ℓ} where
 
   pub if-ge : (x : A) {y : A} {a b : ℕ} → b ≤ a → pick (ltb a b) x y ≡ y
   if-ge x e = if-false x (le-ltb _ _ e)
+
+  -- what holds of each side where its test does holds of the choice
+  pub by-test : (P : A → Type 0) (t : Bool) (a b : A) → (t ≡ true → P a) → (t ≡ false → P b) → P (pick t a b)
+  unfolding pick
+  by-test P true a b h k = h refl
+  by-test P false a b h k = k refl

@@ -116,7 +116,10 @@ pub fn radicand(s: Sum) -> Wide
     ensures { λ r. ⌜ pos (value r) ≡ held s ⌝ }
 {
     let size = s.size;
-    size
+    Wide {
+        high: size.high,
+        low: size.low,
+    }
 }
 
 // The difference of a and b, which is at most a.

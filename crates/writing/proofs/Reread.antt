@@ -147,14 +147,6 @@ module _ (there : ℕ → Bool) (f : ℕ → List ℕ) (sum ro buffer : ℕ) (re
   total : (i : ℕ) → i < 100 → numberAt (linesOf rows ++ rest) TOT 0 i ≡ numberOf (totalRows sum ro buffer) TOT 0 i (numberAt rest TOT 0 i)
   total i h = reads TOT 0 i refl (omega arith) h ∙ passed there f TOT 0 i 16 (λ b p. totals-pass b i (f b)) _
 
-  pub sum-read : numberAt (linesOf rows ++ rest) TOT 0 1 ≡ Value sum
-  unfolding numberOf rowIs same pick totalRows
-  sum-read = total 1 (omega arith)
-
-  pub ro-read : numberAt (linesOf rows ++ rest) TOT 0 2 ≡ Value ro
-  unfolding numberOf rowIs same pick totalRows
-  ro-read = total 2 (omega arith)
-
   pub buffer-read : numberAt (linesOf rows ++ rest) TOT 0 3 ≡ Value buffer
   unfolding numberOf rowIs same pick totalRows
   buffer-read = total 3 (omega arith)

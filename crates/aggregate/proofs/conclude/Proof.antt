@@ -1,5 +1,5 @@
 -- `aggregate::conclude` meets its contract. Assumes nothing.
-use mathlib.Core.Path.{_≡_, sym, ap, _∙_}
+use mathlib.Core.Path.{_≡_, ap}
 use mathlib.Core.List.{List}
 use Prim.Native.Nat.{ℕ, _+_, _-_, _*_, _≤_, _<_}
 use native.Mathlib.Omega.{arith}
@@ -7,10 +7,9 @@ use borrow.Author.Needs.{needs}
 use lib.ListN.{length}
 use Rattle.guideline.specs.Buffer.{Sheet, sumK, count, available, buffer}
 use Rattle.guideline.specs.Operational.{RO}
-use Rattle.ledger.specs.Tables.{blockMarked}
 use Rattle.aggregate.specs.Sheet.{sheetBy}
 use Rattle.aggregate.specs.Call.{reportLength}
-use Rattle.aggregate.specs.Parts.{numbersAt, sheetAt, Tables, WorkedOut}
+use Rattle.aggregate.specs.Parts.{sheetAt}
 use Rattle.aggregate.proofs.Reports.{credits-above, report-short, reported, count-is, sum-is, rows-long, bytes, available-is, available-small, buffer-is}
 use Rattle.aggregate.proofs.Blocks.{count-most}
 use Rattle.aggregate.proofs.conclude.Statement.{statement}

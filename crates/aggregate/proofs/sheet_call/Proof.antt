@@ -1,7 +1,5 @@
 -- `aggregate::sheet_call` meets its contract, demand 3 with it. Assumes nothing.
-use mathlib.Core.Path.{_≡_, refl, sym, _∙_}
-use mathlib.Core.Bool.{true, false}
-use Prim.Native.Nat.{ℕ}
+use mathlib.Core.Path.{refl}
 use borrow.Author.Needs.{needs}
 use borrow.Author.Tests.{not-true, not-false}
 use Rattle.ledger.specs.Tables.{table}

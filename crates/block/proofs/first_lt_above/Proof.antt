@@ -1,7 +1,6 @@
 -- `block::first_lt_above` meets its contract: a loop that stands at pair i has yet to look at the rest. Assumes nothing.
 use mathlib.Core.Path.{sym}
 use Prim.Native.Nat.{_-_}
-use native.Mathlib.Omega.{arith}
 use borrow.Author.Needs.{needs}
 use borrow.Author.Tests.{lt-ltb, le-ltb}
 use Rattle.search.proofs.Firsts.{Sought, sought-start, sought-more, sought-found, sought-none}

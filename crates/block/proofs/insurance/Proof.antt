@@ -1,7 +1,7 @@
 -- `block::insurance` meets its contract. Assumes nothing.
 use mathlib.Core.Path.{_≡_, sym, ap, _∙_, subst}
 use mathlib.Core.List.{List}
-use Prim.Native.Nat.{ℕ, max, _+_, _*_, _/_, _≤_, _<_}
+use Prim.Native.Nat.{ℕ, max, _+_, _*_, _/_, _≤_}
 use native.Mathlib.Omega.{arith}
 use borrow.Author.Needs.{needs}
 use lib.ListN.{getD}

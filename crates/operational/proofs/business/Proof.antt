@@ -4,7 +4,7 @@ use Prim.Native.Nat.{ℕ, _+_, _-_, _*_, _/_, _≤_}
 use native.Mathlib.Omega.{arith}
 use borrow.Author.Needs.{needs}
 use lib.ListN.{length}
-use Rattle.guideline.specs.Operational.{factorOf, current, prior}
+use Rattle.guideline.specs.Operational.{current, prior}
 use Rattle.guideline.proofs.Charges.{charged, charged-none, charged-all, charged-more, charged-fits, factor-most}
 use Rattle.operational.proofs.business.Statement.{statement}
 use Rattle.operational.proofs.business.Tie as tie

@@ -1,8 +1,7 @@
 -- `operational::operational` meets its contract: the sum fits a word. Assumes nothing.
-use mathlib.Core.Path.{_≡_, sym, ap, _∙_}
-use Prim.Native.Nat.{ℕ, _+_, _*_}
+use mathlib.Core.Path.{_∙_}
+use Prim.Native.Nat.{_+_, _*_}
 use native.Mathlib.Omega.{arith}
-use borrow.Author.Needs.{needs}
 use lib.Dec.{leb}
 use Rattle.search.specs.Least.{least}
 use Rattle.guideline.specs.Operational.{RO, operationalTop}
