@@ -4,5 +4,5 @@ pub mod WorkedOut
 pub mod Entries
 pub mod Reports
 pub mod Accuracy
-pub mod Room
+pub mod Numbered
 pub mod Steps
