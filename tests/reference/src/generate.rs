@@ -1,5 +1,5 @@
-//! A seeded generator of sheets, sound and damaged, and of rooms for their reports. The same seed and index always give
-//! the same case.
+//! A seeded generator of sheets, sound and damaged, and of rooms for their reports; and of numbers for the other two calls.
+//! The same seed and index always give the same case.
 
 use crate::sheet::read_sheet;
 use crate::*;
@@ -16,6 +16,92 @@ pub fn case(seed: u64, index: u64) -> (Vec<u8>, usize) {
 /// Sheet `index` of `seed`, one that is accepted.
 pub fn accepted(seed: u64, index: u64) -> Vec<u8> {
     bytes(&sound_lines(&mut Random::new(seed, index)))
+}
+
+/// The numbers of block call `index` of `seed`: sound, with faults, or of any size.
+pub fn block_numbers(seed: u64, index: u64) -> [u64; 17] {
+    let mut random = Random::new(seed, index);
+    if random.one_in(16) {
+        return std::array::from_fn(|_| any_size(&mut random));
+    }
+    let (style, density) = (random.below(STYLES + 1), random.from(1, 8));
+    let mut numbers = [0; 17];
+    for risk in 0..7 {
+        if random.below(8) < density {
+            let ir = amount(&mut random, style);
+            numbers[2 * risk] = ir;
+            numbers[2 * risk + 1] = if risk == 6 { 0 } else { level_and_trend(&mut random, ir) };
+        }
+    }
+    for position in 14..17 {
+        if random.below(8) < density && random.one_in(2) {
+            numbers[position] = amount(&mut random, style);
+        }
+    }
+    for _ in 0..random.pick(&[0, 0, 0, 1, 1, 2]) {
+        match random.below(4) {
+            // 7
+            0 => numbers[random.at(17)] = too_large(&mut random),
+            // 8
+            1 => numbers[13] = some_amount(&mut random),
+            // 9, or 7 where IR is the largest amount
+            _ => {
+                let risk = random.at(6);
+                numbers[2 * risk + 1] = numbers[2 * risk].saturating_add(random.pick(&[1, 1, 2, 1_000]));
+            }
+        }
+    }
+    numbers
+}
+
+/// The volumes and the general figures of operational call `index` of `seed`: sound, with faults, or of any size.
+pub fn operational_numbers(seed: u64, index: u64) -> (Vec<u64>, [u64; 3]) {
+    let mut random = Random::new(seed, index);
+    let any = random.from(0, 16);
+    let territories = random.pick(&[0, 1, 1, 2, 16, any, any]);
+    let (style, density) = (random.below(STYLES + 1), random.from(1, 8));
+    let mut list = Vec::new();
+    for _ in 0..8 * territories {
+        let (current, prior) = if random.below(8) < density { volumes(&mut random, style) } else { (0, 0) };
+        list.extend([current, prior]);
+    }
+    let mut general = [0; 3].map(|_: u64| amount(&mut random, style));
+
+    let faults = random.pick(&[0, 0, 0, 1, 1, 2]);
+    for _ in 0..faults {
+        match random.below(4) {
+            // 15: longer by some numbers or by territories, shorter, or of any length
+            0 => {
+                let any = random.at(600);
+                let length =
+                    random.pick(&[list.len() + 1, list.len() + 15, list.len().saturating_sub(1), any, 257, 272]);
+                let number = amount(&mut random, style);
+                list.resize(length, number);
+            }
+            // 7, in either list
+            1 | 2 => {
+                let position = random.at(list.len() + 3);
+                let number = too_large(&mut random);
+                match list.len() {
+                    length if position >= length => general[position - length] = number,
+                    _ => list[position] = number,
+                }
+            }
+            _ => list.iter_mut().chain(&mut general).for_each(|number| *number = any_size(&mut random)),
+        }
+    }
+    (list, general)
+}
+
+/// Numbers above the limit: by one, by little, by a bit, the largest of all.
+fn too_large(random: &mut Random) -> u64 {
+    let any = random.from(LARGEST_AMOUNT + 1, u64::MAX);
+    random.pick(&[LARGEST_AMOUNT + 1, LARGEST_AMOUNT + 2, 1 << 47, 1 << 63, u64::MAX - 1, u64::MAX, any])
+}
+
+/// A number of any length in bits.
+fn any_size(random: &mut Random) -> u64 {
+    random.next() >> random.below(64)
 }
 
 /// The splitmix64 generator.

@@ -1,6 +1,6 @@
 //! Generated sheets.
 
-use reference::generate::{accepted, case};
+use reference::generate::{accepted, block_numbers, case, operational_numbers};
 use reference::*;
 use std::collections::{BTreeMap, BTreeSet};
 
@@ -67,11 +67,36 @@ fn cases_reach_every_row() {
     assert!(counts.values().all(|&count| count >= 100), "{counts:?}");
 }
 
+/// The numbers of the other two calls reach every row that these can give, and 7 at positions of every size.
+#[test]
+fn numbers_reach_every_row() {
+    let mut positions = BTreeSet::new();
+    let mut counts = [BTreeMap::new(), BTreeMap::new()];
+    for index in 0..20_000 {
+        let (volumes, general) = operational_numbers(5, index);
+        let operational = operational_call(&volumes, &general).map(|_| ());
+        for (call, answer) in [block_call(&block_numbers(5, index)).map(|_| ()), operational].iter().enumerate() {
+            let number = answer.map_or_else(|refusal| refusal.number, |_| 0);
+            *counts[call].entry(number).or_insert(0) += 1;
+            if let Err(Refusal { number: 7, place: Place::Position(position) }) = answer {
+                positions.insert((call, *position));
+            }
+        }
+    }
+    println!("answers of the block call and of the operational call, 0 for accepted: {counts:?}");
+    assert!(counts[0].keys().eq(&[0, 7, 8, 9]) && counts[1].keys().eq(&[0, 7, 15]));
+    assert!(counts.iter().flat_map(BTreeMap::values).all(|&count| count >= 100), "{counts:?}");
+    assert!((0..17).all(|position| positions.contains(&(0, position))));
+    assert!(positions.len() >= 17 + 200, "{positions:?}");
+}
+
 /// The same seed and index give the same case.
 #[test]
 fn cases_repeat() {
     for index in 0..200 {
         assert_eq!(case(6, index), case(6, index));
+        assert_eq!(block_numbers(6, index), block_numbers(6, index));
+        assert_eq!(operational_numbers(6, index), operational_numbers(6, index));
     }
     assert!((0..200).any(|index| case(6, index) != case(7, index)));
 }

@@ -1,0 +1,102 @@
+/* The TSAV aggregation calculator (chapters 8 and 11 of the 2023 guideline), for C and C++: target/staticlib/libexports.a,
+   written by `rt staticlib exports`, for x86-64.
+
+   Three calls. Each is proved to answer every input as is said here; none allocates, keeps anything between calls, or can
+   fail in another way, and several threads may call at once.
+
+   What is asked of a caller: every pointer is valid for the numbers or bytes that its parameter names, pointers to numbers
+   are aligned to 8, and what is lent to be written overlaps nothing else that is lent. A length may be 0; a pointer is
+   then read and written nowhere, but give one that is not null all the same. Nothing is asked of the numbers and bytes
+   themselves.
+
+   All amounts are whole cents, 0 to TSAV_LARGEST_AMOUNT.
+
+   What is answered. 0: accepted; what is named under 'accepted' is written, and place is untouched. Any other number: refused,
+   and it is the refusal's number; place is written, and everything else that was lent is untouched.
+
+     place[0]        place[1]
+     TSAV_NOWHERE    0
+     TSAV_LINE       the line of the sheet, counted from 1
+     TSAV_POSITION   the position in the call's numbers, counted from 0
+
+   The refusals:
+
+      1  nowhere             the sheet is longer than TSAV_LONGEST_SHEET
+      2  nowhere             its length isn't a multiple of 40
+      3  line                columns 4 to 40 break the layout
+      4  line                the code isn't RSK, OTH, VOL or GEN
+      5  line                the block is outside the code's range
+      6  line                the class is outside the code's range
+      7  position            an amount is above TSAV_LARGEST_AMOUNT
+      8  line or position    a second amount where there is none: OTH, GEN, level and trend of expenses
+      9  line or position    a level and trend part is above its component
+     10  line                the scalar is outside 1 to 20,000
+     11  line                a line with this code, block and class stood before
+     12  nowhere             there is no scalar line
+     13  nowhere             the credits are above sum of K + guarantee requirement + RO
+     14  nowhere             the lent report is shorter than the report
+     15  nowhere             the list of volumes is longer than 256 numbers, or not a multiple of 16 */
+
+#ifndef TSAV_H
+#define TSAV_H
+
+#include <stddef.h>
+#include <stdint.h>
+
+#ifdef __cplusplus
+extern "C" {
+#endif
+
+#define TSAV_LARGEST_AMOUNT UINT64_C(99999999999999)
+
+/* 293 lines of 40 bytes. */
+#define TSAV_LONGEST_SHEET 11720
+
+/* The report of 16 blocks. With this room a sheet is never refused by 14. */
+#define TSAV_LONGEST_REPORT 2407
+
+#define TSAV_NOWHERE 0
+#define TSAV_LINE 1
+#define TSAV_POSITION 2
+
+/* The block call, section 11.2.
+
+   numbers: seven pairs, gross component and its level and trend part, of 1 mortality, 2 longevity, 3 morbidity incidence,
+   4 morbidity termination, 5 lapse-sensitive, 6 lapse-supported, 7 expenses; then property and casualty, credit, market.
+
+   Accepted, figures holds I and D in half cents, and U, LT and K in cents, in this order.
+
+   Refusals, tested in this order: 7 at the first amount that is too large; 8 at position 13, where level and trend of
+   expenses isn't 0; 9 at the first level and trend part above its component. */
+uint64_t tsav_block(const uint64_t numbers[17], uint64_t figures[5], uint64_t place[2]);
+
+/* The operational call, section 8.2.
+
+   volumes: count numbers, 16 for each territory: eight pairs, current and prior, of the volume classes 1 to 8. None is no
+   territory.
+   general: gross components, guarantee requirement, ceded premiums.
+
+   Accepted, figure holds RO in cents.
+
+   Refusals, tested in this order: 15; 7 at the first amount that is too large, positions running through volumes and then
+   general. */
+uint64_t tsav_operational(const uint64_t *volumes, size_t count, const uint64_t general[3], uint64_t figure[1],
+                          uint64_t place[2]);
+
+/* The sheet call: sections 11.2 and 8.2 for every block and territory of a sheet, and section 11.3, the buffer.
+
+   sheet: bytes bytes, a line for each 40.
+   report: room bytes, of any content.
+
+   Accepted, length holds the report's length, 29 * (5 * n + 3) for n blocks; so many bytes of report, from its start, are
+   the report, and those behind them are untouched.
+
+   Refusals, tested in this order: 1, 2; then the first bad line, in it 3, 4, 5, 6, 8, 9, 10, 11; then 12, 13, 14. */
+uint64_t tsav_sheet(const uint8_t *sheet, size_t bytes, uint8_t *report, size_t room, uint64_t length[1],
+                    uint64_t place[2]);
+
+#ifdef __cplusplus
+}
+#endif
+
+#endif

@@ -1,0 +1,188 @@
+//! `differential_run SEED COUNT [FIRST]`: the library's three calls, through the wrapper, against the reference's, on
+//! COUNT generated sheets, block calls and operational calls from number FIRST on (0 where it isn't given).
+//!
+//! Compared are the answers and every byte of the lent report, and some bytes on both sides of it, which nobody may
+//! write. On each accepted sheet the library's report must also satisfy demand 3. The same words give the same cases and
+//! the same output, however many processors share them.
+
+use std::env;
+use std::fmt::{Debug, Write};
+use std::process::ExitCode;
+use std::thread;
+
+use reference::generate;
+
+const KINDS: [&str; 3] = ["sheet", "block call", "operational call"];
+
+fn main() -> ExitCode {
+    let words: Option<Vec<u64>> = env::args().skip(1).map(|word| word.parse().ok()).collect();
+    let (seed, count, first) = match words.as_deref() {
+        Some(&[seed, count]) => (seed, count, 0),
+        Some(&[seed, count, first]) => (seed, count, first),
+        _ => {
+            eprintln!("usage: tests/differential SEED COUNT [FIRST], whole numbers");
+            return ExitCode::from(2);
+        }
+    };
+    let found = compare(seed, count, first);
+    print!("{}", found.summary(seed));
+    ExitCode::from(u8::from(found.differed > 0))
+}
+
+/// What was found of some cases.
+#[derive(Default)]
+struct Found {
+    /// For each kind, how many calls were accepted (0) or refused by each number, as both answered.
+    answers: [[u64; 16]; 3],
+    /// Accepted sheets whose buffer lies within the bracket of the exact one, so that demand 3 isn't decided.
+    undecided: u64,
+    differed: u64,
+    /// The first case that differs: its number, its kind, and all about it.
+    first: Option<(u64, usize, String)>,
+}
+
+/// The cases, shared between the processors.
+fn compare(seed: u64, count: u64, first: u64) -> Found {
+    let shares = thread::available_parallelism().map_or(1, |n| n.get() as u64);
+    let share = |at: u64| {
+        let mut found = Found::default();
+        for index in (at..count).step_by(shares as usize) {
+            let index = first.wrapping_add(index);
+            found.add(index, 0, sheet_case(seed, index));
+            found.add(index, 1, block_case(seed, index));
+            found.add(index, 2, operational_case(seed, index));
+        }
+        found
+    };
+    thread::scope(|scope| {
+        let running: Vec<_> = (0..shares).map(|at| scope.spawn(move || share(at))).collect();
+        running.into_iter().map(|share| share.join().unwrap()).fold(Found::default(), Found::join)
+    })
+}
+
+/// What a case agreed on: accepted (0) or the refusal's number, and whether demand 3 was decided.
+struct Agreed {
+    answer: u8,
+    decided: bool,
+}
+
+impl Found {
+    fn add(&mut self, index: u64, kind: usize, case: Result<Agreed, String>) {
+        match case {
+            Ok(agreed) => {
+                self.answers[kind][usize::from(agreed.answer)] += 1;
+                self.undecided += u64::from(!agreed.decided);
+            }
+            Err(about) => {
+                self.differed += 1;
+                self.first.get_or_insert((index, kind, about));
+            }
+        }
+    }
+
+    fn join(mut self, other: Found) -> Found {
+        for (counts, others) in self.answers.iter_mut().flatten().zip(other.answers.iter().flatten()) {
+            *counts += others;
+        }
+        self.undecided += other.undecided;
+        self.differed += other.differed;
+        self.first = match (self.first, other.first) {
+            (Some(one), Some(two)) => Some(one.min(two)),
+            (one, two) => one.or(two),
+        };
+        self
+    }
+
+    fn summary(&self, seed: u64) -> String {
+        let mut text = String::new();
+        for (kind, counts) in KINDS.iter().zip(&self.answers) {
+            write!(text, "{kind}s: {} accepted", counts[0]).unwrap();
+            for (number, count) in counts.iter().enumerate().skip(1).filter(|(_, &count)| count > 0) {
+                write!(text, ", {count} refused by {number}").unwrap();
+            }
+            text.push('\n');
+        }
+        let reports = self.answers[0][0];
+        writeln!(text, "demand 3: {reports} reports, {} of them not decided by the bracket", self.undecided).unwrap();
+        if let Some((index, kind, about)) = &self.first {
+            writeln!(text, "first difference: {} {index} of seed {seed}", KINDS[*kind]).unwrap();
+            writeln!(text, "{about}again: tests/differential {seed} 1 {index}").unwrap();
+        }
+        let agreed: u64 = self.answers.iter().flatten().sum();
+        writeln!(text, "{agreed} agreed, {} differed", self.differed).unwrap();
+        text
+    }
+}
+
+/// An answer of either side: what is accepted, or the refusal's number and place.
+type Answer<T> = Result<T, (u8, &'static str, u64)>;
+
+fn ours<T>(answer: Result<T, tsav::Refusal>) -> Answer<T> {
+    answer.map_err(|refusal| match refusal.place {
+        tsav::Place::Line(line) => (refusal.number, "line", line),
+        tsav::Place::Position(position) => (refusal.number, "position", position),
+        tsav::Place::Nowhere => (refusal.number, "nowhere", 0),
+    })
+}
+
+fn theirs<T>(answer: Result<T, reference::Refusal>) -> Answer<T> {
+    answer.map_err(|refusal| match refusal.place {
+        reference::Place::Line(line) => (refusal.number, "line", line as u64),
+        reference::Place::Position(position) => (refusal.number, "position", position as u64),
+        reference::Place::Nowhere => (refusal.number, "nowhere", 0),
+    })
+}
+
+fn number<T>(answer: &Answer<T>) -> u8 {
+    answer.as_ref().map_or_else(|refusal| refusal.0, |_| 0)
+}
+
+/// Equal answers agree; others are written down after the case, as Rust writes them.
+fn agree<T: Debug + PartialEq>(case: String, ours: Answer<T>, theirs: Answer<T>) -> Result<Agreed, String> {
+    if ours == theirs {
+        return Ok(Agreed { answer: number(&ours), decided: true });
+    }
+    Err(format!("{case}library: {ours:?}\nreference: {theirs:?}\n"))
+}
+
+/// Bytes before and behind the lent report.
+const MARGIN: usize = 32;
+
+fn sheet_case(seed: u64, index: u64) -> Result<Agreed, String> {
+    let (sheet, room) = generate::case(seed, index);
+    // Neighbouring bytes differ, and from one case to the next, so that none is written unseen.
+    let before: Vec<u8> = (0..room + 2 * MARGIN).map(|at| (at as u64 * 31).wrapping_add(index) as u8).collect();
+    let lent = MARGIN..MARGIN + room;
+    let (mut one, mut two) = (before.clone(), before);
+    let ours = ours(tsav::sheet(&sheet, &mut one[lent.clone()]));
+    let theirs = theirs(reference::sheet_call(&sheet, &mut two[lent.clone()]));
+    if ours != theirs || one != two {
+        let about = |bytes: &[u8]| bytes.escape_ascii().to_string();
+        return Err(format!(
+            "sheet: b\"{}\"\nroom: {room}\nlibrary: {ours:?}\nreference: {theirs:?}\n\
+             report of the library, {MARGIN} bytes before and behind: b\"{}\"\nof the reference: b\"{}\"\n",
+            about(&sheet),
+            about(&one),
+            about(&two),
+        ));
+    }
+    let decided = match ours {
+        Ok(length) => reference::judge(&sheet, &one[lent][..length])
+            .map_err(|why| format!("sheet: b\"{}\"\ndemand 3: {why}\n", sheet.escape_ascii()))?,
+        Err(_) => true,
+    };
+    Ok(Agreed { answer: number(&ours), decided })
+}
+
+fn block_case(seed: u64, index: u64) -> Result<Agreed, String> {
+    let numbers = generate::block_numbers(seed, index);
+    let ours = ours(tsav::block(&numbers).map(|tsav::Figures { i, d, u, lt, k }| [i, d, u, lt, k]));
+    agree(format!("numbers: {numbers:?}\n"), ours, theirs(reference::block_call(&numbers)))
+}
+
+fn operational_case(seed: u64, index: u64) -> Result<Agreed, String> {
+    let (volumes, general) = generate::operational_numbers(seed, index);
+    let ours = ours(tsav::operational(&volumes, &general));
+    let theirs = theirs(reference::operational_call(&volumes, &general));
+    agree(format!("volumes: {volumes:?}\ngeneral: {general:?}\n"), ours, theirs)
+}
