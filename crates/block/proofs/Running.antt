@@ -3,7 +3,6 @@ use mathlib.Core.Path.{_≡_, ap, _∙_}
 use mathlib.Core.List.{List}
 use Prim.Native.Nat.{ℕ, zero, suc, _+_, _*_, _/_, _%_, _^_, _≤_, _<_}
 use native.Mathlib.Nat.{mul-le-mul, lt-of-le-of-lt}
-use native.Mathlib.Numerals.{add-one}
 use native.Mathlib.Omega.{arith}
 use lib.Dec.{lit<}
 use lib.ListN.{getD}
@@ -15,10 +14,15 @@ use Rattle.guideline.specs.Factors.{factor, soFar}
 use Rattle.guideline.proofs.Table.{factor-small, small-fits}
 use Rattle.wide.proofs.Size.{abs-add, abs-mul}
 
--- one product more, as the code counts
-pub so-far-next : (ys : List ℕ) (k : ℕ) → soFar ys (k + 1) ≡ soFar ys k +ℤ factor k *ℤ pos (getD ys (k / 7) 0 * getD ys (k % 7) 0)
+-- one product more, as the code counts rows and columns
+pub so-far-next : (ys : List ℕ) (i j : ℕ) → j < 7
+    → soFar ys (7 * i + (j + 1)) ≡ soFar ys (7 * i + j) +ℤ factor (7 * i + j) *ℤ pos (getD ys i 0 * getD ys j 0)
 unfolding soFar
-so-far-next ys k = ap (λ (n : ℕ). soFar ys n) (add-one k)
+so-far-next ys i j h =
+    let e : 7 * i + (j + 1) ≡ suc (7 * i + j) = omega arith in
+    let r : (7 * i + j) / 7 ≡ i = omega arith in
+    let c : (7 * i + j) % 7 ≡ j = omega arith in
+    ap (soFar ys) e ∙ (λ t. soFar ys (7 * i + j) +ℤ factor (7 * i + j) *ℤ pos (getD ys (r t) 0 * getD ys (c t) 0))
 
 -- the sum of k products, each at most 4 × (2 × 10^14)²
 pub so-far-small : (ys : List ℕ) → ((i : ℕ) → getD ys i 0 ≤ 200000000000000) → (k : ℕ) → natAbs (soFar ys k) ≤ k * 160000000000000000000000000000
@@ -35,4 +39,4 @@ room v p k h l b = lt-of-le-of-lt {m = 49 * 160000000000000000000000000000} (ome
 
 -- a factor as the machine reads it back
 pub read-factor : (r : ℤ) (k : ℕ) → r ≡ factor k → toZ w64 (ofZ w64 r) ≡ factor k
-read-factor r k e = ap (λ (z : ℤ). toZ w64 (ofZ w64 z)) e ∙ toZ-ofZ w64 _ (small-fits _ (factor-small k))
+read-factor r k e = ap (λ (z : ℤ). toZ w64 (ofZ w64 z)) e ∙ toZ-ofZ w64 _ (small-fits _ (factor-small k) .1)

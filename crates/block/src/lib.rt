@@ -4,7 +4,7 @@ ghost use Prim.Native.Nat.{ℕ, _+_, _-_, _*_, _^_, _≤_, _<_, max};
 ghost use lib.Dec.{leb};
 ghost use lib.ListN.{getD};
 ghost use Rattle.search.specs.Least.{least};
-ghost use Rattle.guideline.specs.Factors.{quarterSum};
+ghost use Rattle.guideline.specs.Factors.{quarterSum, soFar};
 ghost use Rattle.guideline.specs.Block.{Accepted, U, LT, ys, I, D, K, requirement};
 ghost use Rattle.wide.specs.Sum.{held};
 ghost use Rattle.block.specs.Call.{stated, blockCall, firstLtAbove};
@@ -101,7 +101,7 @@ fn half_cents(b: &[u64; 17]) -> [u64; 7]
     ]
 }
 
-// The sum over all pairs of risks, row by row, in quarters: after k products it is that of the first k.
+// The sum over all pairs of risks, in quarters, row by row in the order of section 11.2.1.
 fn correlated(y: &[u64; 7]) -> Sum
     requires { ⌜ ((i : ℕ) → getD (now y) i 0 ≤ 200000000000000) ⌝ }
     ensures { λ r. ⌜ held r ≡ quarterSum (now (y .entry)) ⌝ }
@@ -110,10 +110,26 @@ fn correlated(y: &[u64; 7]) -> Sum
         negative: false,
         size: Wide { high: 0, low: 0 },
     };
-    let mut k = 0usize;
-    while k < 49 {
-        s = wide::add_term(s, guideline::factor_at(k), y[k / 7], y[k % 7]);
-        k += 1;
+    let mut row = 0usize;
+    while row < 7 {
+        s = with_row(s, y, row);
+        row += 1;
+    }
+    s
+}
+
+// The sum with the seven products of a row added: after each product it is that of the products so far.
+fn with_row(before: Sum, y: &[u64; 7], row: usize) -> Sum
+    requires { ⌜ row < 7 ⌝ }
+    requires { ⌜ ((i : ℕ) → getD (now y) i 0 ≤ 200000000000000) ⌝ }
+    requires { ⌜ held before ≡ soFar (now y) (7 * row) ⌝ }
+    ensures { λ r. ⌜ held r ≡ soFar (now (y .entry)) (7 * row + 7) ⌝ }
+{
+    let mut s = before;
+    let mut column = 0usize;
+    while column < 7 {
+        s = wide::add_term(s, guideline::factor_at(7 * row + column), y[row], y[column]);
+        column += 1;
     }
     s
 }

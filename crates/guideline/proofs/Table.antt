@@ -9,7 +9,7 @@ use native.Mathlib.Omega.{arith}
 use lib.Dec.{leb}
 use lib.ListN.{length, getD, List·getD-eq-default}
 use lib.IntN.{ℤ, pos, negsuc, negℤ, natAbs, pos-ne-negsuc, _+ℤ_, _*ℤ_}
-use mir.Syntax.{w64}
+use mir.Syntax.{w8, w64}
 use mir.Val.{SFits}
 use borrow.Author.Tests.{leb-true}
 use Rattle.search.proofs.Values.{values, values-same}
@@ -67,10 +67,10 @@ factor-small k = go (decLe 49 k)
     go (yes h) = rw (beside k h) (omega arith)
     go (no h) = leb-true _ 4 (ap (λ (e : Entry). e .small) (entry k (omega arith)))
 
--- so it fits a machine word
-pub small-fits : (z : ℤ) → natAbs z ≤ 4 → SFits w64 z
-small-fits (pos n) h = record { sfits = omega arith }
-small-fits (negsuc n) h = record { sfits = omega arith }
+-- so it fits a byte and a machine word
+pub small-fits : (z : ℤ) → natAbs z ≤ 4 → SFits w8 z × SFits w64 z
+small-fits (pos n) h = (record { sfits = omega arith }, record { sfits = omega arith })
+small-fits (negsuc n) h = (record { sfits = omega arith }, record { sfits = omega arith })
 
 -- rows and columns may change places
 pub factor-symmetric : (i j : ℕ) → i < 7 → j < 7 → factor (i * 7 + j) ≡ factor (j * 7 + i)

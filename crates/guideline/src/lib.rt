@@ -6,7 +6,7 @@ ghost use Rattle.guideline.specs.Factors.{factor};
 ghost use Rattle.guideline.specs.Operational.{volumeFactors};
 
 // The correlation factors of section 11.2.1, in quarters, row by row.
-const FACTORS: [i64; 49] = [
+const FACTORS: [i8; 49] = [
     // 1 mortality
     4,
     -1,
@@ -70,16 +70,22 @@ pub fn factor_at(k: usize) -> i64
     requires { ⌜ k < 49 ⌝ }
     ensures { λ r. ⌜ r ≡ factor k ⌝ }
 {
-    FACTORS[k]
+    FACTORS[k] as i64
 }
 
 // The factors of the eight volume classes of section 8.2.1, in ten-thousandths.
-const VOLUME_FACTORS: [u64; 8] = [250, 250, 250, 175, 40, 15, 10, 10];
+const VOLUME_FACTORS: [u8; 8] = [250, 250, 250, 175, 40, 15, 10, 10];
 
 // The factor of a volume class, counted from 0.
 pub fn volume_factor(class: usize) -> u64
     requires { ⌜ class < 8 ⌝ }
     ensures { λ r. ⌜ r ≡ getD volumeFactors class 0 ⌝ }
 {
-    VOLUME_FACTORS[class]
+    wide(VOLUME_FACTORS[class])
+}
+
+fn wide(x: u8) -> u64
+    ensures { λ r. ⌜ r ≡ x ⌝ }
+{
+    x as u64
 }

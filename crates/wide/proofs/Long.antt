@@ -1,7 +1,7 @@
 -- Long division in base 2: what holds between two steps, and the quotient rounded up. Assumes nothing.
 use mathlib.Core.Path.{_≡_, sym, ap, _∙_}
 use Prim.Native.Nat.{ℕ, suc, _+_, _-_, _*_, _/_, _%_, _^_, _≤_, _<_}
-use native.Mathlib.Nat.{mul-le-mul-left, lt-of-mul-lt-mul-right, le-of-mul-le-mul-right, mod-eq-of-lt, mod-one, pow-succ'}
+use native.Mathlib.Nat.{mul-le-mul-left, mod-lt, div-le-self, div-add-mod', lt-of-mul-lt-mul-right, le-of-mul-le-mul-right, mod-eq-of-lt, mod-one, pow-succ'}
 use native.Mathlib.Numerals.{one-add}
 use native.Mathlib.Omega.{arith}
 use lib.Dec.{leb}
@@ -76,3 +76,18 @@ module _ (n low d q r m : ℕ) (ends : m ≤ 0) (mid : Mid n low d q r m) (fits 
 
   pub next-quotient : 0 < r → q + 1 ≡ least (λ x. leb n (d * x))
   next-quotient h = sym (ceil-eq n d (q + 1) (quotient-room h) (omega (arith, ended, mid .small)) (omega (arith, ended)))
+
+-- ---- a number of one word, by the machine's quotient and rest
+
+module _ (n d : ℕ) (fits : n < 2 ^ 64) (h : 0 < d) where
+  pub word-whole : n % d ≡ 0 → least (λ q. leb n (d * q)) ≡ n / d
+  word-whole z = ceil-eq n d (n / d) (omega (arith, div-le-self n d)) (omega (arith, div-add-mod' n d)) (omega (arith, div-add-mod' n d))
+
+  -- the quotient is below n where there is a rest
+  pub quotient-below : 0 < n % d → n / d < n
+  quotient-below r =
+      let two : 2 ≤ d = omega (arith, mod-lt n h) in
+      omega (arith, div-add-mod' n d, mul-le-mul-left (n / d) two)
+
+  pub word-part : 0 < n % d → least (λ q. leb n (d * q)) ≡ n / d + 1
+  word-part r = ceil-eq n d (n / d + 1) (omega (arith, quotient-below r)) (omega (arith, div-add-mod' n d, mod-lt n h)) (omega (arith, div-add-mod' n d))

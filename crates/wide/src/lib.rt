@@ -83,8 +83,29 @@ pub fn quarter_up(n: Wide) -> Wide
     }
 }
 
-// n over d, rounded up, where that fits a word. d has at most 63 binary digits, so that twice a rest and a digit fit.
+// n over d, rounded up, where that fits a word. A number of one word, the usual case, takes one division of the machine's.
 pub fn divide_up(n: Wide, d: u64) -> u64
+    requires { ⌜ (0 < d) × (d ≤ 2 ^ 63) × (value n ≤ d * (2 ^ 64 - 1)) ⌝ }
+    ensures { λ r. ⌜ r ≡ least (λ q. leb (value n) (d * q)) ⌝ }
+{
+    let high = n.high;
+    if high == 0 {
+        divide_word(n.low, d)
+    } else {
+        divide_long(n, d)
+    }
+}
+
+fn divide_word(n: u64, d: u64) -> u64
+    requires { ⌜ 0 < d ⌝ }
+    ensures { λ r. ⌜ r ≡ least (λ q. leb n (d * q)) ⌝ }
+{
+    let quotient = n / d;
+    if n % d == 0 { quotient } else { quotient + 1 }
+}
+
+// d has at most 63 binary digits, so that twice a rest and a digit fit.
+fn divide_long(n: Wide, d: u64) -> u64
     requires { ⌜ (0 < d) × (d ≤ 2 ^ 63) × (value n ≤ d * (2 ^ 64 - 1)) ⌝ }
     ensures { λ r. ⌜ r ≡ least (λ q. leb (value n) (d * q)) ⌝ }
 {

@@ -1,24 +1,33 @@
--- `guideline::factor_at` meets its contract. Assumes nothing.
-use mathlib.Core.Path.{ap, _∙_}
-use Prim.Native.Nat.{ℕ}
+-- `guideline::factor_at` meets its contract: the constant, computed against the table. Assumes nothing.
+use mathlib.Core.Path.{_≡_, sym, ap, subst, _∙_}
+use Prim.Native.Nat.{ℕ, _<_}
 use borrow.Author.Needs.{needs}
+use lib.ListN.{getD}
 use lib.IntN.{ℤ, pos}
-use mir.Syntax.{w64}
-use mir.Val.{toZ, ofZ}
+use mir.Syntax.{w8, w64}
+use mir.Val.{SFits, toZ, ofZ}
 use mir.ValLaws.{toZ-ofZ}
-use Rattle.guideline.specs.Factors.{factors, factor}
 use Rattle.search.proofs.Values.{values, values-at}
+use Rattle.guideline.specs.Factors.{factors, factor}
 use Rattle.guideline.proofs.Table.{factor-small, small-fits}
 use Rattle.guideline.proofs.factor_at.Statement.{statement}
 use Rattle.guideline.proofs.factor_at.Tie as tie
 
--- the constant, computed against the table
+-- an entry as the machine reads it back from its byte
+entry : (k : ℕ) → k < 49 → toZ w8 (ofZ w8 (getD (values factor 49) k (pos 0))) ≡ factor k
+entry k h = ap (λ (z : ℤ). toZ w8 (ofZ w8 z)) (values-at factor (pos 0) 49 k h) ∙ toZ-ofZ w8 (factor k) (small-fits (factor k) (factor-small k) .0)
+
+cast-result : tie.Need-cast-result
+unfolding factor factors values
+cast-result c =
+    let k : ℕ = c .before .args .k in
+    subst (λ (z : ℤ). SFits w64 z) (sym (entry k (c .before .pre))) (small-fits (factor k) (factor-small k) .1)
+
 returns : tie.Need-returns
 unfolding factor factors values
 returns c =
     let k : ℕ = c .before .args .k in
-    ap (λ (z : ℤ). toZ w64 (ofZ w64 z)) (values-at factor (pos 0) 49 k (c .before .pre))
-    ∙ toZ-ofZ w64 (factor k) (small-fits (factor k) (factor-small k))
+    ap (λ (z : ℤ). toZ w64 (ofZ w64 z)) (entry k (c .before .pre)) ∙ toZ-ofZ w64 (factor k) (small-fits (factor k) (factor-small k) .1)
 
 pub factor-at-spec : {M : Type 1} → statement M
-factor-at-spec = tie.close (tie.spec (λ c. search needs) (λ c. search needs) returns)
+factor-at-spec = tie.close (tie.spec (λ c. search needs) cast-result returns)
