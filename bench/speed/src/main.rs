@@ -8,26 +8,13 @@
 use std::hint::black_box;
 use std::time::{Duration, Instant};
 
-use reference::sheet_line;
+use reference::{sheet_line, EXAMPLE};
 use tsav::LONGEST_REPORT;
 
 /// Samples of each side, and what one should at least last, so that reading the clock doesn't count.
 const SAMPLES: usize = 2001;
 const SAMPLE: Duration = Duration::from_micros(100);
 const WARM_UP: Duration = Duration::from_millis(50);
-
-/// The example of document 000: seven pairs IR, LT, then PC, credit, market.
-#[rustfmt::skip]
-const EXAMPLE: [u64; 17] = [
-    100_000_000, 70_000_000,
-    300_000, 300_000,
-    5_000_000, 1_000_000,
-    250_000, 100_000,
-    30_000_000, 15_000_000,
-    10_000_000, 4_000_000,
-    1_000_000, 0,
-    2_500_000, 20_000_000, 7_500_000,
-];
 
 /// The paper's whole run: one block.
 const SMALL_SHEET: &[u8] = include_bytes!("../../../examples/example.sheet");

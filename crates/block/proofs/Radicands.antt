@@ -10,9 +10,8 @@ use lib.IntN.{ℤ, pos}
 use Rattle.search.specs.Least.{least}
 use Rattle.search.proofs.AtMost.{at-most-at}
 use Rattle.guideline.specs.Factors.{quarterSum}
-use Rattle.guideline.specs.Block.{Accepted, PC, A, Vh, seven, y, ys, Q4, largest, root, I, a, D}
+use Rattle.guideline.specs.Block.{Accepted, PC, A, Vh, seven, y, ys, Q4, largestOf, largest, root, I, a, D}
 use Rattle.guideline.proofs.Figures.{q, q-is, q-most, y-fits, v-is, u-fits, v-sum, i-high, root-is}
-use Rattle.block.specs.Parts.{largestOf}
 
 -- ---- D
 
@@ -55,7 +54,7 @@ module _ (b : List ℕ) (h : Accepted b) where
   root-found n r e f = f ∙ (λ i. least (λ x. leb (e i) (x * x))) ∙ sym (root-is b (q b) (q-is b))
 
   pub largest-found : (l : List ℕ) (r : ℕ) → l ≡ ys b → r ≡ largestOf l → r ≡ largest b
-  unfolding largest largestOf ys
+  unfolding largest
   largest-found l r e f = f ∙ ap largestOf e
 
   pub floor-room : (root b + 2 * PC b < 2 ^ 64) × (largest b + 2 * PC b < 2 ^ 64)

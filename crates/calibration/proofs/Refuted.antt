@@ -9,7 +9,7 @@ use Rattle.search.specs.First.{firstFrom}
 use Rattle.refusal.specs.Outcome.{Outcome}
 use Rattle.amount.specs.Amount.{firstAbove}
 use Rattle.guideline.specs.Factors.{factors, factor, soFar}
-use Rattle.guideline.specs.Block.{A, U, LT, Vh, y, ys, Q4, largest, root, I, a, D, requirement, K}
+use Rattle.guideline.specs.Block.{A, U, LT, Vh, y, ys, Q4, largestOf, largest, root, I, a, D, requirement, K}
 use Rattle.guideline.specs.Operational.{volumeFactors, total, volume, growth, general, operationalTop, RO}
 use Rattle.block.specs.Call.{firstLtAbove, rule9, rule8, blockCall}
 use Rattle.operational.specs.Call.{rule7, operationalCall}
@@ -21,7 +21,7 @@ clash o f w e h = sym (ap firstValue e) ∙ h
 
 -- IR(1), IR(2) and PC of 100: I is 445, and 400 with PC in a risk
 pub pc-in-risk : (call : List ℕ → Outcome) → ((b : List ℕ) → call b ≡ blockCall b) → ((b : List ℕ) → firstValue (call b) ≡ pcInRisk b) → ⊥
-unfolding pick leastFrom firstFrom firstAbove factors factor soFar A U LT Vh y ys Q4 largest root I a D requirement K firstLtAbove rule9 rule8 blockCall firstValue pcInRisk
+unfolding pick leastFrom firstFrom firstAbove factors factor soFar A U LT Vh y ys Q4 largestOf largest root I a D requirement K firstLtAbove rule9 rule8 blockCall firstValue pcInRisk
 pc-in-risk call meets wrong =
     let b : List ℕ = 100 ∷ 0 ∷ 100 ∷ 0 ∷ 0 ∷ 0 ∷ 0 ∷ 0 ∷ 0 ∷ 0 ∷ 0 ∷ 0 ∷ 0 ∷ 0 ∷ 100 ∷ 0 ∷ 0 ∷ [] in
     let z : _≡_ {A = ℕ} 445 400 = clash (blockCall b) (call b) (pcInRisk b) (meets b) (wrong b) in

@@ -16,7 +16,7 @@ use Rattle.field.specs.declared.Field.{Field}
 use Rattle.field.specs.declared.Field.the-variants.{Value, Bad}
 use Rattle.field.specs.Field.{digits, field, glyph, before, column}
 use Rattle.guideline.specs.Factors.{factors, factor, soFar}
-use Rattle.guideline.specs.Block.{A, U, LT, Vh, y, ys, Q4, largest, root, I, a, D, requirement, K}
+use Rattle.guideline.specs.Block.{A, U, LT, Vh, y, ys, Q4, largestOf, largest, root, I, a, D, requirement, K}
 use Rattle.guideline.specs.Operational.{volumeFactors, total, volume, growth, general, operationalTop, RO}
 use Rattle.guideline.specs.Buffer.{Sheet, count, sumK, available, bracket, buffer, bufferAt, AcceptedSheet}
 use Rattle.guideline.specs.Demand.{BufferDemand}
@@ -71,7 +71,7 @@ numberOr0 Bad = 0
 module _ (call : List ℕ → List ℕ → Done) (meets : (s r : List ℕ) → call s r ≡ sheetCall s r) where
   -- 'One that turns every sheet away'
   pub turns-all-away : ((s r : List ℕ) → (n : ℕ) × (p : Place) × (call s r .outcome ≡ refused n p)) → ⊥
-  unfolding pick leastFrom digits field glyph before column factors factor soFar A U LT Vh y ys Q4 largest root I a D requirement K volumeFactors total volume growth general operationalTop RO sumK available bracket buffer key reportLine linesOf same numberIn numberAt isCode codeOf separatedOf layoutOf blockOutside classOutside secondBarred ruledOf lineOf e.same lookup exists pairs blockBy volumesBy onLine readFrom blockRows ascending totalRows blocksBy sheetBy figuresOf blockRowsBy rule14 rule13 afterLines sheetCall scalar room
+  unfolding pick leastFrom digits field glyph before column factors factor soFar A U LT Vh y ys Q4 largestOf largest root I a D requirement K volumeFactors total volume growth general operationalTop RO sumK available bracket buffer key reportLine linesOf same numberIn numberAt isCode codeOf separatedOf layoutOf blockOutside classOutside secondBarred ruledOf lineOf e.same lookup exists pairs blockBy volumesBy onLine readFrom blockRows ascending totalRows blocksBy sheetBy figuresOf blockRowsBy rule14 rule13 afterLines sheetCall scalar room
   turns-all-away away =
       let a : accepted (87 ∷ []) ≡ call scalar (room 87) .outcome = sym (ap (λ (d : Done). d .outcome) (meets scalar (room 87))) in
       let w = away scalar (room 87) in
@@ -81,7 +81,7 @@ module _ (call : List ℕ → List ℕ → Done) (meets : (s r : List ℕ) → c
 
   -- 'one with a constant report'
   pub constant-report : (bytes : List ℕ) → ((s r : List ℕ) → call s r .report ≡ bytes) → ⊥
-  unfolding pick leastFrom digits field glyph before column factors factor soFar A U LT Vh y ys Q4 largest root I a D requirement K volumeFactors total volume growth general operationalTop RO sumK available bracket buffer key reportLine linesOf same numberIn numberAt isCode codeOf separatedOf layoutOf blockOutside classOutside secondBarred ruledOf lineOf e.same lookup exists pairs blockBy volumesBy onLine readFrom blockRows ascending totalRows blocksBy sheetBy figuresOf blockRowsBy rule14 rule13 afterLines sheetCall scalar guarantee room
+  unfolding pick leastFrom digits field glyph before column factors factor soFar A U LT Vh y ys Q4 largestOf largest root I a D requirement K volumeFactors total volume growth general operationalTop RO sumK available bracket buffer key reportLine linesOf same numberIn numberAt isCode codeOf separatedOf layoutOf blockOutside classOutside secondBarred ruledOf lineOf e.same lookup exists pairs blockBy volumesBy onLine readFrom blockRows ascending totalRows blocksBy sheetBy figuresOf blockRowsBy rule14 rule13 afterLines sheetCall scalar guarantee room
   constant-report bytes constant =
       let last : List ℕ → ℕ = λ l. getD l 85 0 in
       let one = ap (λ (d : Done). last (d .report)) (meets scalar (room 87)) in
@@ -91,7 +91,7 @@ module _ (call : List ℕ → List ℕ → Done) (meets : (s r : List ℕ) → c
 
   -- 'one that writes nothing and claims success'
   pub writes-nothing : ((s r : List ℕ) → call s r .report ≡ r) → ⊥
-  unfolding pick leastFrom digits field glyph before column factors factor soFar A U LT Vh y ys Q4 largest root I a D requirement K volumeFactors total volume growth general operationalTop RO sumK available bracket buffer key reportLine linesOf same numberIn numberAt isCode codeOf separatedOf layoutOf blockOutside classOutside secondBarred ruledOf lineOf e.same lookup exists pairs blockBy volumesBy onLine readFrom blockRows ascending totalRows blocksBy sheetBy figuresOf blockRowsBy rule14 rule13 afterLines sheetCall scalar room
+  unfolding pick leastFrom digits field glyph before column factors factor soFar A U LT Vh y ys Q4 largestOf largest root I a D requirement K volumeFactors total volume growth general operationalTop RO sumK available bracket buffer key reportLine linesOf same numberIn numberAt isCode codeOf separatedOf layoutOf blockOutside classOutside secondBarred ruledOf lineOf e.same lookup exists pairs blockBy volumesBy onLine readFrom blockRows ascending totalRows blocksBy sheetBy figuresOf blockRowsBy rule14 rule13 afterLines sheetCall scalar room
   writes-nothing same =
       let z : _≡_ {A = ℕ} 84 35 = sym (ap (λ (d : Done). getD (d .report) 0 0) (meets scalar (room 87))) ∙ ap (λ (l : List ℕ). getD l 0 0) (same scalar (room 87)) in
       omega arith
@@ -102,7 +102,7 @@ module _ (call : List ℕ → List ℕ → Done) (meets : (s r : List ℕ) → c
 
   -- 'One that works out the first block and fills in the others'
   pub first-filled-in : ((s r : List ℕ) → numberAt (call s r .report) BLK 2 5 ≡ numberAt (call s r .report) BLK 1 5) → ⊥
-  unfolding pick leastFrom digits field glyph before column factors factor soFar A U LT Vh y ys Q4 largest root I a D requirement K volumeFactors total volume growth general operationalTop RO sumK available bracket buffer key reportLine linesOf same numberIn numberAt isCode codeOf separatedOf layoutOf blockOutside classOutside secondBarred ruledOf lineOf e.same lookup exists pairs blockBy volumesBy onLine readFrom blockRows ascending totalRows blocksBy sheetBy figuresOf blockRowsBy rule14 rule13 afterLines sheetCall scalar first second room numberOr0
+  unfolding pick leastFrom digits field glyph before column factors factor soFar A U LT Vh y ys Q4 largestOf largest root I a D requirement K volumeFactors total volume growth general operationalTop RO sumK available bracket buffer key reportLine linesOf same numberIn numberAt isCode codeOf separatedOf layoutOf blockOutside classOutside secondBarred ruledOf lineOf e.same lookup exists pairs blockBy volumesBy onLine readFrom blockRows ascending totalRows blocksBy sheetBy figuresOf blockRowsBy rule14 rule13 afterLines sheetCall scalar first second room numberOr0
   first-filled-in filled =
       let s : List ℕ = first ++ second ++ scalar in
       let k : ℕ → Done → ℕ = λ b d. numberOr0 (numberAt (d .report) BLK b 5) in

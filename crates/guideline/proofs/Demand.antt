@@ -6,7 +6,7 @@ use Rattle.guideline.specs.Block.{U, LT, Vh, Accepted}
 use Rattle.guideline.specs.Buffer.{Sheet, buffer, AcceptedSheet}
 use Rattle.guideline.specs.Demand.{BlockDemand, BufferDemand}
 use Rattle.guideline.proofs.Figures.{v-is, u-small, d-high, d-third, requirement-rises, k-twice, k-high}
-use Rattle.guideline.proofs.Exactly.{fraction-rises, fits-below, k-at, k-near-by}
+use Rattle.guideline.proofs.Exactly.{m-rises, fraction-rises, fits-below, k-at, k-near-by}
 use Rattle.guideline.proofs.ExactBuffer.{buffer-at, buffer-near}
 
 pub block-demand : (b : List ℕ) → Accepted b → BlockDemand b
@@ -14,6 +14,7 @@ block-demand b v =
     record {
       d-high = d-high b v;
       d-third = d-third b v;
+      m-rises = m-rises b v;
       fraction-rises = fraction-rises b v;
       k-rises = requirement-rises (U b) (LT b) (Vh b) (v-is b v) (u-small b v);
       k-twice = k-twice b v;

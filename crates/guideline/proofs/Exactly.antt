@@ -47,19 +47,24 @@ module _ (b : List ℕ) (v : Accepted b) where
   third-nat : (d : Fraction) → whole (Vh b) 0 ≤ᶠ thrice d → Vh b * d .under ≤ 3 * nat d
   third-nat d h = omega arith
 
+  zero-below : (d : Fraction) → whole (Vh b) 0 ≤ᶠ thrice d → whole 0 0 ≤ᶠ d
+  zero-below d low = omega arith
+
+  -- M never falls
+  pub m-rises : (d e : Fraction) → whole (Vh b) 0 ≤ᶠ thrice d → d ≤ᶠ e → mTop (Vh b) d * (e .under * e .under) ≤ mTop (Vh b) e * (d .under * d .under)
+  m-rises d e low up =
+      rw (mTop-is (Vh b) d (zero-below d low), mTop-is (Vh b) e (nat-rises d e (zero-below d low) up))
+      (m-rises-over (Vh b) (nat d) (d .under) (nat e) (e .under) (third-nat d low) (nat-le d e (zero-below d low) up))
+
   -- K's fraction never falls
   pub fraction-rises : (d e : Fraction) → whole (Vh b) 0 ≤ᶠ thrice d → d ≤ᶠ e → kAt b d ≤ᶠ kAt b e
   fraction-rises d e low up = go (decLe 1 (U b))
     where
-      zd : whole 0 0 ≤ᶠ d
-      zd = omega arith
-
       go : Dec (1 ≤ U b) → kAt b d ≤ᶠ kAt b e
       go (yes h) = rw (kAt-some b d h (v-pos h), kAt-some b e h (v-pos h))
           (omega (
             arith,
-            over-rises (48 * (U b * Vh b) + 6 * (LT b * Vh b)) (Vh b) (mTop (Vh b) d) (d .under) (mTop (Vh b) e) (e .under)
-                (rw (mTop-is (Vh b) d zd, mTop-is (Vh b) e (nat-rises d e zd up)) (m-rises-over (Vh b) (nat d) (d .under) (nat e) (e .under) (third-nat d low) (nat-le d e zd up))),
+            over-rises (48 * (U b * Vh b) + 6 * (LT b * Vh b)) (Vh b) (mTop (Vh b) d) (d .under) (mTop (Vh b) e) (e .under) (m-rises d e low up),
           ))
       go (no h) = rw (kAt-none b d (omega arith), kAt-none b e (omega arith)) (omega arith)
 

@@ -14,7 +14,7 @@ use Rattle.search.specs.Least.{least}
 use Rattle.search.proofs.Picks.{if-eq, if-ne}
 use Rattle.search.proofs.LeastOf.{LeastOf, Rising, least-of}
 use Rattle.amount.specs.Amount.{limit}
-use Rattle.guideline.specs.Block.{ir, lt, PC, A, seven, U, LT, Vh, y, ys, Q4, largest, root, I, a, D, kTop, requirement, K, Each, Accepted}
+use Rattle.guideline.specs.Block.{ir, lt, PC, A, seven, U, LT, Vh, y, ys, Q4, largestOf, largest, root, I, a, D, kTop, requirement, K, Each, Accepted}
 use Rattle.guideline.proofs.Sums.{sum}
 use Rattle.guideline.proofs.Table.{form, form-least, form-most, quarter-form, quarter-natural}
 use Rattle.guideline.proofs.Bounds.{le-of-sq, radicand, radicand-most, root-thrice, m-rises, k-least, u-passes}
@@ -63,7 +63,7 @@ module _ (b : List ℕ) where
   q-most = form-most (λ i. getD (ys b) i 0) (q b) (seven (y b)) formed summed
 
   pub largest-high : largest b ≤ seven (y b)
-  unfolding largest
+  unfolding largest largestOf ys
   largest-high = omega arith
 
 -- ---- K by U, LT, V and D

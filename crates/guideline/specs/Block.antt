@@ -58,9 +58,14 @@ ys b = y b 1 ∷ y b 2 ∷ y b 3 ∷ y b 4 ∷ y b 5 ∷ y b 6 ∷ y b 7 ∷ []
 unfoldable pub Q4 : List ℕ → ℤ
 Q4 b = quarterSum (ys b)
 
+-- the largest of seven numbers
+unfoldable pub largestOf : List ℕ → ℕ
+largestOf y =
+    max (getD y 0 0) (max (getD y 1 0) (max (getD y 2 0) (max (getD y 3 0) (max (getD y 4 0) (max (getD y 5 0) (getD y 6 0))))))
+
 -- the largest y(i)
 unfoldable pub largest : List ℕ → ℕ
-largest b = max (y b 1) (max (y b 2) (max (y b 3) (max (y b 4) (max (y b 5) (max (y b 6) (y b 7))))))
+largest b = largestOf (ys b)
 
 -- 'the least whole number whose square is at least Q'
 unfoldable pub root : List ℕ → ℕ

@@ -3,14 +3,16 @@ use mathlib.Core.List.{List}
 use Prim.Native.Nat.{ℕ, _+_, _*_, _≤_}
 use Rattle.guideline.specs.Block.{U, LT, Vh, D, K, requirement}
 use Rattle.guideline.specs.Fraction.{Fraction, _≤ᶠ_, whole, thrice}
-use Rattle.guideline.specs.Exact.{Fits, kAt, StrictlyBelowK}
+use Rattle.guideline.specs.Exact.{Fits, mTop, kAt, StrictlyBelowK}
 use Rattle.guideline.specs.Buffer.{Sheet, StrictlyBelowBuffer, lessAllowance}
 
 pub record BlockDemand (b : List ℕ) : Type 0 where
   -- 'D is at most V', '3 × D is at least V'
   pub d-high : D b ≤ Vh b
   pub d-third : Vh b ≤ 3 * D b
-  -- K's fraction, and with it M, never falls as d rises from V/3
+  -- M never falls as d rises from V/3: M with d for D is mTop over the square of what d is over
+  pub m-rises : (d e : Fraction) → whole (Vh b) 0 ≤ᶠ thrice d → d ≤ᶠ e → mTop (Vh b) d * (e .under * e .under) ≤ mTop (Vh b) e * (d .under * d .under)
+  -- nor does K's fraction
   pub fraction-rises : (d e : Fraction) → whole (Vh b) 0 ≤ᶠ thrice d → d ≤ᶠ e → kAt b d ≤ᶠ kAt b e
   -- 'so K never falls as D rises'
   pub k-rises : (d e : ℕ) → Vh b ≤ 3 * d → d ≤ e → e ≤ Vh b → requirement (U b) (LT b) (Vh b) d ≤ requirement (U b) (LT b) (Vh b) e

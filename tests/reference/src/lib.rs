@@ -31,6 +31,19 @@ pub const LONGEST_SHEET: usize = 11_720;
 /// "The sheet and the report": room for 16 blocks.
 pub const LONGEST_REPORT: usize = 2_407;
 
+/// The example of document 000, in cents: seven pairs IR, LT, then PC, credit, market.
+#[rustfmt::skip]
+pub const EXAMPLE: [u64; 17] = [
+    100_000_000, 70_000_000,
+    300_000, 300_000,
+    5_000_000, 1_000_000,
+    250_000, 100_000,
+    30_000_000, 15_000_000,
+    10_000_000, 4_000_000,
+    1_000_000, 0,
+    2_500_000, 20_000_000, 7_500_000,
+];
+
 /// "The buffer": the scalar g, in ten-thousandths, is 1 to 20,000.
 pub const LARGEST_SCALAR: u64 = 20_000;
 

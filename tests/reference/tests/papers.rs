@@ -2,19 +2,6 @@
 
 use reference::*;
 
-/// The example of document 000, in cents: seven pairs IR, LT, then PC, credit, market.
-#[rustfmt::skip]
-const EXAMPLE: [u64; 17] = [
-    100_000_000, 70_000_000,
-    300_000, 300_000,
-    5_000_000, 1_000_000,
-    250_000, 100_000,
-    30_000_000, 15_000_000,
-    10_000_000, 4_000_000,
-    1_000_000, 0,
-    2_500_000, 20_000_000, 7_500_000,
-];
-
 /// A block of zeros but for these positions.
 fn block(amounts: &[(usize, u64)]) -> [u64; 5] {
     let mut b = [0; 17];

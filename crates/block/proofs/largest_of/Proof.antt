@@ -1,5 +1,5 @@
 -- `block::largest_of` meets its contract. Assumes nothing.
-use Rattle.block.specs.Parts.{largestOf}
+use Rattle.guideline.specs.Block.{largestOf}
 use borrow.Author.Needs.{needs}
 use Rattle.block.proofs.largest_of.Statement.{statement}
 use Rattle.block.proofs.largest_of.Tie as tie
