@@ -59,6 +59,7 @@ fn first_lt_above(b: &[u64; 17]) -> usize
     i
 }
 
+// The figures of a block that rules 7, 8 and 9 let pass.
 pub fn figures_of(b: &[u64; 17]) -> Figures
     requires { ⌜ Accepted (now b) ⌝ }
     ensures { λ r. ⌜ (r .i ≡ I (now (b .entry))) × (r .d ≡ D (now (b .entry))) × (r .u ≡ U (now (b .entry))) × (r .lt ≡ LT (now (b .entry))) × (r .k ≡ K (now (b .entry))) ⌝ }
@@ -71,6 +72,7 @@ pub fn figures_of(b: &[u64; 17]) -> Figures
     Figures { i, d, u, lt, k }
 }
 
+// U, the sum of IR, PC and A; A is credit plus market.
 fn undiversified(b: &[u64; 17]) -> u64
     requires { ⌜ Accepted (now b) ⌝ }
     ensures { λ r. ⌜ r ≡ U (now (b .entry)) ⌝ }
@@ -78,6 +80,7 @@ fn undiversified(b: &[u64; 17]) -> u64
     b[0] + b[2] + b[4] + b[6] + b[8] + b[10] + b[12] + b[14] + (b[15] + b[16])
 }
 
+// LT without a number: the sum of LT(i).
 fn level_and_trend(b: &[u64; 17]) -> u64
     requires { ⌜ Accepted (now b) ⌝ }
     ensures { λ r. ⌜ r ≡ LT (now (b .entry)) ⌝ }
@@ -85,7 +88,7 @@ fn level_and_trend(b: &[u64; 17]) -> u64
     b[1] + b[3] + b[5] + b[7] + b[9] + b[11] + b[13]
 }
 
-// The seven y, in half cents: an odd LT keeps its half cent.
+// The seven y(i) = 2 × IR(i) − LT(i), in half cents: an odd LT keeps its half cent.
 fn half_cents(b: &[u64; 17]) -> [u64; 7]
     requires { ⌜ Accepted (now b) ⌝ }
     ensures { λ r. ⌜ r ≡ ys (now (b .entry)) ⌝ }
@@ -101,7 +104,7 @@ fn half_cents(b: &[u64; 17]) -> [u64; 7]
     ]
 }
 
-// The sum over all pairs of risks, in quarters, row by row in the order of section 11.2.1.
+// The sum over all pairs of risks, four times Q, row by row in the order of section 11.2.1.
 fn correlated(y: &[u64; 7]) -> Sum
     requires { ⌜ ((i : ℕ) → getD (now y) i 0 ≤ 200000000000000) ⌝ }
     ensures { λ r. ⌜ held r ≡ quarterSum (now (y .entry)) ⌝ }
@@ -164,6 +167,7 @@ fn floored(root: u64, largest: u64, pc: u64) -> u64
     }
 }
 
+// I, in half cents: the root of Q, not below the largest y(i), and 2 × PC.
 fn insurance(b: &[u64; 17]) -> u64
     requires { ⌜ Accepted (now b) ⌝ }
     ensures { λ r. ⌜ r ≡ I (now (b .entry)) ⌝ }
@@ -174,7 +178,7 @@ fn insurance(b: &[u64; 17]) -> u64
     floored(root, largest_of(&y), b[14])
 }
 
-// a² + a × I + I² is a × (a + I) + I².
+// D, in half cents, for a = 2 × A. a² + a × I + I² is a × (a + I) + I².
 fn diversified(a: u64, i: u64) -> u64
     requires { ⌜ a + i ≤ 2000000000000000 ⌝ }
     ensures { λ r. ⌜ r ≡ least (λ d. leb (a * a + a * i + i * i) (d * d)) ⌝ }
@@ -182,7 +186,7 @@ fn diversified(a: u64, i: u64) -> u64
     root::root_up(wide::add(wide::product(a, a + i), wide::product(i, i)))
 }
 
-// The term M is (3d − v) × (10d − 7v), the second factor cut at 0: with v at most 3d no sign is needed.
+// K, in cents, with V = 2U − LT. M is (3d − v) × (10d − 7v), the second factor cut at 0: with v at most 3d no sign is needed.
 fn adjusted(u: u64, lt: u64, d: u64) -> u64
     requires { ⌜ Settled u lt d ⌝ }
     ensures { λ r. ⌜ r ≡ requirement u lt (2 * u - lt) d ⌝ }

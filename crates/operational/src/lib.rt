@@ -39,7 +39,7 @@ pub fn operational_call(volumes: &[u64], general: &[u64; 3]) -> OperationalAnswe
     OperationalAnswer::Accepted(operational(volumes, general))
 }
 
-// The sum over 50,000 just fits a word: for 16 territories it is below 1.67 × 10^19.
+// RO. The sum over 50,000 just fits a word: for 16 territories it is below 1.67 × 10^19.
 pub fn operational(volumes: &[u64], general: &[u64; 3]) -> u64
     requires { ⌜ Amounts (now volumes) (now general) ⌝ }
     ensures { λ r. ⌜ r ≡ RO (now (volumes .entry)) (now (general .entry)) ⌝ }
@@ -47,7 +47,7 @@ pub fn operational(volumes: &[u64], general: &[u64; 3]) -> u64
     rounded_up(business(volumes) + 5 * general_requirement(general))
 }
 
-// Over 10,000.
+// The general requirement, over 10,000.
 fn general_requirement(figures: &[u64; 3]) -> u64
     requires { ⌜ (getD (now figures) 0 0 ≤ limit) × (getD (now figures) 1 0 ≤ limit) × (getD (now figures) 2 0 ≤ limit) ⌝ }
     ensures { λ r. ⌜ r ≡ general (now (figures .entry)) ⌝ }
@@ -83,6 +83,7 @@ fn charge(factor: u64, current: u64, prior: u64) -> u64
     factor * (5 * current + amount::excess(5 * current, 6 * prior))
 }
 
+// The one rounding, at the end, to whole cents.
 fn rounded_up(top: u64) -> u64
     requires { ⌜ top < 18000000000000000000 ⌝ }
     ensures { λ r. ⌜ r ≡ least (λ x. leb top (50000 * x)) ⌝ }

@@ -19,10 +19,12 @@ fn main() {
         Got::Bytes(n) => {
             answer(&sheet, n);
         }
-        Got::Failed => {
-            io::write_all(STDERR_FILENO, b"tsav-sheet: the sheet cannot be read\n");
-        }
+        Got::Failed => say_unread(),
     }
+}
+
+fn say_unread() {
+    io::write_all(STDERR_FILENO, b"tsav-sheet: the sheet cannot be read\n");
 }
 
 fn read_sheet(sheet: &mut [u8]) -> Got {
@@ -44,7 +46,7 @@ fn read_sheet(sheet: &mut [u8]) -> Got {
 // The first n bytes are the sheet. The longest report has 83 lines of 29 bytes.
 fn answer(bytes: &[u8], n: usize) {
     if bytes.len() < n {
-        return;
+        return say_unread();
     }
     let mut report = [0u8; 2407];
     let given = aggregate::sheet_call(&bytes[0..n], &mut report);
@@ -60,11 +62,12 @@ fn answer(bytes: &[u8], n: usize) {
     }
 }
 
+// The first n bytes of a text, to standard output: a path that does not write them says so.
 fn put(text: &[u8], n: usize) {
-    if text.len() < n {
-        return;
+    if n <= text.len() {
+        if io::write_all(STDOUT_FILENO, &text[0..n]) {
+            return;
+        }
     }
-    if !io::write_all(STDOUT_FILENO, &text[0..n]) {
-        io::write_all(STDERR_FILENO, b"tsav-sheet: the report cannot be written\n");
-    }
+    io::write_all(STDERR_FILENO, b"tsav-sheet: the report cannot be written\n");
 }
