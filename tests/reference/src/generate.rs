@@ -30,7 +30,7 @@ pub fn block_numbers(seed: u64, index: u64) -> [u64; 17] {
         if random.below(8) < density {
             let ir = amount(&mut random, style);
             numbers[2 * risk] = ir;
-            numbers[2 * risk + 1] = if risk == 6 { 0 } else { level_and_trend(&mut random, ir) };
+            numbers[2 * risk + 1] = if risk == 6 { 0 } else { part_of(&mut random, ir) };
         }
     }
     for position in 14..17 {
@@ -180,7 +180,7 @@ fn sound_lines(random: &mut Random) -> Vec<Line> {
         for class in 1..=7 {
             if stands(random) {
                 let ir = amount(random, style);
-                let lt = if class == 7 { 0 } else { level_and_trend(random, ir) };
+                let lt = if class == 7 { 0 } else { part_of(random, ir) };
                 lines.push(Line { code: "RSK", block, class, first: ir, second: lt });
             }
         }
@@ -263,14 +263,14 @@ fn amount(random: &mut Random, style: u64) -> u64 {
     }
 }
 
-/// A part of IR: nothing, little, some, all but a cent, all.
-fn level_and_trend(random: &mut Random, ir: u64) -> u64 {
+/// A part of an amount: nothing, little, some, all but a cent, all.
+fn part_of(random: &mut Random, most: u64) -> u64 {
     match random.below(6) {
         0 => 0,
-        1 => ir.min(1),
-        2 => ir - ir.min(1),
-        3 => ir,
-        _ => random.from(0, ir),
+        1 => most.min(1),
+        2 => most - most.min(1),
+        3 => most,
+        _ => random.from(0, most),
     }
 }
 
@@ -293,13 +293,7 @@ fn volumes(random: &mut Random, style: u64) -> (u64, u64) {
 /// Credits up to the bracket, which the other lines give.
 fn credits(random: &mut Random, lines: &[Line]) -> u64 {
     let most = bracket(lines).min(LARGEST_AMOUNT);
-    match random.below(6) {
-        0 => 0,
-        1 => most.min(1),
-        2 => most - most.min(1),
-        3 => most,
-        _ => random.from(0, most),
-    }
+    part_of(random, most)
 }
 
 /// Sum of K + guarantee requirement + RO of lines that a sheet may have.
