@@ -1,8 +1,9 @@
 use super::*;
+use contract::{LINE, NOWHERE, POSITION};
 
 /// The example of document 000, in cents.
 #[rustfmt::skip]
-const EXAMPLE: [u64; 17] = [
+const EXAMPLE: [u64; BLOCK_NUMBERS] = [
     100_000_000, 70_000_000,
     300_000, 300_000,
     5_000_000, 1_000_000,
@@ -13,36 +14,30 @@ const EXAMPLE: [u64; 17] = [
     2_500_000, 20_000_000, 7_500_000,
 ];
 
-const EXAMPLE_FIGURES: Figures =
-    Figures { i: 157_884_172, d: 191_405_437, u: 176_550_000, lt: 90_400_000, k: 151_765_333 };
+const EXAMPLE_FIGURES: [u64; FIGURES] = [157_884_172, 191_405_437, 176_550_000, 90_400_000, 151_765_333];
 
 const WHOLE_RUN: &[u8] = include_bytes!("../../../examples/example.sheet");
-const WHOLE_RUN_REPORT: &[u8] = include_bytes!("../../../crates/tsav_sheet/stdout");
+const WHOLE_RUN_REPORT: &str = include_str!("../../../crates/tsav_sheet/stdout");
 
 const OVER: u64 = LARGEST_AMOUNT + 1;
 
-fn refused<T>(number: u8, place: Place) -> Result<T, Refusal> {
-    Err(Refusal { number, place })
+fn refused<T>(number: u8, place: Place) -> Result<T, Error> {
+    Err(Error::Refused(Refusal { number, place }))
 }
 
 #[test]
 fn the_papers_whole_run() {
     let mut report = [b'#'; LONGEST_REPORT];
     let length = sheet(WHOLE_RUN, &mut report).unwrap();
-    assert_eq!(length, 29 * (5 + 3));
-    assert_eq!(&report[..length], WHOLE_RUN_REPORT);
+    assert_eq!(length, report_length(1));
+    assert_eq!(&report[..length], WHOLE_RUN_REPORT.as_bytes());
     assert!(report[length..].iter().all(|&byte| byte == b'#'));
 }
 
 #[test]
 fn the_example_of_document_000() {
-    assert_eq!(block(&EXAMPLE), Ok(EXAMPLE_FIGURES));
-    // The printed figures, whole dollars.
-    let Figures { i, d, u, lt, k } = block(&EXAMPLE).unwrap();
-    let of_half_cents = |figure: u64| (figure + 100) / 200;
-    let of_cents = |figure: u64| (figure + 50) / 100;
-    assert_eq!([of_half_cents(i), of_half_cents(d)], [789_421, 957_027]);
-    assert_eq!([of_cents(u), of_cents(lt), of_cents(k)], [1_765_500, 904_000, 1_517_653]);
+    let [i, d, u, lt, k] = EXAMPLE_FIGURES;
+    assert_eq!(block(&EXAMPLE), Ok(Figures { i, d, u, lt, k }));
 }
 
 #[test]
@@ -56,7 +51,7 @@ fn the_operational_call() {
 }
 
 #[test]
-fn refusals_and_their_places() {
+fn refusals_of_the_block_call() {
     let with = |position: usize, number: u64| {
         let mut numbers = EXAMPLE;
         numbers[position] = number;
@@ -66,17 +61,23 @@ fn refusals_and_their_places() {
     assert_eq!(with(0, u64::MAX), refused(7, Place::Position(0)));
     assert_eq!(with(13, 1), refused(8, Place::Position(13)));
     assert_eq!(with(3, 300_001), refused(9, Place::Position(3)));
+}
 
+#[test]
+fn refusals_of_the_operational_call() {
     assert_eq!(operational(&[0; 16], &[0, 0, OVER]), refused(7, Place::Position(18)));
     for length in [1, 15, 17, 257, 272] {
         assert_eq!(operational(&[0; 272][..length], &[0; 3]), refused(15, Place::Nowhere));
     }
+}
 
+#[test]
+fn refusals_of_the_sheet_call() {
     let sheet_of = |bytes: &[u8]| sheet(bytes, &mut [0; LONGEST_REPORT]);
     assert_eq!(sheet_of(b""), refused(12, Place::Nowhere));
     assert_eq!(sheet_of(b"x"), refused(2, Place::Nowhere));
     assert_eq!(sheet_of(&[0; LONGEST_SHEET + 1]), refused(1, Place::Nowhere));
-    assert_eq!(sheet_of(&[WHOLE_RUN, &WHOLE_RUN[..40]].concat()), refused(11, Place::Line(14)));
+    assert_eq!(sheet_of(&[WHOLE_RUN, &WHOLE_RUN[..SHEET_LINE]].concat()), refused(11, Place::Line(14)));
     let mut report = *b"any content";
     assert_eq!(sheet(WHOLE_RUN, &mut report), refused(14, Place::Nowhere));
     assert_eq!(&report, b"any content");
@@ -84,40 +85,69 @@ fn refusals_and_their_places() {
 }
 
 #[test]
-fn a_refusal_in_words() {
-    let words = |number: u8, place: Place| Refusal { number, place }.to_string();
+fn errors_in_words() {
+    let words = |number: u8, place: Place| Error::Refused(Refusal { number, place }).to_string();
     assert_eq!(words(9, Place::Line(2)), "refusal 9 at line 2");
     assert_eq!(words(7, Place::Position(16)), "refusal 7 at position 16");
     assert_eq!(words(12, Place::Nowhere), "refusal 12");
+
+    let words = |breach: Breach| Error::Contract(breach).to_string();
+    assert_eq!(
+        words(Breach::Refusal { number: 16, place: [3, 5] }),
+        "the library broke its contract: refusal 16 at a place 3, 5"
+    );
+    assert_eq!(
+        words(Breach::Length { length: 233, room: 232 }),
+        "the library broke its contract: a report of 233 bytes where 232 were lent"
+    );
 }
 
-/// What include/tsav.h says is untouched: place where a call accepts, everything else where it refuses.
+/// The numbers that the header and the wrapper both name are the same.
 #[test]
-fn what_is_untouched() {
-    const KEPT: u64 = 0x0123_4567_89AB_CDEF;
+fn the_headers_numbers() {
+    let header = include_str!("../../../include/tsav.h");
+    let defined = |name: &str, number: String| header.lines().any(|line| line == format!("#define {name} {number}"));
+    assert!(defined("TSAV_LARGEST_AMOUNT", format!("UINT64_C({LARGEST_AMOUNT})")));
+    assert!(defined("TSAV_LONGEST_SHEET", LONGEST_SHEET.to_string()));
+    assert!(defined("TSAV_LONGEST_REPORT", LONGEST_REPORT.to_string()));
+    assert!(defined("TSAV_NOWHERE", NOWHERE.to_string()));
+    assert!(defined("TSAV_LINE", LINE.to_string()));
+    assert!(defined("TSAV_POSITION", POSITION.to_string()));
+}
 
-    let raw_block = |numbers: &[u64; 17]| {
-        let (mut figures, mut place) = ([KEPT; 5], [KEPT; 2]);
+// What include/tsav.h says is untouched: place where a call accepts, everything else where it refuses.
+
+const KEPT: u64 = 0x0123_4567_89AB_CDEF;
+
+#[test]
+fn untouched_by_the_block_call() {
+    let call = |numbers: &[u64; BLOCK_NUMBERS]| {
+        let (mut figures, mut place) = ([KEPT; FIGURES], [KEPT; 2]);
         // SAFETY: as in `block`.
         let answer = unsafe { library::tsav_block(numbers, &mut figures, &mut place) };
         (answer, figures, place)
     };
-    let Figures { i, d, u, lt, k } = EXAMPLE_FIGURES;
-    assert_eq!(raw_block(&EXAMPLE), (0, [i, d, u, lt, k], [KEPT; 2]));
-    assert_eq!(raw_block(&[OVER; 17]), (7, [KEPT; 5], [2, 0]));
+    assert_eq!(call(&EXAMPLE), (0, EXAMPLE_FIGURES, [KEPT; 2]));
+    assert_eq!(call(&[OVER; BLOCK_NUMBERS]), (7, [KEPT; FIGURES], [POSITION, 0]));
+}
 
-    let raw_operational = |volumes: &[u64], general: [u64; 3]| {
+#[test]
+fn untouched_by_the_operational_call() {
+    let call = |volumes: &[u64], general: [u64; GENERAL_NUMBERS]| {
         let (mut figure, mut place) = ([KEPT; 1], [KEPT; 2]);
         // SAFETY: as in `operational`.
         let answer =
             unsafe { library::tsav_operational(volumes.as_ptr(), volumes.len(), &general, &mut figure, &mut place) };
         (answer, figure, place)
     };
-    assert_eq!(raw_operational(&[], [100, 100, 100]), (0, [13], [KEPT; 2]));
-    assert_eq!(raw_operational(&[0], [0; 3]), (15, [KEPT], [0, 0]));
-    assert_eq!(raw_operational(&[], [0, 0, OVER]), (7, [KEPT], [2, 2]));
+    assert_eq!(call(&[], [100, 100, 100]), (0, [13], [KEPT; 2]));
+    assert_eq!(call(&[0], [0; 3]), (15, [KEPT], [NOWHERE, 0]));
+    assert_eq!(call(&[], [0, 0, OVER]), (7, [KEPT], [POSITION, 2]));
+}
 
-    let raw_sheet = |sheet: &[u8], report: &mut [u8]| {
+#[test]
+fn untouched_by_the_sheet_call() {
+    let call = |sheet: &[u8], report: &mut [u8]| {
         let (mut length, mut place) = ([KEPT; 1], [KEPT; 2]);
         // SAFETY: as in `sheet`.
         let answer = unsafe {
@@ -126,8 +156,8 @@ fn what_is_untouched() {
         (answer, length, place)
     };
     let mut report = [b'#'; LONGEST_REPORT];
-    assert_eq!(raw_sheet(b"", &mut report), (12, [KEPT], [0, 0]));
-    assert_eq!(raw_sheet(&[b' '; 40], &mut report), (3, [KEPT], [1, 1]));
+    assert_eq!(call(b"", &mut report), (12, [KEPT], [NOWHERE, 0]));
+    assert_eq!(call(&[b' '; SHEET_LINE], &mut report), (3, [KEPT], [LINE, 1]));
     assert!(report.iter().all(|&byte| byte == b'#'));
-    assert_eq!(raw_sheet(WHOLE_RUN, &mut report), (0, [232], [KEPT; 2]));
+    assert_eq!(call(WHOLE_RUN, &mut report), (0, [report_length(1) as u64], [KEPT; 2]));
 }

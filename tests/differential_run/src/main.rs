@@ -33,7 +33,7 @@ fn main() -> ExitCode {
 #[derive(Default)]
 struct Found {
     /// For each kind, how many calls were accepted (0) or refused by each number, as both answered.
-    answers: [[u64; 16]; 3],
+    answers: [[u64; tsav::LAST_REFUSAL + 1]; KINDS.len()],
     /// Accepted sheets whose buffer lies within the bracket of the exact one, so that demand 3 isn't decided.
     undecided: u64,
     differed: u64,
@@ -114,35 +114,28 @@ impl Found {
     }
 }
 
-/// An answer of either side: what is accepted, or the refusal's number and place.
-type Answer<T> = Result<T, (u8, &'static str, u64)>;
-
-fn ours<T>(answer: Result<T, tsav::Refusal>) -> Answer<T> {
-    answer.map_err(|refusal| match refusal.place {
-        tsav::Place::Line(line) => (refusal.number, "line", line),
-        tsav::Place::Position(position) => (refusal.number, "position", position),
-        tsav::Place::Nowhere => (refusal.number, "nowhere", 0),
-    })
+/// A refusal of the reference in the wrapper's types.
+fn refused(refusal: reference::Refusal) -> tsav::Error {
+    let place = match refusal.place {
+        reference::Place::Line(line) => tsav::Place::Line(line),
+        reference::Place::Position(position) => tsav::Place::Position(position),
+        reference::Place::Nowhere => tsav::Place::Nowhere,
+    };
+    tsav::Error::Refused(tsav::Refusal { number: refusal.number, place })
 }
 
-fn theirs<T>(answer: Result<T, reference::Refusal>) -> Answer<T> {
-    answer.map_err(|refusal| match refusal.place {
-        reference::Place::Line(line) => (refusal.number, "line", line as u64),
-        reference::Place::Position(position) => (refusal.number, "position", position as u64),
-        reference::Place::Nowhere => (refusal.number, "nowhere", 0),
-    })
-}
-
-fn number<T>(answer: &Answer<T>) -> u8 {
-    answer.as_ref().map_or_else(|refusal| refusal.0, |_| 0)
-}
-
-/// Equal answers agree; others are written down after the case, as Rust writes them.
-fn agree<T: Debug + PartialEq>(case: String, ours: Answer<T>, theirs: Answer<T>) -> Result<Agreed, String> {
+/// Equal answers agree, and a broken contract with none; others are written down after the case, as Rust writes them.
+fn agree<T: Debug + PartialEq>(
+    case: impl Fn() -> String,
+    ours: Result<T, tsav::Error>,
+    theirs: Result<T, reference::Refusal>,
+) -> Result<Agreed, String> {
+    let answer = theirs.as_ref().map_or_else(|refusal| refusal.number, |_| 0);
+    let theirs = theirs.map_err(refused);
     if ours == theirs {
-        return Ok(Agreed { answer: number(&ours), decided: true });
+        return Ok(Agreed { answer, decided: true });
     }
-    Err(format!("{case}library: {ours:?}\nreference: {theirs:?}\n"))
+    Err(format!("{}library: {ours:?}\nreference: {theirs:?}\n", case()))
 }
 
 /// Bytes before and behind the lent report.
@@ -154,35 +147,34 @@ fn sheet_case(seed: u64, index: u64) -> Result<Agreed, String> {
     let before: Vec<u8> = (0..room + 2 * MARGIN).map(|at| (at as u64 * 31).wrapping_add(index) as u8).collect();
     let lent = MARGIN..MARGIN + room;
     let (mut one, mut two) = (before.clone(), before);
-    let ours = ours(tsav::sheet(&sheet, &mut one[lent.clone()]));
-    let theirs = theirs(reference::sheet_call(&sheet, &mut two[lent.clone()]));
-    if ours != theirs || one != two {
-        let about = |bytes: &[u8]| bytes.escape_ascii().to_string();
+    let ours = tsav::sheet(&sheet, &mut one[lent.clone()]);
+    let theirs = reference::sheet_call(&sheet, &mut two[lent.clone()]);
+
+    let case = || format!("sheet: b\"{}\"\nroom: {room}\n", sheet.escape_ascii());
+    let mut agreed = agree(case, ours, theirs)?;
+    if one != two {
+        let (one, two) = (one.escape_ascii(), two.escape_ascii());
         return Err(format!(
-            "sheet: b\"{}\"\nroom: {room}\nlibrary: {ours:?}\nreference: {theirs:?}\n\
-             report of the library, {MARGIN} bytes before and behind: b\"{}\"\nof the reference: b\"{}\"\n",
-            about(&sheet),
-            about(&one),
-            about(&two),
+            "{}report of the library, {MARGIN} bytes before and behind: b\"{one}\"\nof the reference: b\"{two}\"\n",
+            case()
         ));
     }
-    let decided = match ours {
-        Ok(length) => reference::judge(&sheet, &one[lent][..length])
-            .map_err(|why| format!("sheet: b\"{}\"\ndemand 3: {why}\n", sheet.escape_ascii()))?,
-        Err(_) => true,
-    };
-    Ok(Agreed { answer: number(&ours), decided })
+    if let Ok(length) = ours {
+        let judged = reference::judge(&sheet, &one[lent][..length]);
+        agreed.decided = judged.map_err(|why| format!("{}demand 3: {why}\n", case()))?;
+    }
+    Ok(agreed)
 }
 
 fn block_case(seed: u64, index: u64) -> Result<Agreed, String> {
     let numbers = generate::block_numbers(seed, index);
-    let ours = ours(tsav::block(&numbers).map(|tsav::Figures { i, d, u, lt, k }| [i, d, u, lt, k]));
-    agree(format!("numbers: {numbers:?}\n"), ours, theirs(reference::block_call(&numbers)))
+    let ours = tsav::block(&numbers).map(|tsav::Figures { i, d, u, lt, k }| [i, d, u, lt, k]);
+    agree(|| format!("numbers: {numbers:?}\n"), ours, reference::block_call(&numbers))
 }
 
 fn operational_case(seed: u64, index: u64) -> Result<Agreed, String> {
     let (volumes, general) = generate::operational_numbers(seed, index);
-    let ours = ours(tsav::operational(&volumes, &general));
-    let theirs = theirs(reference::operational_call(&volumes, &general));
-    agree(format!("volumes: {volumes:?}\ngeneral: {general:?}\n"), ours, theirs)
+    let ours = tsav::operational(&volumes, &general);
+    let theirs = reference::operational_call(&volumes, &general);
+    agree(|| format!("volumes: {volumes:?}\ngeneral: {general:?}\n"), ours, theirs)
 }
