@@ -8,23 +8,22 @@
 use std::hint::black_box;
 use std::time::{Duration, Instant};
 
-use reference::{sheet_line, EXAMPLE};
-use tsav::LONGEST_REPORT;
+use reference::{all_lines, example, sheet_line, CREDITS, EXPENSES, SCALAR, WHOLE_RUN};
+use tsav::{BLOCK_NUMBERS, LARGEST_AMOUNT, LONGEST_REPORT, MOST_BLOCKS, SHEET_LINE};
 
 /// Samples of each side, and what one should at least last, so that reading the clock doesn't count.
 const SAMPLES: usize = 2001;
 const SAMPLE: Duration = Duration::from_micros(100);
 const WARM_UP: Duration = Duration::from_millis(50);
 
-/// The paper's whole run: one block.
-const SMALL_SHEET: &[u8] = include_bytes!("../../../examples/example.sheet");
-
-const TABLE: [u64; 6] = [0, 1, 2, 4, 8, 16];
+/// The blocks of the sheets in the table; the last is the full sheet.
+const TABLE: [usize; 6] = [0, 1, 2, 4, 8, MOST_BLOCKS];
 
 fn main() {
-    let sheets = TABLE.map(sheet);
+    let (sheets, example) = (TABLE.map(sheet), example());
     let mut pairs: Vec<Pair> = sheets.iter().map(|sheet| sheet_pair(sheet)).collect();
-    pairs.extend([sheet_pair(SMALL_SHEET), block_pair(&EXAMPLE)]);
+    // The small sheet is the paper's whole run, of one block.
+    pairs.extend([sheet_pair(WHOLE_RUN), block_pair(&example)]);
     for _ in 0..SAMPLES {
         for pair in &mut pairs {
             pair.ours.sample();
@@ -33,43 +32,38 @@ fn main() {
     }
     let medians: Vec<(f64, f64)> = pairs.iter().map(|pair| (pair.ours.median(), pair.theirs.median())).collect();
     let (table, rest) = medians.split_at(TABLE.len());
-    // The last of the table is the full sheet.
-    for (name, (ours, theirs)) in ["full sheet", "small sheet", "block call"].iter().zip([table[5], rest[0], rest[1]]) {
+    let named = [table[TABLE.len() - 1], rest[0], rest[1]];
+    for (name, (ours, theirs)) in ["full sheet", "small sheet", "block call"].iter().zip(named) {
         println!("{name}: ours {ours:.3} us, u128 {theirs:.3} us, ratio {:.3}", ours / theirs);
     }
     println!("\nblocks  lines  ours us  u128 us  ratio");
     for ((blocks, sheet), (ours, theirs)) in TABLE.iter().zip(&sheets).zip(table) {
-        println!("{blocks:>6} {:>6} {ours:>8.2} {theirs:>8.2} {:>6.3}", sheet.len() / 40, ours / theirs);
+        println!("{blocks:>6} {:>6} {ours:>8.2} {theirs:>8.2} {:>6.3}", sheet.len() / SHEET_LINE, ours / theirs);
     }
 }
 
 /// A sheet with every line that this many blocks can have; of 16 blocks it is the longest, 293 lines.
-fn sheet(blocks: u64) -> Vec<u8> {
+fn sheet(blocks: usize) -> Vec<u8> {
     let mut drawn = 0;
     // Multiples of the golden section spread over the whole range: most amounts have 13 or 14 digits.
     let mut amount = || {
         drawn += 1;
-        drawn * 61_803_398_874_989 % 100_000_000_000_000
+        drawn * 61_803_398_874_989 % (LARGEST_AMOUNT + 1)
     };
-    let mut lines = Vec::new();
-    for block in 1..=blocks {
-        for class in 1..=7 {
-            let ir = amount();
-            lines.push(sheet_line("RSK", block, class, ir, if class == 7 { 0 } else { ir / class }));
-        }
-        for class in 1..=3 {
-            lines.push(sheet_line("OTH", block, class, amount(), 0));
-        }
-        for class in 1..=8 {
-            lines.push(sheet_line("VOL", block, class, amount(), amount()));
-        }
-    }
-    for class in 1..=3 {
-        lines.push(sheet_line("GEN", 0, class, amount(), 0));
-    }
-    lines.push(sheet_line("GEN", 0, 4, 10_000, 0));
-    lines.push(sheet_line("GEN", 0, 5, 1_000_000, 0));
-    lines.concat()
+    let line = |(code, block, class)| {
+        let (first, second) = match (code, class) {
+            ("GEN", SCALAR) => (10_000, 0),
+            ("GEN", CREDITS) => (1_000_000, 0),
+            ("RSK", EXPENSES) | ("OTH" | "GEN", _) => (amount(), 0),
+            ("RSK", _) => {
+                let ir = amount();
+                (ir, ir / class)
+            }
+            _ => (amount(), amount()),
+        };
+        sheet_line(code, block, class, first, second)
+    };
+    all_lines(blocks).into_iter().flat_map(line).collect()
 }
 
 /// One thing measured: a call of ours, and the same call of theirs.
@@ -92,7 +86,7 @@ fn sheet_pair(sheet: &[u8]) -> Pair<'_> {
     }
 }
 
-fn block_pair(numbers: &[u64; 17]) -> Pair<'_> {
+fn block_pair(numbers: &[u64; BLOCK_NUMBERS]) -> Pair<'_> {
     assert_eq!(tsav::block(numbers).unwrap().k, reference::block_call(numbers).unwrap()[4]);
     Pair {
         ours: Side::new(|| {

@@ -1,23 +1,6 @@
 use super::*;
 use contract::{LINE, NOWHERE, POSITION};
-
-/// The example of document 000, in cents.
-#[rustfmt::skip]
-const EXAMPLE: [u64; BLOCK_NUMBERS] = [
-    100_000_000, 70_000_000,
-    300_000, 300_000,
-    5_000_000, 1_000_000,
-    250_000, 100_000,
-    30_000_000, 15_000_000,
-    10_000_000, 4_000_000,
-    1_000_000, 0,
-    2_500_000, 20_000_000, 7_500_000,
-];
-
-const EXAMPLE_FIGURES: [u64; FIGURES] = [157_884_172, 191_405_437, 176_550_000, 90_400_000, 151_765_333];
-
-const WHOLE_RUN: &[u8] = include_bytes!("../../../examples/example.sheet");
-const WHOLE_RUN_REPORT: &str = include_str!("../../../crates/tsav_sheet/stdout");
+use reference::{example, EXAMPLE_FIGURES, WHOLE_RUN, WHOLE_RUN_REPORT};
 
 const OVER: u64 = LARGEST_AMOUNT + 1;
 
@@ -37,7 +20,7 @@ fn the_papers_whole_run() {
 #[test]
 fn the_example_of_document_000() {
     let [i, d, u, lt, k] = EXAMPLE_FIGURES;
-    assert_eq!(block(&EXAMPLE), Ok(Figures { i, d, u, lt, k }));
+    assert_eq!(block(&example()), Ok(Figures { i, d, u, lt, k }));
 }
 
 #[test]
@@ -53,7 +36,7 @@ fn the_operational_call() {
 #[test]
 fn refusals_of_the_block_call() {
     let with = |position: usize, number: u64| {
-        let mut numbers = EXAMPLE;
+        let mut numbers = example();
         numbers[position] = number;
         block(&numbers)
     };
@@ -127,7 +110,7 @@ fn untouched_by_the_block_call() {
         let answer = unsafe { library::tsav_block(numbers, &mut figures, &mut place) };
         (answer, figures, place)
     };
-    assert_eq!(call(&EXAMPLE), (0, EXAMPLE_FIGURES, [KEPT; 2]));
+    assert_eq!(call(&example()), (0, EXAMPLE_FIGURES, [KEPT; 2]));
     assert_eq!(call(&[OVER; BLOCK_NUMBERS]), (7, [KEPT; FIGURES], [POSITION, 0]));
 }
 

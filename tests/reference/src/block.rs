@@ -1,9 +1,17 @@
 //! "A block": I, D, U, LT and K from 17 amounts.
 
-use crate::{Refusal, LARGEST_AMOUNT};
+use crate::{Refusal, BLOCK_NUMBERS, FIGURES, LARGEST_AMOUNT, RISKS};
+
+/// LT(7), of expenses.
+pub(crate) const EXPENSES_LT: usize = 2 * RISKS - 1;
+
+/// The positions of PC, credit and market.
+pub(crate) const PC: usize = 2 * RISKS;
+const CREDIT: usize = PC + 1;
+const MARKET: usize = PC + 2;
 
 /// The correlation factors, in quarters, rows and columns 1 to 7.
-const FACTORS: [[i128; 7]; 7] = [
+const FACTORS: [[i128; RISKS]; RISKS] = [
     [4, -1, 2, -1, 1, 0, 2],
     [-1, 4, -1, 2, 1, -1, 1],
     [2, -1, 4, 1, 2, 0, 2],
@@ -28,23 +36,23 @@ pub(crate) struct Terms {
 }
 
 /// "A block": seven pairs IR, LT, then PC, credit and market, all at most the limit and no LT above its IR.
-pub(crate) fn terms(b: &[u64; 17]) -> Terms {
+pub(crate) fn terms(b: &[u64; BLOCK_NUMBERS]) -> Terms {
     let amount = |position: usize| u128::from(b[position]);
-    let (pc, credit, market) = (amount(14), amount(15), amount(16));
+    let (pc, credit, market) = (amount(PC), amount(CREDIT), amount(MARKET));
 
     // y(i) = 2 × IR(i) − LT(i)
-    let y: Vec<u128> = (0..7).map(|i| 2 * amount(2 * i) - amount(2 * i + 1)).collect();
+    let y: Vec<u128> = (0..RISKS).map(|i| 2 * amount(2 * i) - amount(2 * i + 1)).collect();
 
     // A single term may be negative; the sum never is.
     let mut sum: i128 = 0;
-    for i in 0..7 {
-        for j in 0..7 {
+    for i in 0..RISKS {
+        for j in 0..RISKS {
             sum += FACTORS[i][j] * (y[i] * y[j]) as i128;
         }
     }
 
-    let u = (0..7).map(|i| amount(2 * i)).sum::<u128>() + pc + credit + market;
-    let lt = (0..7).map(|i| amount(2 * i + 1)).sum::<u128>();
+    let u = (0..RISKS).map(|i| amount(2 * i)).sum::<u128>() + pc + credit + market;
+    let lt = (0..RISKS).map(|i| amount(2 * i + 1)).sum::<u128>();
     Terms {
         quarters: u128::try_from(sum).expect("Q is never negative"),
         largest: *y.iter().max().unwrap(),
@@ -57,17 +65,17 @@ pub(crate) fn terms(b: &[u64; 17]) -> Terms {
 }
 
 /// The block call: I and D in half cents, U, LT and K in cents.
-pub fn block_call(b: &[u64; 17]) -> Result<[u64; 5], Refusal> {
+pub fn block_call(b: &[u64; BLOCK_NUMBERS]) -> Result<[u64; FIGURES], Refusal> {
     // "What is turned away": 7 at the first bad position,
     if let Some(position) = b.iter().position(|&amount| amount > LARGEST_AMOUNT) {
         return Err(Refusal::at_position(7, position));
     }
     // then 8, LT(7) not 0,
-    if b[13] != 0 {
-        return Err(Refusal::at_position(8, 13));
+    if b[EXPENSES_LT] != 0 {
+        return Err(Refusal::at_position(8, EXPENSES_LT));
     }
     // then 9 at the first LT above its IR.
-    if let Some(risk) = (0..7).find(|&i| b[2 * i + 1] > b[2 * i]) {
+    if let Some(risk) = (0..RISKS).find(|&i| b[2 * i + 1] > b[2 * i]) {
         return Err(Refusal::at_position(9, 2 * risk + 1));
     }
 
@@ -118,9 +126,9 @@ mod tests {
 
     #[test]
     fn the_factors_are_symmetric() {
-        for i in 0..7 {
+        for i in 0..RISKS {
             assert_eq!(FACTORS[i][i], 4);
-            for j in 0..7 {
+            for j in 0..RISKS {
                 assert_eq!(FACTORS[i][j], FACTORS[j][i]);
             }
         }

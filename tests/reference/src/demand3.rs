@@ -18,8 +18,8 @@
 use crate::big::Big;
 use crate::block::{terms, Terms};
 use crate::operational::over_50_000;
-use crate::sheet::{number, read_sheet};
-use crate::REPORT_LINE_BYTES;
+use crate::sheet::{number, read_sheet, Sheet, REPORT_NUMBER};
+use crate::{FIGURES, REPORT_LINE_BYTES};
 
 /// Even, so that a quarter of SCALE² is a whole number.
 const SCALE: u128 = 100_000_000_000_000_000_000;
@@ -32,21 +32,27 @@ pub fn demand3(sheet: &[u8], report: &[u8]) -> Result<(), String> {
 /// As demand3, and whether the bracket decided both bounds of the buffer.
 pub fn judge(sheet: &[u8], report: &[u8]) -> Result<bool, String> {
     let sheet = read_sheet(sheet).map_err(|refusal| format!("the sheet is refused: {refusal:?}"))?;
-    let n = sheet.blocks.len();
-
-    // For every block 2 × K is at least LT + D, and K is at most U, all as reported.
     for (at, &block) in sheet.blocks.keys().enumerate() {
-        let item = |item: usize| figure(report, 5 * at + item - 1, "BLK", block, item);
-        let (d, u, lt, k) = (item(2)?, item(3)?, item(4)?, item(5)?);
-        if 2 * u128::from(k) < u128::from(lt) + u128::from(d) {
-            return Err(format!("block {block}: 2 × K is below LT + D"));
-        }
-        if k > u {
-            return Err(format!("block {block}: K is above U"));
-        }
+        judge_block(report, at, block)?;
     }
-    let buffer = figure(report, 5 * n + 2, "TOT", 0, 3)?;
+    judge_buffer(&sheet, figure(report, FIGURES * sheet.blocks.len() + 2, "TOT", 0, 3)?)
+}
 
+/// For every block 2 × K is at least LT + D, and K is at most U, all as reported.
+fn judge_block(report: &[u8], at: usize, block: u64) -> Result<(), String> {
+    let item = |item: usize| figure(report, FIGURES * at + item - 1, "BLK", block, item);
+    let (d, u, lt, k) = (item(2)?, item(3)?, item(4)?, item(5)?);
+    if 2 * u128::from(k) < u128::from(lt) + u128::from(d) {
+        return Err(format!("block {block}: 2 × K is below LT + D"));
+    }
+    if k > u {
+        return Err(format!("block {block}: K is above U"));
+    }
+    Ok(())
+}
+
+/// The reported buffer's two bounds, and whether the bracket decided both.
+fn judge_buffer(sheet: &Sheet, buffer: u64) -> Result<bool, String> {
     // The exact sum of K, in cents × SCALE².
     let (mut lower, mut upper) = (Big::from(0), Big::from(0));
     for (block, amounts) in &sheet.blocks {
@@ -63,7 +69,8 @@ pub fn judge(sheet: &[u8], report: &[u8]) -> Result<bool, String> {
     let reported = (of(buffer) * ten_thousand + g * of(sheet.credits())) * fifty_thousand * cents;
     let exact = |sum_of_k: Big| g * ((sum_of_k + of(sheet.guarantee()) * cents) * fifty_thousand + ro * cents);
     // The allowance is g × (2n + 1) + 1 cents.
-    let allowance = (g * Big::from(2 * n as u128 + 1) + ten_thousand) * fifty_thousand * cents;
+    let n = sheet.blocks.len() as u128;
+    let allowance = (g * Big::from(2 * n + 1) + ten_thousand) * fifty_thousand * cents;
 
     let (lower, upper) = (exact(lower), exact(upper));
     if reported < lower {
@@ -113,8 +120,9 @@ fn figure(report: &[u8], line: usize, code: &str, block: u64, item: usize) -> Re
     let wrong = || format!("line {} isn't the line {code} {block} {item}", line + 1);
     let start = REPORT_LINE_BYTES * line;
     let bytes = report.get(start..start + REPORT_LINE_BYTES).ok_or_else(wrong)?;
-    if &bytes[..10] != format!("{code} {block:>2} {item:>2} ").as_bytes() || bytes[28] != b'\n' {
+    let (before, after) = (&bytes[..REPORT_NUMBER.start], &bytes[REPORT_NUMBER.end..]);
+    if before != format!("{code} {block:>2} {item:>2} ").as_bytes() || after != b"\n" {
         return Err(wrong());
     }
-    number(&bytes[10..28]).ok_or_else(wrong)
+    number(&bytes[REPORT_NUMBER]).ok_or_else(wrong)
 }

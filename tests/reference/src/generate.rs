@@ -1,7 +1,8 @@
 //! A seeded generator of sheets, sound and damaged, and of rooms for their reports; and of numbers for the other two calls.
 //! The same seed and index always give the same case.
 
-use crate::sheet::read_sheet;
+use crate::block::{EXPENSES_LT, PC};
+use crate::sheet::{ranges, read_sheet, CODE, FIELDS, LINE_FEED, SPACES};
 use crate::*;
 
 /// Case `index` of `seed`: a sheet and the length of the report to lend.
@@ -19,34 +20,21 @@ pub fn accepted(seed: u64, index: u64) -> Vec<u8> {
 }
 
 /// The numbers of block call `index` of `seed`: sound, with faults, or of any size.
-pub fn block_numbers(seed: u64, index: u64) -> [u64; 17] {
+pub fn block_numbers(seed: u64, index: u64) -> [u64; BLOCK_NUMBERS] {
     let mut random = Random::new(seed, index);
     if random.one_in(16) {
         return std::array::from_fn(|_| any_size(&mut random));
     }
-    let (style, density) = (random.below(STYLES + 1), random.from(1, 8));
-    let mut numbers = [0; 17];
-    for risk in 0..7 {
-        if random.below(8) < density {
-            let ir = amount(&mut random, style);
-            numbers[2 * risk] = ir;
-            numbers[2 * risk + 1] = if risk == 6 { 0 } else { part_of(&mut random, ir) };
-        }
-    }
-    for position in 14..17 {
-        if random.below(8) < density && random.one_in(2) {
-            numbers[position] = amount(&mut random, style);
-        }
-    }
+    let mut numbers = sound_block(&mut random);
     for _ in 0..random.pick(&[0, 0, 0, 1, 1, 2]) {
         match random.below(4) {
             // 7
-            0 => numbers[random.at(17)] = too_large(&mut random),
+            0 => numbers[random.at(BLOCK_NUMBERS)] = too_large(&mut random),
             // 8
-            1 => numbers[13] = some_amount(&mut random),
+            1 => numbers[EXPENSES_LT] = some_amount(&mut random),
             // 9, or 7 where IR is the largest amount
             _ => {
-                let risk = random.at(6);
+                let risk = random.at(RISKS - 1);
                 numbers[2 * risk + 1] = numbers[2 * risk].saturating_add(random.pick(&[1, 1, 2, 1_000]));
             }
         }
@@ -54,43 +42,65 @@ pub fn block_numbers(seed: u64, index: u64) -> [u64; 17] {
     numbers
 }
 
+fn sound_block(random: &mut Random) -> [u64; BLOCK_NUMBERS] {
+    let (style, density) = (random.below(STYLES + 1), random.from(1, 8));
+    let mut numbers = [0; BLOCK_NUMBERS];
+    for risk in 0..RISKS {
+        if random.below(8) < density {
+            let ir = amount(random, style);
+            numbers[2 * risk] = ir;
+            numbers[2 * risk + 1] = if 2 * risk + 1 == EXPENSES_LT { 0 } else { part_of(random, ir) };
+        }
+    }
+    for position in PC..BLOCK_NUMBERS {
+        if random.below(8) < density && random.one_in(2) {
+            numbers[position] = amount(random, style);
+        }
+    }
+    numbers
+}
+
 /// The volumes and the general figures of operational call `index` of `seed`: sound, with faults, or of any size.
-pub fn operational_numbers(seed: u64, index: u64) -> (Vec<u64>, [u64; 3]) {
+pub fn operational_numbers(seed: u64, index: u64) -> (Vec<u64>, [u64; GENERAL_NUMBERS]) {
     let mut random = Random::new(seed, index);
-    let any = random.from(0, 16);
-    let territories = random.pick(&[0, 1, 1, 2, 16, any, any]);
+    let any = random.at(MOST_BLOCKS + 1);
+    let territories = random.pick(&[0, 1, 1, 2, MOST_BLOCKS, any, any]);
     let (style, density) = (random.below(STYLES + 1), random.from(1, 8));
     let mut list = Vec::new();
-    for _ in 0..8 * territories {
+    for _ in 0..VOLUME_CLASSES * territories {
         let (current, prior) = if random.below(8) < density { volumes(&mut random, style) } else { (0, 0) };
         list.extend([current, prior]);
     }
-    let mut general = [0; 3].map(|_: u64| amount(&mut random, style));
-
-    let faults = random.pick(&[0, 0, 0, 1, 1, 2]);
-    for _ in 0..faults {
-        match random.below(4) {
-            // 15: longer by some numbers or by territories, shorter, or of any length
-            0 => {
-                let any = random.at(600);
-                let length =
-                    random.pick(&[list.len() + 1, list.len() + 15, list.len().saturating_sub(1), any, 257, 272]);
-                let number = amount(&mut random, style);
-                list.resize(length, number);
-            }
-            // 7, in either list
-            1 | 2 => {
-                let position = random.at(list.len() + 3);
-                let number = too_large(&mut random);
-                match list.len() {
-                    length if position >= length => general[position - length] = number,
-                    _ => list[position] = number,
-                }
-            }
-            _ => list.iter_mut().chain(&mut general).for_each(|number| *number = any_size(&mut random)),
-        }
+    let mut general = [0; GENERAL_NUMBERS].map(|_: u64| amount(&mut random, style));
+    for _ in 0..random.pick(&[0, 0, 0, 1, 1, 2]) {
+        damage_numbers(&mut random, style, &mut list, &mut general);
     }
     (list, general)
+}
+
+fn damage_numbers(random: &mut Random, style: u64, list: &mut Vec<u64>, general: &mut [u64; GENERAL_NUMBERS]) {
+    match random.below(4) {
+        // 15: longer by some numbers or by territories, shorter, or of any length
+        0 => {
+            let any = random.at(600);
+            let (longer, shorter) =
+                ([list.len() + 1, list.len() + TERRITORY_NUMBERS - 1], list.len().saturating_sub(1));
+            let too_long = [MOST_VOLUMES + 1, MOST_VOLUMES + TERRITORY_NUMBERS];
+            let length = random.pick(&[longer[0], longer[1], shorter, any, too_long[0], too_long[1]]);
+            let number = amount(random, style);
+            list.resize(length, number);
+        }
+        // 7, in either list
+        1 | 2 => {
+            let position = random.at(list.len() + GENERAL_NUMBERS);
+            let number = too_large(random);
+            match list.len() {
+                length if position >= length => general[position - length] = number,
+                _ => list[position] = number,
+            }
+        }
+        _ => list.iter_mut().chain(general).for_each(|number| *number = any_size(random)),
+    }
 }
 
 /// Numbers above the limit: by one, by little, by a bit, the largest of all.
@@ -158,7 +168,11 @@ struct Line {
     second: u64,
 }
 
-const MOST_LINES: usize = LONGEST_SHEET / LINE_BYTES;
+impl Line {
+    fn is_scalar(&self) -> bool {
+        self.code == "GEN" && self.class == SCALAR
+    }
+}
 
 fn bytes(lines: &[Line]) -> Vec<u8> {
     lines.iter().flat_map(|l| sheet_line(l.code, l.block, l.class, l.first, l.second)).collect()
@@ -166,57 +180,36 @@ fn bytes(lines: &[Line]) -> Vec<u8> {
 
 // Sound sheets
 
+/// How full a sheet is and what amounts it has.
+struct Manner {
+    style: u64,
+    /// Every line that can stand does; else of 8 so many do.
+    full: bool,
+    density: u64,
+}
+
+impl Manner {
+    fn stands(&self, random: &mut Random) -> bool {
+        self.full || random.below(8) < self.density
+    }
+}
+
 /// The lines of a sheet that is accepted, in any order.
 fn sound_lines(random: &mut Random) -> Vec<Line> {
     let mut lines = Vec::new();
-    let style = random.below(STYLES + 1);
-    // Of 8 lines that could stand, so many do; one sheet in 12 is full.
-    let (full, density) = (random.one_in(12), random.from(1, 8));
-    let stands = |random: &mut Random| full || random.below(8) < density;
-
-    for block in numbers(random, full) {
-        let style = if random.one_in(8) { ZEROS } else { style };
-        let before = lines.len();
-        for class in 1..=7 {
-            if stands(random) {
-                let ir = amount(random, style);
-                let lt = if class == 7 { 0 } else { part_of(random, ir) };
-                lines.push(Line { code: "RSK", block, class, first: ir, second: lt });
-            }
-        }
-        for class in 1..=3 {
-            // Without PC, credit and market the floor of I and K = U are reached more often.
-            if stands(random) && (full || random.one_in(2)) {
-                lines.push(Line { code: "OTH", block, class, first: amount(random, style), second: 0 });
-            }
-        }
-        // A block exists by zeros alone.
-        if lines.len() == before {
-            let (code, class) = random.pick(&[("RSK", 1), ("RSK", 7), ("OTH", 1), ("OTH", 3)]);
-            lines.push(Line { code, block, class, first: 0, second: 0 });
-        }
+    let manner = Manner { style: random.below(STYLES + 1), full: random.one_in(12), density: random.from(1, 8) };
+    for block in numbers(random, manner.full) {
+        block_lines(random, &manner, block, &mut lines);
     }
-    for block in numbers(random, full) {
-        for class in 1..=8 {
-            if stands(random) {
-                let (current, prior) = volumes(random, style);
+    for block in numbers(random, manner.full) {
+        for class in 1..=VOLUME_CLASSES as u64 {
+            if manner.stands(random) {
+                let (current, prior) = volumes(random, manner.style);
                 lines.push(Line { code: "VOL", block, class, first: current, second: prior });
             }
         }
     }
-    for class in 1..=3 {
-        if stands(random) {
-            lines.push(Line { code: "GEN", block: 0, class, first: amount(random, style), second: 0 });
-        }
-    }
-    let any = random.from(1, LARGEST_SCALAR);
-    let g = random.pick(&[1, 2, 9_000, 9_999, 10_000, 10_000, 10_001, 19_999, 20_000, any]);
-    lines.push(Line { code: "GEN", block: 0, class: 4, first: g, second: 0 });
-    if full || random.one_in(2) {
-        let first = credits(random, &lines);
-        lines.push(Line { code: "GEN", block: 0, class: 5, first, second: 0 });
-    }
-
+    general_lines(random, &manner, &mut lines);
     match random.below(4) {
         0 => {}
         1 => lines.reverse(),
@@ -225,15 +218,59 @@ fn sound_lines(random: &mut Random) -> Vec<Line> {
     lines
 }
 
+/// The RSK and OTH lines of a block, one at least.
+fn block_lines(random: &mut Random, manner: &Manner, block: u64, lines: &mut Vec<Line>) {
+    let style = if random.one_in(8) { ZEROS } else { manner.style };
+    let before = lines.len();
+    for class in 1..=EXPENSES {
+        if manner.stands(random) {
+            let ir = amount(random, style);
+            let lt = if class == EXPENSES { 0 } else { part_of(random, ir) };
+            lines.push(Line { code: "RSK", block, class, first: ir, second: lt });
+        }
+    }
+    for class in 1..=3 {
+        // Without PC, credit and market the floor of I and K = U are reached more often.
+        if manner.stands(random) && (manner.full || random.one_in(2)) {
+            lines.push(Line { code: "OTH", block, class, first: amount(random, style), second: 0 });
+        }
+    }
+    // A block exists by zeros alone.
+    if lines.len() == before {
+        let (code, class) = random.pick(&[("RSK", 1), ("RSK", EXPENSES), ("OTH", 1), ("OTH", 3)]);
+        lines.push(Line { code, block, class, first: 0, second: 0 });
+    }
+}
+
+/// The GEN lines. The credits come last, because the lines before them limit them.
+fn general_lines(random: &mut Random, manner: &Manner, lines: &mut Vec<Line>) {
+    for class in 1..SCALAR {
+        if manner.stands(random) {
+            lines.push(general_line(class, amount(random, manner.style)));
+        }
+    }
+    let any = random.from(1, LARGEST_SCALAR);
+    let g = random.pick(&[1, 2, 9_000, 9_999, 10_000, 10_000, 10_001, LARGEST_SCALAR - 1, LARGEST_SCALAR, any]);
+    lines.push(general_line(SCALAR, g));
+    if manner.full || random.one_in(2) {
+        let first = credits(random, lines);
+        lines.push(general_line(CREDITS, first));
+    }
+}
+
+fn general_line(class: u64, first: u64) -> Line {
+    Line { code: "GEN", block: 0, class, first, second: 0 }
+}
+
 /// Which of the blocks 1 to 16: none, a few, any number, all.
 fn numbers(random: &mut Random, all: bool) -> Vec<u64> {
-    let mut numbers: Vec<u64> = (1..=16).collect();
+    let mut numbers: Vec<u64> = (1..=MOST_BLOCKS as u64).collect();
     if all {
         return numbers;
     }
     random.shuffle(&mut numbers);
-    let most = random.pick(&[0, 1, 1, 2, 3, 16, 16]);
-    numbers.truncate(random.from(most.min(1), most) as usize);
+    let most = random.pick(&[0, 1, 1, 2, 3, numbers.len(), numbers.len()]);
+    numbers.truncate(random.from(most.min(1) as u64, most as u64) as usize);
     numbers.sort();
     numbers
 }
@@ -331,6 +368,10 @@ fn damaged(random: &mut Random, mut lines: Vec<Line>) -> Vec<u8> {
     for kind in kinds {
         if kind < 9 {
             damage_lines(random, &mut lines, kind);
+            // Later faults need a line to stand in.
+            if lines.is_empty() {
+                lines.push(general_line(1, 0));
+            }
         } else {
             damage_bytes(random, sheet.get_or_insert_with(|| bytes(&lines)), kind);
         }
@@ -338,73 +379,84 @@ fn damaged(random: &mut Random, mut lines: Vec<Line>) -> Vec<u8> {
     sheet.unwrap_or_else(|| bytes(&lines))
 }
 
+/// Puts in a fault of amounts, of this kind: the refusal that it is to give is named.
 fn damage_lines(random: &mut Random, lines: &mut Vec<Line>, kind: u64) {
     match kind {
-        // 13: credits above the bracket.
-        0 => {
-            lines.retain(|l| !(l.code == "GEN" && l.class == 5));
-            if bracket(lines) >= LARGEST_AMOUNT {
-                lines.retain(|l| l.code == "GEN" && l.class == 4);
-            }
-            let least = bracket(lines) + 1;
-            let first = if random.one_in(2) { least } else { random.from(least, LARGEST_AMOUNT) };
-            put(random, lines, Line { code: "GEN", block: 0, class: 5, first, second: 0 });
-        }
-        // 5: a block outside the code's range.
+        // 13
+        0 => credits_above_bracket(random, lines),
+        // 5
         1 => {
             let at = random.at(lines.len());
-            let outside = if lines[at].code == "GEN" { random.from(1, 99) } else { random.pick(&[0, 17, 18, 99]) };
-            lines[at].block = outside;
+            lines[at].block = block_outside(random, lines[at].code);
         }
-        // 6: a class outside the code's range.
+        // 6
         2 => {
             let at = random.at(lines.len());
-            let last = match lines[at].code {
-                "RSK" => 7,
-                "OTH" => 3,
-                "VOL" => 8,
-                _ => 5,
-            };
-            lines[at].class = random.pick(&[0, last + 1, last + 1, 10, 99]);
+            lines[at].class = class_outside(random, lines[at].code);
         }
-        // 8: a second amount that must be 0.
+        // 8: a second amount that must be 0
         3 => {
             let at = line_of(random, lines, |l| l.code == "OTH" || l.code == "GEN");
             lines[at].second = some_amount(random);
         }
-        // 8: LT(7), which may be above IR(7) too.
+        // 8: LT(7), which may be above IR(7) too
         4 => {
             let at = line_of(random, lines, |l| l.code == "RSK");
-            lines[at].class = 7;
+            lines[at].class = EXPENSES;
             lines[at].second = some_amount(random);
         }
-        // 9: LT above IR.
-        5 => {
-            let at = line_of(random, lines, |l| l.code == "RSK" && l.class != 7);
-            let line = &mut lines[at];
-            line.first = line.first.min(LARGEST_AMOUNT - 1);
-            line.second = if random.one_in(2) { line.first + 1 } else { random.from(line.first + 1, LARGEST_AMOUNT) };
-        }
-        // 10: g outside its range.
+        // 9
+        5 => lt_above_ir(random, lines),
+        // 10
         6 => {
-            let at = line_of(random, lines, |l| l.code == "GEN" && l.class == 4);
-            lines[at].first = random.pick(&[0, 20_001, 20_002, 100_000, LARGEST_AMOUNT]);
+            let at = line_of(random, lines, Line::is_scalar);
+            lines[at].first = random.pick(&[0, LARGEST_SCALAR + 1, LARGEST_SCALAR + 2, 100_000, LARGEST_AMOUNT]);
         }
-        // 11: a line that stood before, with its own or other amounts.
-        7 => {
-            let mut line = lines[random.at(lines.len())];
-            if random.one_in(2) {
-                line.first = some_amount(random);
-            }
-            put(random, lines, line);
-        }
-        // 12: no g line.
-        _ => lines.retain(|l| !(l.code == "GEN" && l.class == 4)),
+        // 11
+        7 => line_twice(random, lines),
+        // 12
+        _ => lines.retain(|l| !l.is_scalar()),
     }
-    // Later faults need a line to stand in.
-    if lines.is_empty() {
-        lines.push(Line { code: "GEN", block: 0, class: 1, first: 0, second: 0 });
+}
+
+fn credits_above_bracket(random: &mut Random, lines: &mut Vec<Line>) {
+    lines.retain(|l| !(l.code == "GEN" && l.class == CREDITS));
+    if bracket(lines) >= LARGEST_AMOUNT {
+        lines.retain(Line::is_scalar);
     }
+    let least = bracket(lines) + 1;
+    let first = if random.one_in(2) { least } else { random.from(least, LARGEST_AMOUNT) };
+    put(random, lines, general_line(CREDITS, first));
+}
+
+fn block_outside(random: &mut Random, code: &str) -> u64 {
+    let (blocks, _) = ranges(code.as_bytes()).unwrap();
+    match *blocks.end() {
+        0 => random.from(1, 99),
+        last => random.pick(&[0, last + 1, last + 2, 99]),
+    }
+}
+
+fn class_outside(random: &mut Random, code: &str) -> u64 {
+    let (_, classes) = ranges(code.as_bytes()).unwrap();
+    let next = classes.end() + 1;
+    random.pick(&[0, next, next, 10, 99])
+}
+
+fn lt_above_ir(random: &mut Random, lines: &mut Vec<Line>) {
+    let at = line_of(random, lines, |l| l.code == "RSK" && l.class != EXPENSES);
+    let line = &mut lines[at];
+    line.first = line.first.min(LARGEST_AMOUNT - 1);
+    line.second = if random.one_in(2) { line.first + 1 } else { random.from(line.first + 1, LARGEST_AMOUNT) };
+}
+
+/// A line that stood before, with its own or another amount.
+fn line_twice(random: &mut Random, lines: &mut Vec<Line>) {
+    let mut line = lines[random.at(lines.len())];
+    if random.one_in(2) {
+        line.first = some_amount(random);
+    }
+    put(random, lines, line);
 }
 
 fn some_amount(random: &mut Random) -> u64 {
@@ -427,15 +479,12 @@ fn put(random: &mut Random, lines: &mut Vec<Line>, line: Line) {
 fn line_of(random: &mut Random, lines: &mut Vec<Line>, wanted: impl Fn(&Line) -> bool) -> usize {
     let such: Vec<usize> = (0..lines.len()).filter(|&at| wanted(&lines[at])).collect();
     if such.is_empty() {
-        lines.push(Line { code: "RSK", block: random.from(1, 16), class: 1, first: 0, second: 0 });
+        let block = random.from(1, MOST_BLOCKS as u64);
+        lines.push(Line { code: "RSK", block, class: 1, first: 0, second: 0 });
         return lines.len() - 1;
     }
     random.pick(&such)
 }
-
-/// The four number fields, and the columns between them, as indexes of a line.
-const FIELDS: [(usize, usize); 4] = [(4, 6), (7, 9), (10, 24), (25, 39)];
-const GAPS: [usize; 4] = [3, 6, 9, 24];
 
 /// NUL, tab, line feed, carriage return, signs, points, the neighbours of the digits, letters, bytes above 127.
 const STRANGE: [u8; 17] = [0, 9, 10, 11, 13, b'+', b',', b'-', b'.', b'/', b':', b'A', 127, 128, 160, 233, 255];
@@ -445,65 +494,76 @@ const WRONG_CODES: [[u8; 3]; 14] = [
     *b"VO\r", *b"\xCBSK",
 ];
 
+/// Puts in a fault of bytes, of this kind: the refusal that it is to give is named.
 fn damage_bytes(random: &mut Random, sheet: &mut Vec<u8>, kind: u64) {
     let whole_lines = sheet.len() / LINE_BYTES;
     if whole_lines == 0 {
         return;
     }
-    let at = random.at(whole_lines);
-    let line = &mut sheet[LINE_BYTES * at..LINE_BYTES * (at + 1)];
-    let (start, end) = random.pick(&FIELDS);
+    let at = LINE_BYTES * random.at(whole_lines);
+    let line = &mut sheet[at..at + LINE_BYTES];
+    let field = &mut line[FIELDS[random.at(FIELDS.len())].clone()];
     match kind {
-        // 3: a wrong byte in a number.
-        9 => line[start + random.at(end - start)] = random.pick(&STRANGE),
-        // 3: a wrong byte between the columns or at the end.
+        // 3: a wrong byte in a number
+        9 => field[random.at(field.len())] = random.pick(&STRANGE),
+        // 3: a wrong byte between the columns or at the end
         10 => {
             let any = random.pick(&STRANGE);
-            line[random.pick(&[GAPS[0], GAPS[1], GAPS[2], GAPS[3], 39])] =
-                random.pick(&[any, b'0', b'7', 0, 9, 13, 200]);
+            let [one, two, three, four] = SPACES;
+            line[random.pick(&[one, two, three, four, LINE_FEED])] = random.pick(&[any, b'0', b'7', 0, 9, 13, 200]);
         }
-        // 3: a number with a leading zero, left-justified, moved by one, or none.
-        11 => {
-            let spaces = line[start..end].iter().take_while(|&&byte| byte == b' ').count();
-            match random.below(4) {
-                0 if spaces > 0 => line[start + spaces - 1] = b'0',
-                1 => line[start..end].rotate_left(spaces),
-                2 if spaces > 0 => line[start..end].rotate_left(1),
-                _ => line[start..end].fill(b' '),
-            }
-        }
-        // 4: a wrong code.
-        12 => line[..3].copy_from_slice(&random.pick(&WRONG_CODES)),
-        // 4: a wrong byte in the code.
-        13 => line[random.at(3)] = random.pick(&STRANGE),
-        // 2: cut off or lengthened.
-        14 => {
-            let rest = random.from(1, 39) as usize;
-            if random.one_in(2) {
-                sheet.truncate(sheet.len() - rest);
-            } else {
-                sheet.extend_from_within(..rest);
-            }
-        }
-        // 1: too long, by a byte, a line, or more.
+        // 3
+        11 => move_number(random, field),
+        // 4: a wrong code
+        12 => line[CODE].copy_from_slice(&random.pick(&WRONG_CODES)),
+        // 4: a wrong byte in the code
+        13 => line[random.at(CODE.len())] = random.pick(&STRANGE),
+        // 2
+        14 => cut_or_lengthen(random, sheet),
+        // 1: too long, by a byte, a line, or more
         15 => {
-            let any = random.from(1, 400) as usize;
+            let any = 1 + random.at(10 * LINE_BYTES);
             let length = LONGEST_SHEET + random.pick(&[1, 1, LINE_BYTES, any]);
             *sheet = sheet.iter().copied().cycle().take(length).collect();
         }
-        // 2 or 3: a line of 41 bytes, and the sheet longer by one or not.
-        16 => {
-            sheet.insert(LINE_BYTES * at + random.at(LINE_BYTES), random.pick(b" 0\n\r\0"));
-            if random.one_in(2) {
-                sheet.pop();
-            }
-        }
-        // Any bytes at all.
-        _ => {
-            let length = random.pick(&[40, 80, 400]) + random.pick(&[0, 0, 1, 39]);
-            let alphabet: Vec<u8> =
-                if random.one_in(2) { (0..=255).collect() } else { b" 0123456789RSKGEN\n".to_vec() };
-            *sheet = (0..length).map(|_| random.pick(&alphabet)).collect();
-        }
+        // 2 or 3
+        16 => longer_line(random, sheet, at),
+        _ => *sheet = any_bytes(random),
     }
+}
+
+/// A number with a leading zero, left-justified, moved by one, or none.
+fn move_number(random: &mut Random, field: &mut [u8]) {
+    let spaces = field.iter().take_while(|&&byte| byte == b' ').count();
+    match random.below(4) {
+        0 if spaces > 0 => field[spaces - 1] = b'0',
+        1 => field.rotate_left(spaces),
+        2 if spaces > 0 => field.rotate_left(1),
+        _ => field.fill(b' '),
+    }
+}
+
+/// By less than a line.
+fn cut_or_lengthen(random: &mut Random, sheet: &mut Vec<u8>) {
+    let rest = 1 + random.at(LINE_BYTES - 1);
+    if random.one_in(2) {
+        sheet.truncate(sheet.len() - rest);
+    } else {
+        sheet.extend_from_within(..rest);
+    }
+}
+
+/// The line from this byte on gets a byte more, and the sheet too or not.
+fn longer_line(random: &mut Random, sheet: &mut Vec<u8>, at: usize) {
+    sheet.insert(at + random.at(LINE_BYTES), random.pick(b" 0\n\r\0"));
+    if random.one_in(2) {
+        sheet.pop();
+    }
+}
+
+/// Any bytes at all, or any of those that a sheet has.
+fn any_bytes(random: &mut Random) -> Vec<u8> {
+    let length = LINE_BYTES * random.pick(&[1, 2, 10]) + random.pick(&[0, 0, 1, LINE_BYTES - 1]);
+    let alphabet: Vec<u8> = if random.one_in(2) { (0..=255).collect() } else { b" 0123456789RSKGEN\n".to_vec() };
+    (0..length).map(|_| random.pick(&alphabet)).collect()
 }

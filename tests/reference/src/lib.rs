@@ -9,43 +9,61 @@
 mod big;
 mod block;
 mod demand3;
+mod example;
 pub mod generate;
 mod operational;
 mod sheet;
 
 pub use block::block_call;
 pub use demand3::{demand3, judge};
+pub use example::{example, EXAMPLE_FIGURES, WHOLE_RUN, WHOLE_RUN_REPORT};
 pub use operational::operational_call;
-pub use sheet::{report_length, report_line, sheet_call, sheet_line};
+pub use sheet::{all_lines, report_length, report_line, sheet_call, sheet_line};
 
 /// "What the calculator holds": all amounts are whole cents, 0 to 99,999,999,999,999.
 pub const LARGEST_AMOUNT: u64 = 99_999_999_999_999;
+
+/// Blocks, and territories, are numbered 1 to 16.
+pub const MOST_BLOCKS: usize = 16;
+
+/// "A block": the risks. The last is expenses, whose LT is 0.
+pub const RISKS: usize = 7;
+pub const EXPENSES: u64 = RISKS as u64;
+
+/// "A block": seven pairs IR, LT, then PC, credit and market.
+pub const BLOCK_NUMBERS: usize = 2 * RISKS + 3;
+
+/// "A block": I, D, U, LT and K.
+pub const FIGURES: usize = 5;
+
+/// "Operational risk": the eight volume classes of a territory, and the numbers of their pairs current, prior.
+pub const VOLUME_CLASSES: usize = 8;
+pub const TERRITORY_NUMBERS: usize = 2 * VOLUME_CLASSES;
+
+/// "Operational risk": the volumes of all territories.
+pub const MOST_VOLUMES: usize = MOST_BLOCKS * TERRITORY_NUMBERS;
+
+/// "Operational risk": gross components, guarantee requirement, ceded premiums.
+pub const GENERAL_NUMBERS: usize = 3;
+
+/// The classes of GEN: those three, the scalar and the credits.
+pub const GENERAL_CLASSES: usize = 5;
+pub const SCALAR: u64 = 4;
+pub const CREDITS: u64 = 5;
+
+/// "The buffer": the scalar g, in ten-thousandths, is 1 to 20,000.
+pub const LARGEST_SCALAR: u64 = 20_000;
 
 /// "The sheet and the report": the bytes of a sheet's line and of a report's line.
 pub const LINE_BYTES: usize = 40;
 pub const REPORT_LINE_BYTES: usize = 29;
 
 /// "What is turned away", row 1: 293 lines, one for every code, block and class there is.
-pub const LONGEST_SHEET: usize = 11_720;
+pub const MOST_LINES: usize = 293;
+pub const LONGEST_SHEET: usize = MOST_LINES * LINE_BYTES;
 
 /// "The sheet and the report": room for 16 blocks.
-pub const LONGEST_REPORT: usize = 2_407;
-
-/// The example of document 000, in cents: seven pairs IR, LT, then PC, credit, market.
-#[rustfmt::skip]
-pub const EXAMPLE: [u64; 17] = [
-    100_000_000, 70_000_000,
-    300_000, 300_000,
-    5_000_000, 1_000_000,
-    250_000, 100_000,
-    30_000_000, 15_000_000,
-    10_000_000, 4_000_000,
-    1_000_000, 0,
-    2_500_000, 20_000_000, 7_500_000,
-];
-
-/// "The buffer": the scalar g, in ten-thousandths, is 1 to 20,000.
-pub const LARGEST_SCALAR: u64 = 20_000;
+pub const LONGEST_REPORT: usize = report_length(MOST_BLOCKS);
 
 /// "What is turned away": a refusal is its number with a line (from 1), a position (from 0) or no place.
 #[derive(Clone, Copy, Debug, PartialEq, Eq)]

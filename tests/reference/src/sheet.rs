@@ -1,34 +1,36 @@
 //! "The sheet and the report": the sheet call.
 
+use crate::block::PC;
 use crate::*;
 use std::collections::{BTreeMap, BTreeSet};
+use std::ops::{Range, RangeInclusive};
 
 /// What a sheet says. An absent line means zeros.
 pub(crate) struct Sheet {
-    /// The blocks that exist, ascending, each with the 17 numbers of the block call.
-    pub blocks: BTreeMap<u64, [u64; 17]>,
-    /// 16 territories of eight pairs, as the operational call takes them.
-    pub volumes: [u64; 256],
+    /// The blocks that exist, ascending, each with the numbers of the block call.
+    pub blocks: BTreeMap<u64, [u64; BLOCK_NUMBERS]>,
+    /// The territories, as the operational call takes them.
+    pub volumes: [u64; MOST_VOLUMES],
     /// GEN classes 1 to 5 at 0 to 4.
-    pub general: [u64; 5],
+    general: [u64; GENERAL_CLASSES],
 }
 
 impl Sheet {
-    pub fn operational(&self) -> [u64; 3] {
+    pub fn operational(&self) -> [u64; GENERAL_NUMBERS] {
         [self.general[0], self.general[1], self.general[2]]
     }
     pub fn guarantee(&self) -> u64 {
         self.general[1]
     }
     pub fn scalar(&self) -> u64 {
-        self.general[3]
+        self.general[SCALAR as usize - 1]
     }
     pub fn credits(&self) -> u64 {
-        self.general[4]
+        self.general[CREDITS as usize - 1]
     }
 
     /// Each block's number with its I, D, U, LT and K. Lines that were accepted can't be refused by the two calls.
-    pub fn figures(&self) -> Vec<(u64, [u64; 5])> {
+    pub fn figures(&self) -> Vec<(u64, [u64; FIGURES])> {
         self.blocks.iter().map(|(&number, amounts)| (number, block_call(amounts).unwrap())).collect()
     }
     pub fn sum_of_k(&self) -> u64 {
@@ -77,9 +79,12 @@ pub fn sheet_call(sheet: &[u8], report: &mut [u8]) -> Result<usize, Refusal> {
 }
 
 /// 29 × (5n + 3) bytes for n blocks.
-pub fn report_length(blocks: usize) -> usize {
-    REPORT_LINE_BYTES * (5 * blocks + 3)
+pub const fn report_length(blocks: usize) -> usize {
+    REPORT_LINE_BYTES * (FIGURES * blocks + 3)
 }
+
+/// The columns of the number in a report's line, as indexes.
+pub(crate) const REPORT_NUMBER: Range<usize> = 10..28;
 
 /// A report's line: code 1–3, block 5–6, item 8–9, number in 11–28, a line feed last.
 pub fn report_line(code: &str, block: u64, item: u64, number: u64) -> Vec<u8> {
@@ -95,6 +100,16 @@ pub fn sheet_line(code: &str, block: u64, class: u64, first: u64, second: u64) -
     line
 }
 
+/// Code, block and class of every line that a sheet of so many blocks and territories can have, ascending by blocks.
+pub fn all_lines(blocks: usize) -> Vec<(&'static str, u64, u64)> {
+    let lines_of = |code: &'static str, block: u64| {
+        let (_, classes) = ranges(code.as_bytes()).unwrap();
+        classes.map(move |class| (code, block, class))
+    };
+    let of_blocks = (1..=blocks as u64).flat_map(|block| ["RSK", "OTH", "VOL"].map(|code| (code, block)));
+    of_blocks.chain([("GEN", 0)]).flat_map(|(code, block)| lines_of(code, block)).collect()
+}
+
 /// "What is turned away": 1, 2, the first bad line, 12.
 pub(crate) fn read_sheet(bytes: &[u8]) -> Result<Sheet, Refusal> {
     if bytes.len() > LONGEST_SHEET {
@@ -103,10 +118,15 @@ pub(crate) fn read_sheet(bytes: &[u8]) -> Result<Sheet, Refusal> {
     if !bytes.len().is_multiple_of(LINE_BYTES) {
         return Err(Refusal::nowhere(2));
     }
-    let mut sheet = Sheet { blocks: BTreeMap::new(), volumes: [0; 256], general: [0; 5] };
+    let mut sheet = Sheet { blocks: BTreeMap::new(), volumes: [0; MOST_VOLUMES], general: [0; GENERAL_CLASSES] };
     let mut stood_before = BTreeSet::new();
-    for (at, line) in bytes.chunks(LINE_BYTES).enumerate() {
-        read_line(line, &mut sheet, &mut stood_before).map_err(|number| Refusal::at_line(number, at + 1))?;
+    for (at, bytes) in bytes.chunks(LINE_BYTES).enumerate() {
+        let line = read_line(bytes).map_err(|number| Refusal::at_line(number, at + 1))?;
+        // 11: code, block and class stood before.
+        if !stood_before.insert((line.code.to_vec(), line.block, line.class)) {
+            return Err(Refusal::at_line(11, at + 1));
+        }
+        sheet.enter(&line);
     }
     // An accepted g line is never 0, so 0 means that there is none.
     if sheet.scalar() == 0 {
@@ -115,20 +135,21 @@ pub(crate) fn read_sheet(bytes: &[u8]) -> Result<Sheet, Refusal> {
     Ok(sheet)
 }
 
-/// One line, tested for 3, 4, 5, 6, 8, 9, 10 and 11 in this order, then entered.
-fn read_line(line: &[u8], sheet: &mut Sheet, stood_before: &mut BTreeSet<(Vec<u8>, u64, u64)>) -> Result<(), u8> {
-    // 3: columns 4–40 break the layout.
-    let (block, class, first, second) = read_layout(line).ok_or(3)?;
+struct Line<'a> {
+    code: &'a [u8],
+    block: u64,
+    class: u64,
+    first: u64,
+    second: u64,
+}
 
-    // 4: the code isn't one of the four. The table of codes gives the ranges of block and class.
-    let code = &line[0..3];
-    let (blocks, classes) = match code {
-        b"RSK" => (1..=16, 1..=7),
-        b"OTH" => (1..=16, 1..=3),
-        b"VOL" => (1..=16, 1..=8),
-        b"GEN" => (0..=0, 1..=5),
-        _ => return Err(4),
-    };
+/// One line, tested for 3, 4, 5, 6, 8, 9 and 10 in this order.
+fn read_line(bytes: &[u8]) -> Result<Line<'_>, u8> {
+    // 3: columns 4–40 break the layout.
+    let line = read_layout(bytes).ok_or(3)?;
+    let Line { code, block, class, first, second } = line;
+    // 4: the code isn't one of the four.
+    let (blocks, classes) = ranges(code).ok_or(4)?;
     // 5 and 6: block, class outside the code's range.
     if !blocks.contains(&block) {
         return Err(5);
@@ -137,7 +158,7 @@ fn read_line(line: &[u8], sheet: &mut Sheet, stood_before: &mut BTreeSet<(Vec<u8
         return Err(6);
     }
     // 8: second amount not 0 for OTH or GEN; LT(7) not 0.
-    if second != 0 && (code == b"OTH" || code == b"GEN" || (code == b"RSK" && class == 7)) {
+    if second != 0 && (code == b"OTH" || code == b"GEN" || (code == b"RSK" && class == EXPENSES)) {
         return Err(8);
     }
     // 9: LT above IR.
@@ -145,41 +166,60 @@ fn read_line(line: &[u8], sheet: &mut Sheet, stood_before: &mut BTreeSet<(Vec<u8
         return Err(9);
     }
     // 10: g outside 1–20,000.
-    if code == b"GEN" && class == 4 && !(1..=LARGEST_SCALAR).contains(&first) {
+    if code == b"GEN" && class == SCALAR && !(1..=LARGEST_SCALAR).contains(&first) {
         return Err(10);
     }
-    // 11: code, block and class stood before.
-    if !stood_before.insert((code.to_vec(), block, class)) {
-        return Err(11);
-    }
-
-    let at = class as usize - 1;
-    match code {
-        // A block exists when it has an RSK or OTH line, zeros included.
-        b"RSK" => {
-            let amounts = sheet.blocks.entry(block).or_insert([0; 17]);
-            amounts[2 * at] = first;
-            amounts[2 * at + 1] = second;
-        }
-        b"OTH" => sheet.blocks.entry(block).or_insert([0; 17])[14 + at] = first,
-        b"VOL" => {
-            let territory = 16 * (block as usize - 1);
-            sheet.volumes[territory + 2 * at] = first;
-            sheet.volumes[territory + 2 * at + 1] = second;
-        }
-        _ => sheet.general[at] = first,
-    }
-    Ok(())
+    Ok(line)
 }
 
-/// Columns 4–40: block in 5–6, class in 8–9, amounts in 11–24 and 26–39, a line feed last, spaces between.
-fn read_layout(line: &[u8]) -> Option<(u64, u64, u64, u64)> {
-    // Columns count from 1, indexes from 0.
-    let spaces = [4, 7, 10, 25].iter().all(|column| line[column - 1] == b' ');
-    if !spaces || line[39] != b'\n' {
+/// The table of codes: the ranges of block and class.
+pub(crate) fn ranges(code: &[u8]) -> Option<(RangeInclusive<u64>, RangeInclusive<u64>)> {
+    let blocks = 1..=MOST_BLOCKS as u64;
+    match code {
+        b"RSK" => Some((blocks, 1..=RISKS as u64)),
+        b"OTH" => Some((blocks, 1..=3)),
+        b"VOL" => Some((blocks, 1..=VOLUME_CLASSES as u64)),
+        b"GEN" => Some((0..=0, 1..=GENERAL_CLASSES as u64)),
+        _ => None,
+    }
+}
+
+impl Sheet {
+    /// A line that was tested.
+    fn enter(&mut self, line: &Line) {
+        let at = line.class as usize - 1;
+        match line.code {
+            // A block exists when it has an RSK or OTH line, zeros included.
+            b"RSK" => {
+                let amounts = self.blocks.entry(line.block).or_insert([0; BLOCK_NUMBERS]);
+                amounts[2 * at] = line.first;
+                amounts[2 * at + 1] = line.second;
+            }
+            b"OTH" => self.blocks.entry(line.block).or_insert([0; BLOCK_NUMBERS])[PC + at] = line.first,
+            b"VOL" => {
+                let territory = TERRITORY_NUMBERS * (line.block as usize - 1);
+                self.volumes[territory + 2 * at] = line.first;
+                self.volumes[territory + 2 * at + 1] = line.second;
+            }
+            _ => self.general[at] = line.first,
+        }
+    }
+}
+
+/// A sheet's line as indexes, which count from 0 where columns count from 1: the code in columns 1–3, block in 5–6,
+/// class in 8–9, amounts in 11–24 and 26–39, spaces between them, a line feed in 40.
+pub(crate) const CODE: Range<usize> = 0..3;
+pub(crate) const FIELDS: [Range<usize>; 4] = [4..6, 7..9, 10..24, 25..39];
+pub(crate) const SPACES: [usize; 4] = [3, 6, 9, 24];
+pub(crate) const LINE_FEED: usize = LINE_BYTES - 1;
+
+/// Columns 4–40, and the code as it stands.
+fn read_layout(line: &[u8]) -> Option<Line<'_>> {
+    if SPACES.iter().any(|&at| line[at] != b' ') || line[LINE_FEED] != b'\n' {
         return None;
     }
-    Some((number(&line[4..6])?, number(&line[7..9])?, number(&line[10..24])?, number(&line[25..39])?))
+    let [block, class, first, second] = FIELDS.map(|field| number(&line[field]));
+    Some(Line { code: &line[CODE], block: block?, class: class?, first: first?, second: second? })
 }
 
 /// A number: decimal, right-justified, spaces before, at least one digit, no leading zero except 0 itself.

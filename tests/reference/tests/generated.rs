@@ -13,7 +13,7 @@ fn demand_3_on_accepted_sheets() {
         let sheet = accepted(3, index);
         let mut report = vec![b'#'; LONGEST_REPORT];
         let length = sheet_call(&sheet, &mut report).unwrap_or_else(|refusal| panic!("sheet {index}: {refusal:?}"));
-        blocks.insert((length / REPORT_LINE_BYTES - 3) / 5);
+        blocks.insert((length / REPORT_LINE_BYTES - 3) / FIGURES);
         longest = longest.max(sheet.len());
         match judge(&sheet, &report[..length]) {
             Ok(decided) => undecided += u64::from(!decided),
@@ -22,7 +22,7 @@ fn demand_3_on_accepted_sheets() {
     }
     println!("{sheets} sheets, {undecided} of them not decided by the bracket");
     assert!(undecided < sheets / 100);
-    assert!((0..=16).all(|n| blocks.contains(&n)) && longest == LONGEST_SHEET, "sheets of all sizes");
+    assert!((0..=MOST_BLOCKS).all(|n| blocks.contains(&n)) && longest == LONGEST_SHEET, "sheets of all sizes");
 }
 
 /// A buffer below the reported one by the bracket's rounding, or above it by the allowance, is found out.
@@ -33,7 +33,8 @@ fn demand_3_finds_wrong_buffers() {
         let mut report = vec![0; LONGEST_REPORT];
         let length = sheet_call(&sheet, &mut report).unwrap();
         let last = length - REPORT_LINE_BYTES;
-        let buffer: u64 = std::str::from_utf8(&report[last + 10..length - 1]).unwrap().trim().parse().unwrap();
+        let line = std::str::from_utf8(&report[last..length]).unwrap();
+        let buffer: u64 = line.split_whitespace().last().unwrap().parse().unwrap();
         // The allowance is at most 2 × (2 × 16 + 1) + 1 = 67 cents.
         let above = [&report[..last], &report_line("TOT", 0, 3, buffer + 67)].concat();
         assert!(demand3(&sheet, &above).is_err(), "sheet {index}");
@@ -86,8 +87,8 @@ fn numbers_reach_every_row() {
     println!("answers of the block call and of the operational call, 0 for accepted: {counts:?}");
     assert!(counts[0].keys().eq(&[0, 7, 8, 9]) && counts[1].keys().eq(&[0, 7, 15]));
     assert!(counts.iter().flat_map(BTreeMap::values).all(|&count| count >= 100), "{counts:?}");
-    assert!((0..17).all(|position| positions.contains(&(0, position))));
-    assert!(positions.len() >= 17 + 200, "{positions:?}");
+    assert!((0..BLOCK_NUMBERS).all(|position| positions.contains(&(0, position))));
+    assert!(positions.len() >= BLOCK_NUMBERS + 200, "{positions:?}");
 }
 
 /// The same seed and index give the same case.

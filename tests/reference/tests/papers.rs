@@ -3,8 +3,8 @@
 use reference::*;
 
 /// A block of zeros but for these positions.
-fn block(amounts: &[(usize, u64)]) -> [u64; 5] {
-    let mut b = [0; 17];
+fn block(amounts: &[(usize, u64)]) -> [u64; FIGURES] {
+    let mut b = [0; BLOCK_NUMBERS];
     for &(position, amount) in amounts {
         b[position] = amount;
     }
@@ -13,7 +13,7 @@ fn block(amounts: &[(usize, u64)]) -> [u64; 5] {
 
 /// RO of one territory with one class.
 fn volume(class: usize, current: u64, prior: u64) -> u64 {
-    let mut volumes = [0; 16];
+    let mut volumes = [0; TERRITORY_NUMBERS];
     volumes[2 * (class - 1)] = current;
     volumes[2 * (class - 1) + 1] = prior;
     operational_call(&volumes, &[0; 3]).unwrap()
@@ -28,37 +28,11 @@ fn run(sheet: &[u8]) -> Result<Vec<u8>, Refusal> {
     Ok(report)
 }
 
-fn whole_run_sheet() -> Vec<u8> {
-    let mut sheet = Vec::new();
-    for class in 1..=7 {
-        let at = 2 * (class as usize - 1);
-        sheet.extend(sheet_line("RSK", 1, class, EXAMPLE[at], EXAMPLE[at + 1]));
-    }
-    for class in 1..=3 {
-        sheet.extend(sheet_line("OTH", 1, class, EXAMPLE[13 + class as usize], 0));
-    }
-    sheet.extend(sheet_line("VOL", 1, 1, 15_000, 10_000));
-    sheet.extend(sheet_line("GEN", 0, 1, 200_000_000, 0));
-    sheet.extend(sheet_line("GEN", 0, 4, 10_000, 0));
-    sheet
-}
-
-const WHOLE_RUN: &str = "\
-BLK  1  1          157884172
-BLK  1  2          191405437
-BLK  1  3          176550000
-BLK  1  4           90400000
-BLK  1  5          151765333
-TOT  0  1          151765333
-TOT  0  2           11500450
-TOT  0  3          163265783
-";
-
 /// "Calibration points": the rows of the block call.
 #[test]
 fn calibration_of_the_block() {
-    assert_eq!(block_call(&EXAMPLE), Ok([157_884_172, 191_405_437, 176_550_000, 90_400_000, 151_765_333]));
-    assert_eq!(block(&[]), [0; 5]);
+    assert_eq!(block_call(&example()), Ok(EXAMPLE_FIGURES));
+    assert_eq!(block(&[]), [0; FIGURES]);
     let [i, d, _, _, k] = block(&[(0, 100)]);
     assert_eq!([i, d, k], [200, 200, 100]);
     let [i, d, _, _, k] = block(&[(0, 100), (1, 100)]);
@@ -85,7 +59,7 @@ fn calibration_of_operational_risk() {
 /// "Calibration points": the refused rows.
 #[test]
 fn calibration_of_refusals() {
-    let mut b = [0; 17];
+    let mut b = [0; BLOCK_NUMBERS];
     (b[2], b[3]) = (3_000, 3_001);
     assert_eq!(block_call(&b), Err(Refusal::at_position(9, 3)));
     assert_eq!(run(&sheet_line("RSK", 1, 2, 3_000, 3_001)), Err(Refusal::at_line(9, 1)));
@@ -97,11 +71,11 @@ fn calibration_of_refusals() {
 /// Document 000's printed figures, whole dollars, ours rounded to the nearest.
 #[test]
 fn example_of_document_000() {
-    let [i, d, u, lt, k] = block_call(&EXAMPLE).unwrap();
+    let [i, d, u, lt, k] = block_call(&example()).unwrap();
     let of_half_cents = |figure: u64| (figure + 100) / 200;
     let of_cents = |figure: u64| (figure + 50) / 100;
     assert_eq!(of_half_cents(i), 789_421);
-    assert_eq!(of_half_cents(i - 2 * EXAMPLE[14]), 764_421);
+    assert_eq!(of_half_cents(i - 2 * example()[14]), 764_421);
     assert_eq!(of_half_cents(d), 957_027);
     assert_eq!(of_cents(u), 1_765_500);
     assert_eq!(of_cents(lt), 904_000);
@@ -118,24 +92,31 @@ fn examples_of_document_003() {
 /// "Calibration points": the whole run's bytes.
 #[test]
 fn whole_run() {
-    assert_eq!(String::from_utf8(run(&whole_run_sheet()).unwrap()).unwrap(), WHOLE_RUN);
+    assert_eq!(String::from_utf8(run(WHOLE_RUN).unwrap()).unwrap(), WHOLE_RUN_REPORT);
+}
+
+/// "The sheet and the report", "What is turned away": the longest of both, and a line for every code, block and class.
+#[test]
+fn longest_sheet_and_report() {
+    assert_eq!([LONGEST_SHEET, LONGEST_REPORT], [11_720, 2_407]);
+    assert_eq!(all_lines(MOST_BLOCKS).len(), MOST_LINES);
 }
 
 /// "What is turned away": the block call's order and places.
 #[test]
 fn refusals_of_the_block_call() {
     let over = LARGEST_AMOUNT + 1;
-    let mut b = [0; 17];
+    let mut b = [0; BLOCK_NUMBERS];
     (b[13], b[5]) = (1, 1);
     assert_eq!(block_call(&b), Err(Refusal::at_position(8, 13)));
     b[16] = over;
     assert_eq!(block_call(&b), Err(Refusal::at_position(7, 16)));
     b[0] = u64::MAX;
     assert_eq!(block_call(&b), Err(Refusal::at_position(7, 0)));
-    let mut b = [0; 17];
+    let mut b = [0; BLOCK_NUMBERS];
     (b[5], b[9]) = (1, 1);
     assert_eq!(block_call(&b), Err(Refusal::at_position(9, 5)));
-    let mut b = [LARGEST_AMOUNT; 17];
+    let mut b = [LARGEST_AMOUNT; BLOCK_NUMBERS];
     b[13] = 0;
     assert!(block_call(&b).is_ok());
 }
@@ -151,7 +132,7 @@ fn refusals_of_the_operational_call() {
     assert_eq!(operational_call(&[over; 15], &[over; 3]), Err(Refusal::nowhere(15)));
     assert_eq!(operational_call(&[over; 272], &[over; 3]), Err(Refusal::nowhere(15)));
     assert_eq!(operational_call(&[0; 257], &[0; 3]), Err(Refusal::nowhere(15)));
-    assert!(operational_call(&[LARGEST_AMOUNT; 256], &[LARGEST_AMOUNT; 3]).is_ok());
+    assert!(operational_call(&[LARGEST_AMOUNT; MOST_VOLUMES], &[LARGEST_AMOUNT; 3]).is_ok());
 }
 
 /// "Operational risk": a shrinking class isn't netted against a growing one, and the sum is rounded once.
@@ -170,9 +151,8 @@ fn classes_stand_alone() {
 /// Demand 3 holds for the whole run, and figures that are a little off break it.
 #[test]
 fn demand_3_on_the_whole_run() {
-    let sheet = whole_run_sheet();
-    assert_eq!(demand3(&sheet, WHOLE_RUN.as_bytes()), Ok(()));
-    let other = |from: &str, to: &str| demand3(&sheet, WHOLE_RUN.replacen(from, to, 1).as_bytes());
+    assert_eq!(demand3(WHOLE_RUN, WHOLE_RUN_REPORT.as_bytes()), Ok(()));
+    let other = |from: &str, to: &str| demand3(WHOLE_RUN, WHOLE_RUN_REPORT.replacen(from, to, 1).as_bytes());
     // g is 1 and n is 1: the allowance is 4 cents.
     assert!(other("163265783", "163265781").is_err());
     assert_eq!(other("163265783", "163265786"), Ok(()));
@@ -182,5 +162,6 @@ fn demand_3_on_the_whole_run() {
     assert!(other("BLK  1  5          151765333", "BLK  1  5          140902718").is_err());
     assert_eq!(other("BLK  1  5          151765333", "BLK  1  5          140902719"), Ok(()));
     assert!(other("TOT  0  3", "TOT  0  4").is_err());
-    assert!(demand3(&sheet, &WHOLE_RUN.as_bytes()[..203]).is_err());
+    let all_but_the_last = &WHOLE_RUN_REPORT.as_bytes()[..report_length(1) - REPORT_LINE_BYTES];
+    assert!(demand3(WHOLE_RUN, all_but_the_last).is_err());
 }

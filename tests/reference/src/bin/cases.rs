@@ -1,4 +1,4 @@
-//! Writes the stored cases of a test program into two files: `cases INPUT EXPECTED`.
+//! Writes the stored cases of the crate sheet_cases into two files, its stdin and its stdout: `cases INPUT EXPECTED`.
 //!
 //! INPUT: for each case a header of 12 bytes, the sheet's length in 5 digits with leading zeros, a space, the room in 5
 //! digits with leading zeros, a line feed; then the sheet's bytes.
@@ -56,7 +56,7 @@ fn sheet(lines: &[Line]) -> Vec<u8> {
 
 /// One line of risk 1, then g: a sound sheet of one block, into whose first line bytes are put.
 const RISK: Line = ("RSK", 1, 1, 100, 40);
-const G: Line = ("GEN", 0, 4, 10_000, 0);
+const G: Line = ("GEN", 0, SCALAR, 10_000, 0);
 
 /// The sound sheet with these bytes from this column of line 1 on. Columns count from 1.
 fn put(column: usize, bytes: &[u8]) -> Vec<u8> {
@@ -65,53 +65,53 @@ fn put(column: usize, bytes: &[u8]) -> Vec<u8> {
     sheet
 }
 
-/// Document 01's whole run: document 000's example as block 1.
-fn whole_run() -> Vec<u8> {
-    sheet(&[
-        ("RSK", 1, 1, 100_000_000, 70_000_000),
-        ("RSK", 1, 2, 300_000, 300_000),
-        ("RSK", 1, 3, 5_000_000, 1_000_000),
-        ("RSK", 1, 4, 250_000, 100_000),
-        ("RSK", 1, 5, 30_000_000, 15_000_000),
-        ("RSK", 1, 6, 10_000_000, 4_000_000),
-        ("RSK", 1, 7, 1_000_000, 0),
-        ("OTH", 1, 1, 2_500_000, 0),
-        ("OTH", 1, 2, 20_000_000, 0),
-        ("OTH", 1, 3, 7_500_000, 0),
-        ("VOL", 1, 1, 15_000, 10_000),
-        ("GEN", 0, 1, 200_000_000, 0),
-        ("GEN", 0, 4, 10_000, 0),
-    ])
-}
-
 /// All 293 lines, ascending, every amount the largest; LT (but for risk 7), prior volumes and credits as given.
 fn full(seconds: u64) -> Vec<Line> {
     const MOST: u64 = LARGEST_AMOUNT;
-    let mut lines = Vec::new();
-    for block in 1..=16 {
-        lines.extend((1..=7).map(|class| ("RSK", block, class, MOST, if class == 7 { 0 } else { seconds })));
-        lines.extend((1..=3).map(|class| ("OTH", block, class, MOST, 0)));
-        lines.extend((1..=8).map(|class| ("VOL", block, class, MOST, seconds)));
-    }
-    lines.extend((1..=3).map(|class| ("GEN", 0, class, MOST, 0)));
-    lines.extend([("GEN", 0, 4, LARGEST_SCALAR, 0), ("GEN", 0, 5, seconds, 0)]);
-    lines
+    let amounts = |(code, block, class): (&'static str, u64, u64)| match (code, class) {
+        ("RSK", EXPENSES) | ("OTH", _) => (code, block, class, MOST, 0),
+        ("RSK" | "VOL", _) => (code, block, class, MOST, seconds),
+        (_, SCALAR) => (code, block, class, LARGEST_SCALAR, 0),
+        (_, CREDITS) => (code, block, class, seconds, 0),
+        _ => (code, block, class, MOST, 0),
+    };
+    all_lines(MOST_BLOCKS).into_iter().map(amounts).collect()
 }
 
-/// Every hundredth line in turn. 293 is a prime number, so that each comes once.
+/// Every hundredth line in turn: their number, 293, is prime, so that each comes once.
 fn shuffled(lines: &[Line]) -> Vec<Line> {
     (0..lines.len()).map(|i| lines[(100 * i + 7) % lines.len()]).collect()
 }
 
 fn cases() -> Vec<Case> {
-    let mut c = Cases(Vec::new());
+    let mut cases = Cases(Vec::new());
+    cases.accepted(1, WHOLE_RUN.to_vec());
+    let parts = [
+        rows_1_to_4,
+        rows_5_and_6,
+        rows_8_to_10,
+        rows_11_to_14,
+        two_bad_lines,
+        duplicates,
+        scalars,
+        largest_amounts,
+        blocks_of_zeros,
+        lengths,
+        strange_bytes,
+        numbers_out_of_layout,
+        credits,
+        rooms,
+        roots,
+    ];
+    for part in parts {
+        part(&mut cases);
+    }
+    cases.0
+}
 
-    // Document 01's whole run.
-    c.accepted(1, whole_run());
-
-    // Every row that a sheet can give, with its number and place, alone and beside a fault that is tested later.
-
-    // 1 beside 2: a full sheet and one byte more. (Above 11,720 bytes and alone is 11,760 at least.)
+/// The rows that a sheet can give, each with its number and place, alone and beside a fault that is tested later.
+fn rows_1_to_4(c: &mut Cases) {
+    // 1 beside 2: a full sheet and one byte more. (Alone, without 2, it is a whole line more.)
     c.room(0, Err(nowhere(1)), [sheet(&full(0)), b"\n".to_vec()].concat());
     // 2 alone: the last line feed is missing.
     c.refused(nowhere(2), sheet(&[RISK, G])[..79].to_vec());
@@ -122,13 +122,16 @@ fn cases() -> Vec<Case> {
     // 3 beside 4 in the same line.
     c.refused(at(3, 1), put(1, b"XXXX"));
     // 3 beside 12: the broken line is the g line.
-    c.refused(at(3, 2), [sheet(&[RISK]), put(4, b"x")[..40].to_vec()].concat());
+    c.refused(at(3, 2), [sheet(&[RISK]), put(4, b"x")[..LINE_BYTES].to_vec()].concat());
     // 4 alone.
     c.refused(at(4, 2), sheet(&[RISK, ("RIS", 1, 2, 100, 0), G]));
     // 4 beside 5: block 17 of no code.
     c.refused(at(4, 1), sheet(&[("rsk", 17, 1, 100, 0), G]));
     // 4, a code of the report.
     c.refused(at(4, 1), sheet(&[("BLK", 1, 1, 100, 0), G]));
+}
+
+fn rows_5_and_6(c: &mut Cases) {
     // 5 alone: RSK block 0.
     c.refused(at(5, 1), sheet(&[("RSK", 0, 1, 100, 0), G]));
     // 5 alone: RSK block 17.
@@ -153,6 +156,9 @@ fn cases() -> Vec<Case> {
     c.refused(at(6, 1), sheet(&[("GEN", 0, 6, 100, 0), G]));
     // 6 beside 8: a second amount too.
     c.refused(at(6, 1), sheet(&[("GEN", 0, 0, 100, 1), G]));
+}
+
+fn rows_8_to_10(c: &mut Cases) {
     // 8 alone: OTH with a second amount.
     c.refused(at(8, 1), sheet(&[("OTH", 1, 2, 100, 1), G]));
     // 8 alone: GEN with a second amount.
@@ -162,7 +168,7 @@ fn cases() -> Vec<Case> {
     // 8 beside 9: LT(7) above IR(7).
     c.refused(at(8, 1), sheet(&[("RSK", 1, 7, 0, 1), G]));
     // 8 beside 10: a g line with both amounts wrong.
-    c.refused(at(8, 1), sheet(&[("GEN", 0, 4, 0, 1)]));
+    c.refused(at(8, 1), sheet(&[("GEN", 0, SCALAR, 0, 1)]));
     // 8 beside 11: the line stood before.
     c.refused(at(8, 3), sheet(&[("OTH", 1, 1, 100, 0), G, ("OTH", 1, 1, 100, 1)]));
     // 9 alone: document 01's LT 3001 over IR 3000.
@@ -172,9 +178,12 @@ fn cases() -> Vec<Case> {
     // 9 beside 12: and there is no g line.
     c.refused(at(9, 1), sheet(&[("RSK", 16, 6, 0, LARGEST_AMOUNT)]));
     // 10 alone: the largest amount as g.
-    c.refused(at(10, 2), sheet(&[RISK, ("GEN", 0, 4, LARGEST_AMOUNT, 0)]));
+    c.refused(at(10, 2), sheet(&[RISK, ("GEN", 0, SCALAR, LARGEST_AMOUNT, 0)]));
     // 10 beside 14: no room either.
-    c.room(0, Err(at(10, 1)), sheet(&[("GEN", 0, 4, 20_002, 0), RISK]));
+    c.room(0, Err(at(10, 1)), sheet(&[("GEN", 0, SCALAR, 20_002, 0), RISK]));
+}
+
+fn rows_11_to_14(c: &mut Cases) {
     // 11 alone.
     c.refused(at(11, 3), sheet(&[RISK, G, RISK]));
     // 11 beside 12: and there is no g line.
@@ -182,66 +191,69 @@ fn cases() -> Vec<Case> {
     // 12 alone.
     c.refused(nowhere(12), sheet(&[RISK]));
     // 12 beside 13: credits above the bracket.
-    c.refused(nowhere(12), sheet(&[RISK, ("GEN", 0, 5, 1_000_000, 0)]));
+    c.refused(nowhere(12), sheet(&[RISK, ("GEN", 0, CREDITS, 1_000_000, 0)]));
     // 12 beside 14: no room either.
     c.room(0, Err(nowhere(12)), sheet(&[RISK]));
     // 13 alone.
-    c.refused(nowhere(13), sheet(&[RISK, G, ("GEN", 0, 5, LARGEST_AMOUNT, 0)]));
+    c.refused(nowhere(13), sheet(&[RISK, G, ("GEN", 0, CREDITS, LARGEST_AMOUNT, 0)]));
     // 13 beside 14: no room either.
-    c.room(0, Err(nowhere(13)), sheet(&[G, ("GEN", 0, 5, 1, 0)]));
+    c.room(0, Err(nowhere(13)), sheet(&[G, ("GEN", 0, CREDITS, 1, 0)]));
     // 14 alone: room for no block, and there is one.
     c.room(report_length(0), Err(nowhere(14)), sheet(&[RISK, G]));
+}
 
-    // Two bad lines: the first one answers.
-
+/// Two bad lines: the first one answers.
+fn two_bad_lines(c: &mut Cases) {
     // 11 in line 2, 3 in line 3.
     c.refused(at(11, 2), [sheet(&[RISK, RISK]), put(4, b"x")].concat());
     // 9 in line 1, 4 in line 2.
     c.refused(at(9, 1), sheet(&[("RSK", 1, 1, 0, 1), ("XXX", 1, 1, 0, 0), G]));
     // 3 in line 1, 3 in line 2.
-    c.refused(at(3, 1), [put(4, b"x")[..40].to_vec(), put(4, b"x")].concat());
-    // A bad line as the last of 293: OTH 16 3 has become a second OTH 16 2.
+    c.refused(at(3, 1), [put(4, b"x")[..LINE_BYTES].to_vec(), put(4, b"x")].concat());
+    // A bad line as the last of a full sheet: OTH 16 3 has become a second OTH 16 2.
     let mut last = full(0);
     last.retain(|line| *line != ("OTH", 16, 3, LARGEST_AMOUNT, 0));
     last.push(("OTH", 16, 2, LARGEST_AMOUNT, 0));
-    c.room(0, Err(at(11, 293)), sheet(&last));
+    c.room(0, Err(at(11, MOST_LINES)), sheet(&last));
+}
 
-    // Duplicates.
-
+fn duplicates(c: &mut Cases) {
     // Equal amounts, one line apart.
     c.refused(at(11, 3), sheet(&[("VOL", 2, 8, 5, 6), G, ("VOL", 2, 8, 5, 6)]));
     // Other amounts.
     c.refused(at(11, 2), sheet(&[("VOL", 2, 8, 5, 6), ("VOL", 2, 8, 0, 0), G]));
     // A repeated g line, good.
-    c.refused(at(11, 2), sheet(&[G, ("GEN", 0, 4, 20_000, 0)]));
+    c.refused(at(11, 2), sheet(&[G, ("GEN", 0, SCALAR, 20_000, 0)]));
     // A repeated g line, bad.
-    c.refused(at(10, 2), sheet(&[G, ("GEN", 0, 4, 0, 0)]));
+    c.refused(at(10, 2), sheet(&[G, ("GEN", 0, SCALAR, 0, 0)]));
     // No duplicates: the same block and class under three codes, the same class of two blocks.
     c.accepted(
         2,
         sheet(&[RISK, ("OTH", 1, 1, 7, 0), ("VOL", 1, 1, 9, 3), ("RSK", 2, 1, 100, 40), ("GEN", 0, 1, 9, 0), G]),
     );
+}
 
-    // The scalar.
-
+fn scalars(c: &mut Cases) {
     // g 0.
-    c.refused(at(10, 1), sheet(&[("GEN", 0, 4, 0, 0)]));
+    c.refused(at(10, 1), sheet(&[("GEN", 0, SCALAR, 0, 0)]));
     // g 1.
-    c.accepted(1, sheet(&[("GEN", 0, 4, 1, 0), RISK]));
+    c.accepted(1, sheet(&[("GEN", 0, SCALAR, 1, 0), RISK]));
     // g 20,000.
-    c.accepted(1, sheet(&[("GEN", 0, 4, 20_000, 0), RISK]));
+    c.accepted(1, sheet(&[("GEN", 0, SCALAR, 20_000, 0), RISK]));
     // g 20,001.
-    c.refused(at(10, 1), sheet(&[("GEN", 0, 4, 20_001, 0)]));
+    c.refused(at(10, 1), sheet(&[("GEN", 0, SCALAR, 20_001, 0)]));
+}
 
-    // 293 lines with 16 blocks at the largest amounts.
-
+/// 293 lines with 16 blocks at the largest amounts.
+fn largest_amounts(c: &mut Cases) {
     // Ascending; LT, prior volumes and credits the largest as well.
     c.accepted(16, sheet(&full(LARGEST_AMOUNT)));
     // Shuffled; LT, prior volumes and credits 0, which gives the largest figures of all.
     c.accepted(16, sheet(&shuffled(&full(0))));
+}
 
-    // Blocks that exist by zeros alone.
-
+/// Blocks that exist by zeros alone.
+fn blocks_of_zeros(c: &mut Cases) {
     // A risk of zeros.
     c.accepted(1, sheet(&[("RSK", 3, 5, 0, 0), G]));
     // Credit of zero, in block 16, before a block with amounts.
@@ -250,9 +262,9 @@ fn cases() -> Vec<Case> {
     c.accepted(0, sheet(&[("VOL", 5, 1, 15_000, 10_000), G]));
     // The scalar alone.
     c.accepted(0, sheet(&[G]));
+}
 
-    // Lengths.
-
+fn lengths(c: &mut Cases) {
     // The empty sheet.
     c.room(report_length(0), Err(nowhere(12)), Vec::new());
     // 1 byte.
@@ -261,13 +273,14 @@ fn cases() -> Vec<Case> {
     c.refused(nowhere(2), sheet(&[G])[..39].to_vec());
     // 41 bytes: a line and an empty line.
     c.refused(nowhere(2), [sheet(&[G]), b"\n".to_vec()].concat());
-    // 11,720 bytes, not too long: 293 lines of spaces.
-    c.refused(at(3, 1), vec![b' '; 11_720]);
-    // 11,721 bytes, too long: spaces, and no room.
-    c.room(0, Err(nowhere(1)), vec![b' '; 11_721]);
+    // The longest, lines of spaces.
+    c.refused(at(3, 1), vec![b' '; LONGEST_SHEET]);
+    // A byte too long: spaces, and no room.
+    c.room(0, Err(nowhere(1)), vec![b' '; LONGEST_SHEET + 1]);
+}
 
-    // Bytes.
-
+/// NUL, carriage return, tab, line feed and bytes above 127, in numbers, between the columns and in the code.
+fn strange_bytes(c: &mut Cases) {
     // NUL in a number.
     c.refused(at(3, 1), put(23, b"\0"));
     // NUL between the columns.
@@ -296,6 +309,10 @@ fn cases() -> Vec<Case> {
     c.refused(at(4, 1), put(1, b"\xD2"));
     // Line feed in the code.
     c.refused(at(4, 1), put(3, b"\n"));
+}
+
+/// Digits where none may be, numbers that are not right-justified, and none at all.
+fn numbers_out_of_layout(c: &mut Cases) {
     // A digit between class and first amount.
     c.refused(at(3, 1), put(10, b"1"));
     // A digit between the amounts.
@@ -324,27 +341,31 @@ fn cases() -> Vec<Case> {
     c.refused(at(3, 1), put(22, b"1 0"));
     // A sign before a number.
     c.refused(at(3, 1), put(37, b"-40"));
+}
 
-    // Credits. IR 100 with LT 40 has K 100; the bracket is 100 + 500 + RO 23.
-
+/// IR 100 with LT 40 has K 100; the bracket is 100 + 500 + RO 23.
+fn credits(c: &mut Cases) {
     // Equal to the bracket: the buffer is 0.
-    c.accepted(1, sheet(&[RISK, ("GEN", 0, 2, 500, 0), G, ("GEN", 0, 5, 623, 0)]));
+    c.accepted(1, sheet(&[RISK, ("GEN", 0, 2, 500, 0), G, ("GEN", 0, CREDITS, 623, 0)]));
     // One cent above.
-    c.refused(nowhere(13), sheet(&[RISK, ("GEN", 0, 2, 500, 0), G, ("GEN", 0, 5, 624, 0)]));
+    c.refused(nowhere(13), sheet(&[RISK, ("GEN", 0, 2, 500, 0), G, ("GEN", 0, CREDITS, 624, 0)]));
+}
 
-    // Rooms for one block's report of 232 bytes.
-
+/// Rooms for one block's report.
+fn rooms(c: &mut Cases) {
+    let length = report_length(1);
     // Empty.
     c.room(0, Err(nowhere(14)), sheet(&[RISK, G]));
     // One byte short.
-    c.room(231, Err(nowhere(14)), sheet(&[RISK, G]));
+    c.room(length - 1, Err(nowhere(14)), sheet(&[RISK, G]));
     // Exact.
-    c.room(232, Ok(232), sheet(&[RISK, G]));
+    c.room(length, Ok(length), sheet(&[RISK, G]));
     // One byte long.
-    c.room(233, Ok(232), sheet(&[RISK, G]));
+    c.room(length + 1, Ok(length), sheet(&[RISK, G]));
+}
 
-    // "Miscalibrations to exclude", and roots of every block.
-
+/// "Miscalibrations to exclude", and roots of every block.
+fn roots(c: &mut Cases) {
     // An odd LT: K stays at U.
     c.accepted(1, sheet(&[("RSK", 1, 1, 1, 1), G]));
     // Roots that would be rounded down to the nearest, in two blocks.
@@ -365,7 +386,6 @@ fn cases() -> Vec<Case> {
             G,
         ]),
     );
-    c.0
 }
 
 /// The header and the sheet.
@@ -424,7 +444,7 @@ mod tests {
         let cases = cases();
         assert!(cases.len() <= 115, "{} cases", cases.len());
         for (at, case) in cases.iter().enumerate() {
-            assert!(case.sheet.len() <= 11_721 && case.room <= 2_500);
+            assert!(case.sheet.len() <= LONGEST_SHEET + 1 && case.room <= 2_500);
             assert_eq!(input(case).len(), 12 + case.sheet.len());
             let expected = expected(case).unwrap_or_else(|why| panic!("case {}: {why}", at + 1));
             assert_eq!(expected.len(), REPORT_LINE_BYTES + case.room + 1);
