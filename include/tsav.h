@@ -88,11 +88,11 @@ uint64_t tsav_operational(const uint64_t *volumes, size_t count, const uint64_t 
    sheet: bytes bytes, a line for each 40.
    report: room bytes, of any content.
 
-   Accepted, length holds the report's length, 29 * (5 * n + 3) for n blocks; so many bytes of report, from its start, are
+   Accepted, written holds the report's length, 29 * (5 * n + 3) for n blocks; so many bytes of report, from its start, are
    the report, and those behind them are untouched.
 
    Refusals, tested in this order: 1, 2; then the first bad line, in it 3, 4, 5, 6, 8, 9, 10, 11; then 12, 13, 14. */
-uint64_t tsav_sheet(const uint8_t *sheet, size_t bytes, uint8_t *report, size_t room, uint64_t length[1],
+uint64_t tsav_sheet(const uint8_t *sheet, size_t bytes, uint8_t *report, size_t room, uint64_t written[1],
                     uint64_t place[2]);
 
 #ifdef __cplusplus

@@ -20,7 +20,7 @@ const FIGURES: usize = 5;
 /// The general figures of the operational call.
 pub const GENERAL_NUMBERS: usize = 3;
 
-/// The blocks of a sheet, and its territories.
+/// The blocks of a sheet.
 pub const MOST_BLOCKS: usize = 16;
 
 /// The bytes of a sheet's line and of a report's, the line feed among them.
@@ -76,14 +76,14 @@ pub fn operational(volumes: &[u64], general: &[u64; GENERAL_NUMBERS]) -> Result<
 /// The sheet call: it gives the report's length, and writes so many bytes of `report`. The bytes behind them, and all of
 /// them where the sheet is refused, are left as they were.
 pub fn sheet(sheet: &[u8], report: &mut [u8]) -> Result<usize, Error> {
-    let (mut length, mut place) = ([0; 1], [0; 2]);
+    let (mut written, mut place) = ([0; 1], [0; 2]);
     // SAFETY: each pointer and the length after it are of one slice, each reference is to as many numbers as the call
     // names, and the borrows keep the report apart from the sheet.
     let answer = unsafe {
-        library::tsav_sheet(sheet.as_ptr(), sheet.len(), report.as_mut_ptr(), report.len(), &mut length, &mut place)
+        library::tsav_sheet(sheet.as_ptr(), sheet.len(), report.as_mut_ptr(), report.len(), &mut written, &mut place)
     };
     contract::sheet(answer, place, sheet.len())?;
-    contract::length(length[0], report.len())
+    contract::length(written[0], report.len())
 }
 
 /// include/tsav.h.
@@ -104,7 +104,7 @@ mod library {
             bytes: usize,
             report: *mut u8,
             room: usize,
-            length: &mut [u64; 1],
+            written: &mut [u64; 1],
             place: &mut [u64; 2],
         ) -> u64;
     }

@@ -1,69 +1,58 @@
--- Demand 3 of what the sheet call gives: it follows from the call's outcome and the report's bytes. Assumes nothing.
+-- Demand 3 of what the sheet call leaves: a sound judgement's sheet is accepted, and its report's bytes give its figures back. Assumes nothing.
 use mathlib.Core.Path.{_≡_, refl}
 use mathlib.Core.Bool.{true}
 use mathlib.Core.List.{List, _++_}
-use Prim.Native.Nat.{ℕ, _-_, _≤_, _<_}
+use Prim.Native.Nat.{ℕ, _-_, _≤_}
 use native.Mathlib.Omega.{arith}
-use lib.ListN.{getD}
-use borrow.Author.Tests.{ltb-true, ltb-false}
+use lib.ListN.{length, getD}
+use Rattle.search.specs.Each.{Each}
 use Rattle.search.proofs.Picks.{by-test}
-use Rattle.refusal.specs.declared.Place.{Place}
 use Rattle.field.specs.declared.Field.the-variants.{Value}
-use Rattle.guideline.specs.Block.{D, U, LT, K}
-use Rattle.guideline.specs.Buffer.{available, buffer, AcceptedSheet}
-use Rattle.guideline.proofs.Figures.{k-high, k-twice, figures-fit}
+use Rattle.guideline.specs.Sizes.{blocks, blockFigures}
+use Rattle.guideline.specs.Block.{D, U, LT, K, figuresOf}
+use Rattle.guideline.specs.Buffer.{buffer}
+use Rattle.guideline.proofs.Figures.{k-high, k-twice, figures-fit, figures-long}
 use Rattle.guideline.proofs.Totals.{totals-fit}
 use Rattle.guideline.proofs.Demand.{buffer-demand}
-use Rattle.report.specs.Line.{linesOf, numberAt}
-use Rattle.lines.specs.declared.Code.the-variants.{Gen}
-use Rattle.lines.specs.declared.Entry.{Entry}
-use Rattle.ledger.specs.Entries.{lookup, markOf, exists, stood, blockOf}
-use Rattle.ledger.specs.Reading.{Reading, reading}
-use Rattle.ledger.specs.Reading.Reading.{whole, stopped}
-use Rattle.ledger.proofs.Places.{All}
-use Rattle.ledger.proofs.Lines.{all-read}
-use Rattle.writing.specs.Rows.{BLK, TOT}
-use Rattle.writing.proofs.Reread.{Small, buffer-read, figure-read}
-use Rattle.aggregate.specs.Sheet.{blockRowsBy, figuresOf, sheetOf, rowsOf}
-use Rattle.aggregate.specs.Call.{Done, turnedAway, rule13, rule14, afterLines, sheetCall}
+use Rattle.report_line.specs.Line.{numberAt}
+use Rattle.sheet_line.specs.declared.Entry.{Entry}
+use Rattle.ledger.specs.Entries.{exists, blockOf}
+use Rattle.report.specs.Rows.{BLK, TOT}
+use Rattle.report.proofs.Reread.{FitsColumns, buffer-read, figure-read}
+use Rattle.judgement.specs.Sheet.{sheetOf}
+use Rattle.judgement.specs.Judgement.{Judgement, judgement}
+use Rattle.judgement.specs.Judgement.Judgement.{turnedAway, sound}
+use Rattle.judgement.proofs.Accepted.{block-accepted, exists-within, sound-passed, sound-accepted}
+use Rattle.aggregate.specs.Call.{Done, blockRowsOf, reportOf, rule14, afterJudgement, sheetCall}
 use Rattle.aggregate.specs.Demand.{ReportedBlock, ReportDemand, Demand3}
-use Rattle.aggregate.proofs.Blocks.{count-most, blocks-accepted}
-use Rattle.aggregate.proofs.Entries.{block-accepted, amounts-within, scalar-ranged, exists-within}
 
-module _ (es : List Entry) (all : All es) (scalar : 0 < lookup markOf es Gen 0 4) (credits : sheetOf es .credits ≤ available (sheetOf es)) where
-  sheet-accepted : AcceptedSheet (sheetOf es)
-  sheet-accepted =
-      record {
-        blocks-pass = blocks-accepted _ _ _ (λ b l h. block-accepted es all b);
-        few = count-most _ _ _;
-        amounts = amounts-within es all;
-        g-low = scalar-ranged es all scalar .0;
-        g-high = scalar-ranged es all scalar .1;
-        credits-within = credits;
-      }
-
-  small : (b : ℕ) → 1 ≤ b → b ≤ 16 → exists es b ≡ true → Small (figuresOf (blockOf es b))
+module _ (s : List ℕ) (es : List Entry) (j : judgement s ≡ sound es) where
+  -- five figures that fit their columns
+  five : (b : ℕ) → 1 ≤ b → b ≤ blocks → exists es b ≡ true → (length (figuresOf (blockOf es b)) ≡ blockFigures) × Each FitsColumns (figuresOf (blockOf es b))
   unfolding figuresOf
-  small b l h e = figures-fit (blockOf es b) (block-accepted es all b)
+  five b l h e =
+      let f = figures-fit (blockOf es b) (block-accepted es (sound-passed s es j .lines) b) in
+      (figures-long (blockOf es b), (f .0, (f .1, (f .2, (f .3, (f .4, tt))))))
 
   -- the report's bytes, and whatever stands behind them
   module _ (rest : List ℕ) where
-    reads-total : numberAt (linesOf (rowsOf es) ++ rest) TOT 0 3 ≡ Value (buffer (sheetOf es))
-    unfolding blockRowsBy
+    reads-total : numberAt (reportOf es ++ rest) TOT 0 3 ≡ Value (buffer (sheetOf es))
+    unfolding blockRowsOf
     reads-total =
-        let t = totals-fit (sheetOf es) sheet-accepted in
-        buffer-read (exists es) (λ b. figuresOf (blockOf es b)) _ _ _ rest small (t .0) (t .1) (t .2)
+        let t = totals-fit (sheetOf es) (sound-accepted s es j) in
+        buffer-read (exists es) (λ b. figuresOf (blockOf es b)) _ _ _ rest five (t .0, (t .1, (t .2, tt)))
 
-    reads-figure : (b i : ℕ) → exists es b ≡ true → 1 ≤ i → i ≤ 5 → numberAt (linesOf (rowsOf es) ++ rest) BLK b i ≡ Value (getD (figuresOf (blockOf es b)) (i - 1) 0)
-    unfolding blockRowsBy
+    reads-figure : (b i : ℕ) → exists es b ≡ true → 1 ≤ i → i ≤ blockFigures → numberAt (reportOf es ++ rest) BLK b i ≡ Value (getD (figuresOf (blockOf es b)) (i - 1) 0)
+    unfolding blockRowsOf
     reads-figure b i e l h =
-        let t = totals-fit (sheetOf es) sheet-accepted in
-        let w = exists-within es all b e in
-        figure-read (exists es) (λ b. figuresOf (blockOf es b)) _ _ _ rest small (t .0) (t .1) (t .2) b i e (w .0) (w .1) l h
+        let t = totals-fit (sheetOf es) (sound-accepted s es j) in
+        let w = exists-within es (sound-passed s es j .lines) b e in
+        figure-read (exists es) (λ b. figuresOf (blockOf es b)) _ _ _ rest five (t .0, (t .1, (t .2, tt))) b i e (w .0) (w .1) l h
 
-    reported-block : (b : ℕ) → exists es b ≡ true → ReportedBlock (linesOf (rowsOf es) ++ rest) b
+    reported-block : (b : ℕ) → exists es b ≡ true → ReportedBlock (reportOf es ++ rest) b
     unfolding figuresOf
     reported-block b e =
+        let v = block-accepted es (sound-passed s es j .lines) b in
         record {
           d = D (blockOf es b);
           u = U (blockOf es b);
@@ -73,46 +62,30 @@ module _ (es : List Entry) (all : All es) (scalar : 0 < lookup markOf es Gen 0 4
           reads-u = reads-figure b 3 e (omega arith) (omega arith);
           reads-lt = reads-figure b 4 e (omega arith) (omega arith);
           reads-k = reads-figure b 5 e (omega arith) (omega arith);
-          twice = k-twice (blockOf es b) (block-accepted es all b);
-          within = k-high (blockOf es b) (block-accepted es all b);
+          twice = k-twice (blockOf es b) v;
+          within = k-high (blockOf es b) v;
         }
 
-    report-demand : ReportDemand es (linesOf (rowsOf es) ++ rest)
+    pub report-demand : ReportDemand es (reportOf es ++ rest)
     report-demand =
         record {
           buffer = buffer (sheetOf es);
           reads-buffer = reads-total;
-          accurate = buffer-demand (sheetOf es) sheet-accepted;
+          accurate = buffer-demand (sheetOf es) (sound-accepted s es j);
           blocks = reported-block;
         }
 
--- ---- along the rules
+-- ---- whatever the judgement
 
-unfoldable Holds : List ℕ → Done → Type 0
-Holds s d = Demand3 s (d .outcome) (d .report)
+unfoldable Meets : List ℕ → Done → Type 0
+Meets s d = Demand3 s (d .outcome) (d .report)
 
 module _ (s r : List ℕ) where
-  -- a sheet that is turned away promises nothing
-  turned : (n : ℕ) (p : Place) → Holds s (turnedAway n p r)
-  unfolding Holds
-  turned n p = tt
-
-  after-rules : (es : List Entry) → reading s ≡ whole es → All es → stood es Gen 0 4 ≡ true → Holds s (rule13 (sheetOf es) (rowsOf es) r)
-  unfolding Holds rule13 rule14
-  after-rules es e all t =
-      by-test (Holds s) _ _ _ (λ c. tt) λ c.
-      by-test (Holds s) _ _ _ (λ d. tt) λ d.
-      (es, e, report-demand es all (ltb-true _ _ t) (ltb-false _ _ c) _)
-
-  after-lines : (o : Reading) → reading s ≡ o → Holds s (afterLines o r)
-  unfolding afterLines
-  after-lines (stopped es n i) e = turned _ _
-  after-lines (whole es) e = by-test (Holds s) _ _ _ (after-rules es e (rw e at (all-read s))) (λ t. turned _ _)
-
-  demanded : Holds s (sheetCall s r)
-  unfolding sheetCall
-  demanded = by-test (Holds s) _ _ _ (λ t. turned _ _) λ t. by-test (Holds s) _ _ _ (λ u. after-lines (reading s) refl) (λ u. turned _ _)
+  after : (j : Judgement) → judgement s ≡ j → Meets s (afterJudgement j r)
+  unfolding Meets afterJudgement rule14
+  after (turnedAway n p) e = tt
+  after (sound es) e = by-test (Meets s) _ _ _ (λ t. tt) (λ t. (es, e, report-demand s es e _))
 
   pub call-demand : Demand3 s (sheetCall s r .outcome) (sheetCall s r .report)
-  unfolding Holds
-  call-demand = demanded
+  unfolding Meets sheetCall
+  call-demand = after (judgement s) refl

@@ -1,8 +1,5 @@
-pub mod Blocks
-pub mod Stored
-pub mod WorkedOut
-pub mod Entries
-pub mod Reports
+pub mod Rows
 pub mod Accuracy
+pub mod Rules
 pub mod Numbered
-pub mod Steps
+pub mod Printing

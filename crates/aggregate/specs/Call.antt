@@ -1,22 +1,28 @@
--- The sheet call of document 01: what it answers, and every byte of the lent report afterwards. 'Order: 1, 2; then the first bad
--- line, in it 3, 4, 5, 6, 8, 9, 10, 11; then 12, 13, 14', and a refusal leaves the report untouched.
+-- The sheet call of document 01: what it answers, and every byte of the lent report afterwards. A sheet is judged; then comes rule 14, and
+-- then the report. A refusal leaves the report untouched.
 -- Assumes nothing.
+use mathlib.Core.Path.{_≡_}
 use mathlib.Core.List.{List, [], _∷_, _++_}
-use Prim.Native.Nat.{ℕ, _+_, _*_, _%_}
-use lib.Dec.{ltb, eqb}
+use Prim.Native.Nat.{ℕ}
+use lib.Dec.{ltb}
 use lib.ListN.{length, drop}
 use Rattle.search.specs.Pick.{pick}
+use Rattle.search.specs.Ascending.{ascending}
 use Rattle.refusal.specs.Outcome.{Outcome}
 use Rattle.refusal.specs.Outcome.Outcome.{accepted, refused}
 use Rattle.refusal.specs.declared.Place.{Place}
-use Rattle.refusal.specs.declared.Place.the-variants as place
-use Rattle.guideline.specs.Buffer.{Sheet, count, available}
-use Rattle.report.specs.Line.{Row, linesOf}
-use Rattle.lines.specs.declared.Code.the-variants.{Gen}
-use Rattle.ledger.specs.Entries.{stood}
-use Rattle.ledger.specs.Reading.{Reading, reading}
-use Rattle.ledger.specs.Reading.Reading.{whole, stopped}
-use Rattle.aggregate.specs.Sheet.{sheetOf, rowsOf}
+use Rattle.refusal.specs.declared.Place.the-variants.{Nowhere}
+use Rattle.guideline.specs.Sizes.{blocks}
+use Rattle.guideline.specs.Block.{figuresOf}
+use Rattle.guideline.specs.Operational.{RO}
+use Rattle.guideline.specs.Buffer.{count, sumK, buffer}
+use Rattle.report_line.specs.Line.{Row, printRows}
+use Rattle.sheet_line.specs.declared.Entry.{Entry}
+use Rattle.ledger.specs.Entries.{exists, blockOf}
+use Rattle.report.specs.Rows.{blockRows, totalRows, reportLength, refusalLine}
+use Rattle.judgement.specs.Sheet.{sheetOf}
+use Rattle.judgement.specs.Judgement.{Judgement, judgement}
+use Rattle.judgement.specs.Judgement.Judgement.{turnedAway, sound}
 use Rattle.aggregate.specs.declared.SheetAnswer.{SheetAnswer}
 use Rattle.aggregate.specs.declared.SheetAnswer.the-variants.{Accepted, Refused}
 
@@ -30,31 +36,45 @@ pub record Done : Type 0 where
   pub outcome : Outcome
   pub report : List ℕ
 
+-- the lines of the blocks that exist, ascending
+unfoldable pub blockRowsOf : List Entry → List Row
+blockRowsOf es = ascending (exists es) (λ b. blockRows b (figuresOf (blockOf es b))) blocks
+
+-- the lines that close the report
+abbrev pub totalRowsOf : List Entry → List Row
+totalRowsOf es = let s = sheetOf es in totalRows (sumK (s .blocks)) (RO (s .volumes) (s .general)) (buffer s)
+
+-- the report of a sheet's lines
+abbrev pub reportOf : List Entry → List ℕ
+reportOf es = printRows (blockRowsOf es ++ totalRowsOf es)
+
 -- a refusal leaves the report r as it was
-abbrev pub turnedAway : ℕ → Place → List ℕ → Done
-turnedAway n p r = record { outcome = refused n p; report = r }
+abbrev pub untouched : ℕ → Place → List ℕ → Done
+untouched n p r = record { outcome = refused n p; report = r }
 
--- 'the report's length, 29 × (5n + 3) bytes for n blocks'
-abbrev pub reportLength : Sheet → ℕ
-reportLength s = 29 * (5 * count s + 3)
+-- rule 14, 'lent report shorter than the report', and then the report: 'bytes past the last keep their content'
+unfoldable pub rule14 : List Entry → List ℕ → Done
+rule14 es r =
+    let n = reportLength (count (sheetOf es)) in
+    pick (ltb (length r) n) (untouched 14 Nowhere r) (record { outcome = accepted (n ∷ []); report = reportOf es ++ drop n r })
 
--- rule 14, and then the report: its lines, and 'bytes past the last keep their content'
-unfoldable pub rule14 : Sheet → List Row → List ℕ → Done
-rule14 s rows r =
-    pick (ltb (length r) (reportLength s)) (turnedAway 14 place.Nowhere r)
-    (record { outcome = accepted (reportLength s ∷ []); report = linesOf rows ++ drop (reportLength s) r })
+-- by what the sheet was judged to be
+unfoldable pub afterJudgement : Judgement → List ℕ → Done
+afterJudgement (turnedAway n p) r = untouched n p r
+afterJudgement (sound es) r = rule14 es r
 
--- rule 13: 'credits above sum of K + guarantee requirement + RO, as reported'
-unfoldable pub rule13 : Sheet → List Row → List ℕ → Done
-rule13 s rows r = pick (ltb (available s) (s .credits)) (turnedAway 13 place.Nowhere r) (rule14 s rows r)
-
--- the lines: the first bad one, or rule 12, 'no g line', and what follows it
-unfoldable pub afterLines : Reading → List ℕ → Done
-afterLines (stopped es n i) r = turnedAway n (place.Line i) r
-afterLines (whole es) r = pick (stood es Gen 0 4) (rule13 (sheetOf es) (rowsOf es) r) (turnedAway 12 place.Nowhere r)
-
--- rules 1 and 2, and then the lines
+-- the sheet call on a sheet s and a lent report r
 unfoldable pub sheetCall : List ℕ → List ℕ → Done
-sheetCall s r =
-    pick (ltb 11720 (length s)) (turnedAway 1 place.Nowhere r)
-    (pick (eqb (length s % 40) 0) (afterLines (reading s) r) (turnedAway 2 place.Nowhere r))
+sheetCall s r = afterJudgement (judgement s) r
+
+-- ---- what tsav-sheet prints
+
+-- 'writes the report; on a refusal one line, REF, the refusal's number in 5–6, 0 in 8–9, the place in 11–28'
+unfoldable pub printout : Judgement → List ℕ
+printout (turnedAway n p) = refusalLine n p
+printout (sound es) = reportOf es
+
+-- a text from the start of a room on, how long it is, and the rest of the room as it was
+pub record Printed (text : List ℕ) (given : ℕ) (before after : List ℕ) : Type 0 where
+  pub count : given ≡ length text
+  pub bytes : after ≡ text ++ drop given before

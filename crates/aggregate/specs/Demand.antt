@@ -11,13 +11,13 @@ use Rattle.refusal.specs.Outcome.{Outcome}
 use Rattle.refusal.specs.Outcome.Outcome.{accepted, refused}
 use Rattle.guideline.specs.Demand.{BufferDemand}
 use Rattle.field.specs.declared.Field.the-variants.{Value}
-use Rattle.report.specs.Line.{numberAt}
-use Rattle.lines.specs.declared.Entry.{Entry}
+use Rattle.report_line.specs.Line.{numberAt}
+use Rattle.sheet_line.specs.declared.Entry.{Entry}
 use Rattle.ledger.specs.Entries.{exists}
-use Rattle.ledger.specs.Reading.{reading}
-use Rattle.ledger.specs.Reading.Reading.{whole}
-use Rattle.writing.specs.Rows.{BLK, TOT}
-use Rattle.aggregate.specs.Sheet.{sheetOf}
+use Rattle.report.specs.Rows.{BLK, TOT}
+use Rattle.judgement.specs.Sheet.{sheetOf}
+use Rattle.judgement.specs.Judgement.{judgement}
+use Rattle.judgement.specs.Judgement.Judgement.{sound}
 
 -- 'For every block 2 × K is at least LT + D, and K is at most U', of the numbers read back off the report
 pub record ReportedBlock (report : List ℕ) (b : ℕ) : Type 0 where
@@ -39,7 +39,7 @@ pub record ReportDemand (es : List Entry) (report : List ℕ) : Type 0 where
   pub accurate : BufferDemand (sheetOf es) buffer
   pub blocks : (b : ℕ) → exists es b ≡ true → ReportedBlock report b
 
--- demand 3 for a sheet, the call's outcome and the report afterwards: a sheet that is accepted has lines, and the report meets it
+-- demand 3 for a sheet, the call's outcome and the report afterwards: a sheet that is accepted is judged to be sound, and its report meets it
 abbrev pub Demand3 : List ℕ → Outcome → List ℕ → Type 0
-Demand3 sheet (accepted vs) report = (es : List Entry) × (reading sheet ≡ whole es) × ReportDemand es report
+Demand3 sheet (accepted vs) report = (es : List Entry) × (judgement sheet ≡ sound es) × ReportDemand es report
 Demand3 sheet (refused n p) report = Unit {0}

@@ -1,4 +1,2 @@
-pub mod Sheet
 pub mod Call
 pub mod Demand
-pub mod Parts

@@ -21,35 +21,42 @@ none-above l h k = go (decLe (length l) k)
     go (yes p) = omega (arith, List·getD-eq-default l 0 p)
     go (no p) = ltb-false _ _ (none-passes (above l) (length l) h k (omega arith))
 
--- a position in the first of two lists
-pub first-in : (l m : List ℕ) → firstAbove l < length l → firstAbove (l ++ m) ≡ firstAbove l
-unfolding firstAbove
-first-in l m h =
-    let f = found-from (above l) 0 (length l) in
-    found-unique (above (l ++ m)) (length (l ++ m)) (firstAbove l)
-    (record {
-      low = omega arith;
-      high = omega (arith, length-append l m);
-      before = λ k p q. ap (λ (x : ℕ). ltb limit x) (List·getD-append l m 0 k (omega arith)) ∙ f .before k p q;
-      passes = λ q. ap (λ (x : ℕ). ltb limit x) (List·getD-append l m 0 (firstAbove l) h) ∙ f .passes (omega arith);
-    })
+-- of two lists one after the other, the test at a place of the first and of the second
+module _ (l m : List ℕ) where
+  test-first : (k : ℕ) → k < length l → above (l ++ m) k ≡ above l k
+  test-first k h = ap (λ (x : ℕ). ltb limit x) (List·getD-append l m 0 k h)
 
--- a position in the second, where the first has none
-pub first-after : (l m : List ℕ) → length l ≤ firstAbove l → firstAbove (l ++ m) ≡ length l + firstAbove m
-unfolding firstAbove
-first-after l m h =
-    let g = found-from (above m) 0 (length m) in
-    found-unique (above (l ++ m)) (length (l ++ m)) (length l + firstAbove m)
-    (record {
-      low = omega arith;
-      high = omega (arith, length-append l m, g .high);
-      before = λ k p q. at k q (decLe (length l) k);
-      passes = λ q. ap (λ (x : ℕ). ltb limit x) (getD-append-add l m (firstAbove m) 0) ∙ g .passes (omega (arith, length-append l m));
-    })
-  where
-    at : (k : ℕ) → k < length l + firstAbove m → Dec (length l ≤ k) → ltb limit (getD (l ++ m) k 0) ≡ false
-    at k q (yes p) =
-        let e : k ≡ length l + (k - length l) = omega arith in
-        rw e
-        (ap (λ (x : ℕ). ltb limit x) (getD-append-add l m (k - length l) 0) ∙ found-from (above m) 0 (length m) .before (k - length l) (omega arith) (omega arith))
-    at k q (no p) = ap (λ (x : ℕ). ltb limit x) (List·getD-append l m 0 k (omega arith)) ∙ none-passes (above l) (length l) h k (omega arith)
+  test-second : (k : ℕ) → above (l ++ m) (length l + k) ≡ above m k
+  test-second k = ap (λ (x : ℕ). ltb limit x) (getD-append-add l m k 0)
+
+  -- a position in the first
+  pub first-in : firstAbove l < length l → firstAbove (l ++ m) ≡ firstAbove l
+  unfolding firstAbove
+  first-in h =
+      let f = found-from (above l) 0 (length l) in
+      found-unique (above (l ++ m)) (length (l ++ m)) (firstAbove l)
+      (record {
+        low = omega arith;
+        high = omega (arith, length-append l m);
+        before = λ k p q. test-first k (omega arith) ∙ f .before k p q;
+        passes = λ q. test-first (firstAbove l) h ∙ f .passes (omega arith);
+      })
+
+  -- a position in the second, where the first has none
+  pub first-after : length l ≤ firstAbove l → firstAbove (l ++ m) ≡ length l + firstAbove m
+  unfolding firstAbove
+  first-after h =
+      let g = found-from (above m) 0 (length m) in
+      found-unique (above (l ++ m)) (length (l ++ m)) (length l + firstAbove m)
+      (record {
+        low = omega arith;
+        high = omega (arith, length-append l m, g .high);
+        before = λ k p q. at k q (decLe (length l) k);
+        passes = λ q. test-second (firstAbove m) ∙ g .passes (omega (arith, length-append l m));
+      })
+    where
+      at : (k : ℕ) → k < length l + firstAbove m → Dec (length l ≤ k) → above (l ++ m) k ≡ false
+      at k q (yes p) =
+          let e : k ≡ length l + (k - length l) = omega arith in
+          rw e (test-second (k - length l) ∙ found-from (above m) 0 (length m) .before (k - length l) (omega arith) (omega arith))
+      at k q (no p) = test-first k (omega arith) ∙ none-passes (above l) (length l) h k (omega arith)

@@ -1,7 +1,7 @@
 -- The block call of document 01, 'What is turned away': 'it tests 7 at the first bad position, then 8, then 9, these two at the
 -- position of the first bad LT', and 'Accepted, the block call gives I, D, U, LT and K'. Assumes nothing.
 use mathlib.Core.Bool.{Bool}
-use mathlib.Core.List.{List, [], _∷_}
+use mathlib.Core.List.{List}
 use Prim.Native.Nat.{ℕ, _+_, _*_}
 use lib.Dec.{ltb, eqb}
 use lib.ListN.{length, getD}
@@ -11,26 +11,28 @@ use Rattle.amount.specs.Amount.{firstAbove}
 use Rattle.refusal.specs.Outcome.{Outcome}
 use Rattle.refusal.specs.Outcome.Outcome.{accepted, refused}
 use Rattle.refusal.specs.declared.Place.the-variants.{Position}
-use Rattle.guideline.specs.Block.{lt, I, D, U, LT, K}
+use Rattle.guideline.specs.Sizes.{risks}
+use Rattle.guideline.specs.Block.{lt, figuresOf}
 use Rattle.block.specs.declared.BlockAnswer.{BlockAnswer}
 use Rattle.block.specs.declared.BlockAnswer.the-variants.{Accepted, Refused}
+use Rattle.block.specs.Parts.{figureList}
 
 -- what the enum's cases say in document 01's numbers: the figures in its order, or the refusal's number and place
 abbrev pub stated : BlockAnswer → Outcome
-stated (Accepted f) = accepted (f .i ∷ f .d ∷ f .u ∷ f .lt ∷ f .k ∷ [])
+stated (Accepted f) = accepted (figureList f)
 stated (Refused n p) = refused n p
 
 -- rule 9 at the pair i, counted from 0: its LT, at position 2i + 1, is above its IR
 abbrev pub ltAbove : List ℕ → ℕ → Bool
 ltAbove b i = ltb (getD b (2 * i) 0) (getD b (2 * i + 1) 0)
 
--- the first such pair; 7 where there is none
+-- the first such pair; the number of risks where there is none
 unfoldable pub firstLtAbove : List ℕ → ℕ
-firstLtAbove b = first (ltAbove b) 7
+firstLtAbove b = first (ltAbove b) risks
 
 -- rule 9, at the position of the LT
 unfoldable pub rule9 : List ℕ → Outcome
-rule9 b = pick (ltb (firstLtAbove b) 7) (refused 9 (Position (2 * firstLtAbove b + 1))) (accepted (I b ∷ D b ∷ U b ∷ LT b ∷ K b ∷ []))
+rule9 b = pick (ltb (firstLtAbove b) risks) (refused 9 (Position (2 * firstLtAbove b + 1))) (accepted (figuresOf b))
 
 -- rule 8: LT(7) is not 0
 unfoldable pub rule8 : List ℕ → Outcome

@@ -1,17 +1,23 @@
 // The block call: chapter 11.2 for one block.
 ghost use mathlib.Core.Path.{_≡_};
-ghost use Prim.Native.Nat.{ℕ, _+_, _-_, _*_, _^_, _≤_, _<_, max};
+ghost use Prim.Native.Nat.{_+_, _-_, _*_, _^_, _≤_, _<_, max};
 ghost use lib.Dec.{leb};
-ghost use lib.ListN.{getD};
 ghost use Rattle.search.specs.Least.{least};
+ghost use Rattle.amount.specs.Amount.{limit};
 ghost use Rattle.guideline.specs.Factors.{quarterSum, soFar};
-ghost use Rattle.guideline.specs.Block.{Accepted, U, LT, ys, largestOf, I, D, K, requirement};
+ghost use Rattle.guideline.specs.Sizes.{risks};
+ghost use Rattle.guideline.specs.Block.{AcceptedBlock, U, LT, ys, largestOf, I, radicand, requirement, figuresOf};
 ghost use Rattle.wide.specs.Sum.{held};
 ghost use Rattle.block.specs.Call.{stated, blockCall, firstLtAbove};
-ghost use Rattle.block.specs.Parts.{Settled};
+ghost use Rattle.block.specs.Parts.{figureList, SmallYs, FigureBounds};
+use guideline::BLOCK_NUMBERS;
+use guideline::RISKS;
 use refusal::Place;
 use wide::Sum;
 use wide::Wide;
+use wide::division;
+use wide::running;
+use wide::words;
 
 // The reported figures of a block: I and D in half cents, the others in cents.
 pub struct Figures {
@@ -22,35 +28,36 @@ pub struct Figures {
     pub k: u64,
 }
 
+// What the block call gives: the figures, or the number and the place of a refusal.
 pub enum BlockAnswer {
     Accepted(Figures),
     Refused(u8, Place),
 }
 
 // A block of any 17 numbers: seven pairs IR, LT, then PC, credit, market.
-pub fn block_call(b: &[u64; 17]) -> BlockAnswer
+pub fn block_call(b: &[u64; BLOCK_NUMBERS]) -> BlockAnswer
     ensures { λ r. ⌜ stated r ≡ blockCall (now (b .entry)) ⌝ }
 {
     let above = amount::first_above(b);
-    if above < 17 {
+    if above < BLOCK_NUMBERS {
         return BlockAnswer::Refused(7, Place::Position(above));
     }
     if b[13] != 0 {
         return BlockAnswer::Refused(8, Place::Position(13));
     }
     let risk = first_lt_above(b);
-    if risk < 7 {
+    if risk < RISKS {
         return BlockAnswer::Refused(9, Place::Position(2 * risk + 1));
     }
     BlockAnswer::Accepted(figures_of(b))
 }
 
-// The first risk, counted from 0, whose level and trend part is above its component, or 7 where there is none.
-fn first_lt_above(b: &[u64; 17]) -> usize
+// The first risk, counted from 0, whose level and trend part is above its component, or the number of risks where there is none.
+fn first_lt_above(b: &[u64; BLOCK_NUMBERS]) -> usize
     ensures { λ r. ⌜ r ≡ firstLtAbove (now (b .entry)) ⌝ }
 {
     let mut i = 0;
-    while i < 7 {
+    while i < RISKS {
         if b[2 * i] < b[2 * i + 1] {
             return i;
         }
@@ -60,9 +67,9 @@ fn first_lt_above(b: &[u64; 17]) -> usize
 }
 
 // The figures of a block that rules 7, 8 and 9 let pass.
-pub fn figures_of(b: &[u64; 17]) -> Figures
-    requires { ⌜ Accepted (now b) ⌝ }
-    ensures { λ r. ⌜ (r .i ≡ I (now (b .entry))) × (r .d ≡ D (now (b .entry))) × (r .u ≡ U (now (b .entry))) × (r .lt ≡ LT (now (b .entry))) × (r .k ≡ K (now (b .entry))) ⌝ }
+pub fn figures_of(b: &[u64; BLOCK_NUMBERS]) -> Figures
+    requires { ⌜ AcceptedBlock (now b) ⌝ }
+    ensures { λ r. ⌜ figureList r ≡ figuresOf (now (b .entry)) ⌝ }
 {
     let u = undiversified(b);
     let lt = level_and_trend(b);
@@ -73,24 +80,24 @@ pub fn figures_of(b: &[u64; 17]) -> Figures
 }
 
 // U, the sum of IR, PC and A; A is credit plus market.
-fn undiversified(b: &[u64; 17]) -> u64
-    requires { ⌜ Accepted (now b) ⌝ }
+fn undiversified(b: &[u64; BLOCK_NUMBERS]) -> u64
+    requires { ⌜ AcceptedBlock (now b) ⌝ }
     ensures { λ r. ⌜ r ≡ U (now (b .entry)) ⌝ }
 {
     b[0] + b[2] + b[4] + b[6] + b[8] + b[10] + b[12] + b[14] + (b[15] + b[16])
 }
 
 // LT without a number: the sum of LT(i).
-fn level_and_trend(b: &[u64; 17]) -> u64
-    requires { ⌜ Accepted (now b) ⌝ }
+fn level_and_trend(b: &[u64; BLOCK_NUMBERS]) -> u64
+    requires { ⌜ AcceptedBlock (now b) ⌝ }
     ensures { λ r. ⌜ r ≡ LT (now (b .entry)) ⌝ }
 {
     b[1] + b[3] + b[5] + b[7] + b[9] + b[11] + b[13]
 }
 
 // The seven y(i) = 2 × IR(i) − LT(i), in half cents: an odd LT keeps its half cent.
-fn half_cents(b: &[u64; 17]) -> [u64; 7]
-    requires { ⌜ Accepted (now b) ⌝ }
+fn half_cents(b: &[u64; BLOCK_NUMBERS]) -> [u64; RISKS]
+    requires { ⌜ AcceptedBlock (now b) ⌝ }
     ensures { λ r. ⌜ r ≡ ys (now (b .entry)) ⌝ }
 {
     [
@@ -105,8 +112,8 @@ fn half_cents(b: &[u64; 17]) -> [u64; 7]
 }
 
 // The sum over all pairs of risks, four times Q, row by row in the order of section 11.2.1.
-fn correlated(y: &[u64; 7]) -> Sum
-    requires { ⌜ ((i : ℕ) → getD (now y) i 0 ≤ 200000000000000) ⌝ }
+fn correlated(y: &[u64; RISKS]) -> Sum
+    requires { ⌜ SmallYs (now y) ⌝ }
     ensures { λ r. ⌜ held r ≡ quarterSum (now (y .entry)) ⌝ }
 {
     let mut s = Sum {
@@ -114,7 +121,7 @@ fn correlated(y: &[u64; 7]) -> Sum
         size: Wide { high: 0, low: 0 },
     };
     let mut row = 0usize;
-    while row < 7 {
+    while row < RISKS {
         s = with_row(s, y, row);
         row += 1;
     }
@@ -122,28 +129,35 @@ fn correlated(y: &[u64; 7]) -> Sum
 }
 
 // The sum with the seven products of a row added: after each product it is that of the products so far.
-fn with_row(before: Sum, y: &[u64; 7], row: usize) -> Sum
-    requires { ⌜ row < 7 ⌝ }
-    requires { ⌜ ((i : ℕ) → getD (now y) i 0 ≤ 200000000000000) ⌝ }
-    requires { ⌜ held before ≡ soFar (now y) (7 * row) ⌝ }
-    ensures { λ r. ⌜ held r ≡ soFar (now (y .entry)) (7 * row + 7) ⌝ }
+fn with_row(before: Sum, y: &[u64; RISKS], row: usize) -> Sum
+    requires { ⌜ row < risks ⌝ }
+    requires { ⌜ SmallYs (now y) ⌝ }
+    requires { ⌜ held before ≡ soFar (now y) (risks * row) ⌝ }
+    ensures { λ r. ⌜ held r ≡ soFar (now (y .entry)) (risks * row + risks) ⌝ }
 {
     let mut s = before;
     let mut column = 0usize;
-    while column < 7 {
-        s = wide::add_term(s, guideline::factor_at(7 * row + column), y[row], y[column]);
+    while column < RISKS {
+        s = running::add_term(
+            s,
+            guideline::factor_at(RISKS * row + column),
+            y[row],
+            y[column],
+        );
         column += 1;
     }
     s
 }
 
+// The larger of two.
 fn larger(x: u64, y: u64) -> u64
     ensures { λ r. ⌜ r ≡ max x y ⌝ }
 {
     if x < y { y } else { x }
 }
 
-fn largest_of(y: &[u64; 7]) -> u64
+// The largest of the seven y(i).
+fn largest_of(y: &[u64; RISKS]) -> u64
     ensures { λ r. ⌜ r ≡ largestOf (now (y .entry)) ⌝ }
 {
     larger(
@@ -168,34 +182,34 @@ fn floored(root: u64, largest: u64, pc: u64) -> u64
 }
 
 // I, in half cents: the root of Q, not below the largest y(i), and 2 × PC.
-fn insurance(b: &[u64; 17]) -> u64
-    requires { ⌜ Accepted (now b) ⌝ }
+fn insurance(b: &[u64; BLOCK_NUMBERS]) -> u64
+    requires { ⌜ AcceptedBlock (now b) ⌝ }
     ensures { λ r. ⌜ r ≡ I (now (b .entry)) ⌝ }
 {
     let y = half_cents(b);
-    let q = wide::radicand(correlated(&y));
-    let root = root::root_up(wide::quarter_up(q));
+    let q = running::unsigned(correlated(&y));
+    let root = root::root_up(words::quarter_up(q));
     floored(root, largest_of(&y), b[14])
 }
 
 // D, in half cents, for a = 2 × A. a² + a × I + I² is a × (a + I) + I².
 fn diversified(a: u64, i: u64) -> u64
-    requires { ⌜ a + i ≤ 2000000000000000 ⌝ }
-    ensures { λ r. ⌜ r ≡ least (λ d. leb (a * a + a * i + i * i) (d * d)) ⌝ }
+    requires { ⌜ a + i ≤ 20 * limit ⌝ }
+    ensures { λ r. ⌜ r ≡ least (λ d. leb (radicand a i) (d * d)) ⌝ }
 {
-    root::root_up(wide::add(wide::product(a, a + i), wide::product(i, i)))
+    root::root_up(words::add(words::product(a, a + i), words::product(i, i)))
 }
 
 // K, in cents, with V = 2U − LT. M is (3d − v) × (10d − 7v), the second factor cut at 0: with v at most 3d no sign is needed.
 fn adjusted(u: u64, lt: u64, d: u64) -> u64
-    requires { ⌜ Settled u lt d ⌝ }
+    requires { ⌜ FigureBounds u lt d ⌝ }
     ensures { λ r. ⌜ r ≡ requirement u lt (2 * u - lt) d ⌝ }
 {
     if u == 0 {
         return 0;
     }
     let v = 2 * u - lt;
-    let m = wide::product(3 * d - v, amount::excess(10 * d, 7 * v));
-    let top = wide::add(wide::product(v, 48 * u + 6 * lt), m);
-    wide::divide_up(top, 60 * v)
+    let m = words::product(3 * d - v, amount::excess(10 * d, 7 * v));
+    let numerator = words::add(words::product(v, 48 * u + 6 * lt), m);
+    division::divide_up(numerator, 60 * v)
 }

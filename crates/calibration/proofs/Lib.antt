@@ -1,2 +1,4 @@
+pub mod Computed
 pub mod Calibrated
 pub mod Refuted
+pub mod Programs

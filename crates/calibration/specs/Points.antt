@@ -16,25 +16,32 @@ pub record Figure : Type 0 where
   pub place : ℕ
   pub figure : ℕ
 
+-- a figure of the block call: I, its first value
 abbrev I : ℕ → Figure
 I n = record { place = 0; figure = n }
 
+-- D, the second
 abbrev D : ℕ → Figure
 D n = record { place = 1; figure = n }
 
+-- U, the third
 abbrev U : ℕ → Figure
 U n = record { place = 2; figure = n }
 
+-- LT, the fourth
 abbrev LT : ℕ → Figure
 LT n = record { place = 3; figure = n }
 
+-- K, the fifth
 abbrev K : ℕ → Figure
 K n = record { place = 4; figure = n }
 
+-- the operational call's one value
 abbrev RO : ℕ → Figure
 RO n = record { place = 0; figure = n }
 
-pub record Row : Type 0 where
+-- a row: the outcome of the call at the row's input, and the figures that the row prints
+pub record Point : Type 0 where
   pub outcome : Outcome
   pub figures : List Figure
 
@@ -44,26 +51,32 @@ gives (refused n p) fs = false
 gives (accepted vs) [] = true
 gives (accepted vs) (f ∷ fs) = eqb (getD vs (f .place) (suc (f .figure))) (f .figure) && gives (accepted vs) fs
 
-unfoldable pub allGiven : List Row → Bool
+-- every row holds
+unfoldable pub allGiven : List Point → Bool
 allGiven [] = true
 allGiven (r ∷ rs) = gives (r .outcome) (r .figures) && allGiven rs
 
--- the volumes of one territory: its first class, and its seventh
+-- the volumes of one territory that has its first class alone
 abbrev first : ℕ → ℕ → List ℕ
 first current prior = current ∷ prior ∷ 0 ∷ 0 ∷ 0 ∷ 0 ∷ 0 ∷ 0 ∷ 0 ∷ 0 ∷ 0 ∷ 0 ∷ 0 ∷ 0 ∷ 0 ∷ 0 ∷ []
 
+-- and of one that has its seventh alone
 abbrev seventh : ℕ → ℕ → List ℕ
 seventh current prior = 0 ∷ 0 ∷ 0 ∷ 0 ∷ 0 ∷ 0 ∷ 0 ∷ 0 ∷ 0 ∷ 0 ∷ 0 ∷ 0 ∷ current ∷ prior ∷ 0 ∷ 0 ∷ []
 
-abbrev nothing : List ℕ
+-- no general figures
+abbrev pub nothing : List ℕ
 nothing = 0 ∷ 0 ∷ 0 ∷ []
 
 -- a block of its 17 numbers, risks 1 to 7, then PC, credit and market
-abbrev pub points : List Row
+abbrev pub points : List Point
 points =
     -- the example of document 000
     record {
-      outcome = blockCall (100000000 ∷ 70000000 ∷ 300000 ∷ 300000 ∷ 5000000 ∷ 1000000 ∷ 250000 ∷ 100000 ∷ 30000000 ∷ 15000000 ∷ 10000000 ∷ 4000000 ∷ 1000000 ∷ 0 ∷ 2500000 ∷ 20000000 ∷ 7500000 ∷ []);
+      outcome =
+          blockCall
+          (100000000 ∷ 70000000 ∷ 300000 ∷ 300000 ∷ 5000000 ∷ 1000000 ∷ 250000 ∷ 100000 ∷ 30000000 ∷ 15000000 ∷ 10000000 ∷ 4000000 ∷ 1000000 ∷ 0
+          ∷ 2500000 ∷ 20000000 ∷ 7500000 ∷ []);
       figures = I 157884172 ∷ D 191405437 ∷ U 176550000 ∷ LT 90400000 ∷ K 151765333 ∷ [];
     }
     -- all zeros

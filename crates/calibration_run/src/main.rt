@@ -1,12 +1,19 @@
 // Runs the block call and the operational call on figures that others printed, and on bad input. What it writes is compared with the
 // file stdout beside src/: document 000's and 003's figures as they stand there, and the answers that document 01's table names.
+use amount::LARGEST_AMOUNT;
 use block::BlockAnswer;
+use guideline::BLOCK_NUMBERS;
+use guideline::GENERAL_FIGURES;
+use guideline::TERRITORY_NUMBERS;
+use guideline::VOLUME_NUMBERS;
 use libc::STDOUT_FILENO;
 use operational::OperationalAnswer;
 use refusal::Place;
 
+// The largest word: an amount far above the limit.
 const MOST: u64 = 18446744073709551615;
 
+// Every part in turn.
 fn main() {
     printed_example();
     points();
@@ -15,41 +22,37 @@ fn main() {
     bad_volumes();
 }
 
+// Text as it stands.
 fn say(text: &[u8]) {
     io::write_all(STDOUT_FILENO, text);
 }
 
+// A number after a space.
 fn number(n: u64) {
     say(b" ");
     io::print_decimal(STDOUT_FILENO, n);
 }
 
-fn wide(n: usize) -> u64 {
-    n as u64
-}
-
-fn rule(n: u8) -> u64 {
-    n as u64
-}
-
+// A refusal: its number and its place.
 fn refused(n: u8, p: Place) {
     say(b"refused");
-    number(rule(n));
+    number(cast::byte(n));
     match p {
         Place::Line(at) => {
             say(b" line");
-            number(wide(at));
+            number(cast::word(at));
         }
         Place::Position(at) => {
             say(b" position");
-            number(wide(at));
+            number(cast::word(at));
         }
         Place::Nowhere => {}
     }
     say(b"\n");
 }
 
-fn block_row(b: &[u64; 17]) {
+// What the block call gives, on a line.
+fn block_row(b: &[u64; BLOCK_NUMBERS]) {
     let answer = block::block_call(b);
     match answer {
         BlockAnswer::Accepted(f) => {
@@ -67,7 +70,8 @@ fn block_row(b: &[u64; 17]) {
     }
 }
 
-fn operational_row(volumes: &[u64], general: &[u64; 3]) {
+// What the operational call gives, on a line.
+fn operational_row(volumes: &[u64], general: &[u64; GENERAL_FIGURES]) {
     let answer = operational::operational_call(volumes, general);
     match answer {
         OperationalAnswer::Accepted(ro) => {
@@ -133,7 +137,8 @@ fn plus(x: u64, y: u64) -> u64 {
     if y <= MOST - x { x + y } else { 0 }
 }
 
-fn example() -> [u64; 17] {
+// The example of document 000 in cents.
+fn example() -> [u64; BLOCK_NUMBERS] {
     [
         100000000,
         70000000,
@@ -159,7 +164,7 @@ fn example() -> [u64; 17] {
 fn points() {
     say(b"document 01\n");
     block_row(&example());
-    let mut b = [0u64; 17];
+    let mut b = [0u64; BLOCK_NUMBERS];
     block_row(&b);
     b[0] = 100;
     block_row(&b);
@@ -175,11 +180,11 @@ fn points() {
     b[2] = 0;
     b[15] = 100;
     block_row(&b);
-    let mut c = [0u64; 17];
+    let mut c = [0u64; BLOCK_NUMBERS];
     c[8] = 100;
     c[10] = 100;
     block_row(&c);
-    let mut d = [0u64; 17];
+    let mut d = [0u64; BLOCK_NUMBERS];
     d[0] = 3000;
     d[1] = 3001;
     block_row(&d);
@@ -188,7 +193,7 @@ fn points() {
 // Each position above the limit, alone.
 fn each_above() {
     let mut at = 0usize;
-    while at < 17 {
+    while at < BLOCK_NUMBERS {
         let mut b = example();
         b[at] = MOST;
         block_row(&b);
@@ -201,9 +206,9 @@ fn bad_blocks() {
     say(b"bad blocks\n");
     each_above();
     let mut b = example();
-    b[0] = 99999999999999;
+    b[0] = LARGEST_AMOUNT;
     block_row(&b);
-    b[0] = 100000000000000;
+    b[0] = LARGEST_AMOUNT + 1;
     block_row(&b);
     // 8 before 9, though 9 stands earlier
     let mut c = example();
@@ -227,8 +232,8 @@ fn bad_blocks() {
 // Document 003's examples, scaled by 1,000: 8.2.2, growth and acquisition.
 fn printed_volumes() {
     say(b"document 003\n");
-    let none = [0u64; 3];
-    let mut v = [0u64; 16];
+    let none = [0u64; GENERAL_FIGURES];
+    let mut v = [0u64; TERRITORY_NUMBERS];
     v[0] = 150000;
     v[1] = 100000;
     operational_row(&v, &none);
@@ -244,21 +249,21 @@ fn printed_volumes() {
 // Lengths, and a bad amount in either list.
 fn bad_volumes() {
     say(b"bad volumes\n");
-    let none = [0u64; 3];
+    let none = [0u64; GENERAL_FIGURES];
     operational_row(&[0u64; 0], &none);
     operational_row(&[0u64; 1], &none);
     operational_row(&[0u64; 15], &none);
-    operational_row(&[0u64; 16], &none);
+    operational_row(&[0u64; TERRITORY_NUMBERS], &none);
     operational_row(&[0u64; 17], &none);
-    operational_row(&[0u64; 256], &none);
+    operational_row(&[0u64; VOLUME_NUMBERS], &none);
     operational_row(&[0u64; 257], &none);
     operational_row(&[0u64; 272], &none);
-    operational_row(&[99999999999999u64; 256], &[99999999999999; 3]);
-    operational_row(&[0u64; 16], &[0, 0, MOST]);
-    operational_row(&[0u64; 0], &[0, 100000000000000, MOST]);
-    let mut v = [0u64; 16];
+    operational_row(&[LARGEST_AMOUNT; VOLUME_NUMBERS], &[LARGEST_AMOUNT; 3]);
+    operational_row(&[0u64; TERRITORY_NUMBERS], &[0, 0, MOST]);
+    operational_row(&[0u64; 0], &[0, LARGEST_AMOUNT + 1, MOST]);
+    let mut v = [0u64; TERRITORY_NUMBERS];
     v[7] = MOST;
     operational_row(&v, &[MOST, 0, 0]);
     operational_row(&[MOST; 17], &[MOST, 0, 0]);
-    operational_row(&[MOST; 16], &none);
+    operational_row(&[MOST; TERRITORY_NUMBERS], &none);
 }

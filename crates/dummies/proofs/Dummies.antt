@@ -1,118 +1,136 @@
--- Document 01, 'To the testers': the dummies. No program that behaves like one of them meets the sheet call's contract, whatever else it
--- does. A call is taken as what it gives, outcome and report, for a sheet and a lent report; all but the last dummy are refuted at small
--- sheets, computed.
+-- Document 01, 'To the testers': no program that behaves like one of the dummies meets demand 2, and those of which the paper says so don't
+-- meet demand 3, whatever else they do. Each call is refuted at a sheet of the computed table. Demand 3 leaves a buffer less than the allowance
+-- from the one that is due, either way: of two buffers that meet it, one less the allowance is below the exact buffer, and the other isn't.
 -- Assumes nothing.
-use mathlib.Core.Path.{_≡_, sym, ap, _∙_}
-use mathlib.Core.List.{List, [], _∷_, _++_}
+use mathlib.Core.Path.{_≡_, refl, sym, ap, subst, _∙_}
+use mathlib.Core.List.{List}
 use Prim.Native.Nat.{ℕ, _+_, _*_, _≤_}
 use native.Mathlib.Nat.{mul-le-mul-right}
 use native.Mathlib.Omega.{arith}
-use lib.ListN.{getD, replicate}
-use Rattle.search.specs.Pick.{pick}
-use Rattle.search.specs.Least.{leastFrom}
-use Rattle.refusal.specs.Outcome.Outcome.{accepted, refused}
-use Rattle.refusal.specs.declared.Place.{Place}
-use Rattle.field.specs.declared.Field.{Field}
-use Rattle.field.specs.declared.Field.the-variants.{Value, Bad}
-use Rattle.field.specs.Field.{digits, field, glyph, before, column}
-use Rattle.guideline.specs.Factors.{factors, factor, soFar}
-use Rattle.guideline.specs.Block.{A, U, LT, Vh, y, ys, Q4, largestOf, largest, root, I, a, D, requirement, K}
-use Rattle.guideline.specs.Operational.{volumeFactors, total, volume, growth, general, operationalTop, RO}
-use Rattle.guideline.specs.Buffer.{Sheet, count, sumK, available, bracket, buffer, bufferAt, AcceptedSheet}
+use lib.ListN.{getD}
+use Rattle.search.proofs.Picks.{never}
+use Rattle.refusal.specs.Outcome.{Outcome}
+use Rattle.refusal.specs.Outcome.Outcome.{accepted}
+use Rattle.guideline.specs.Sizes.{tenThousandths}
+use Rattle.guideline.specs.Buffer.{Sheet, available, buffer, bufferAt, AcceptedSheet}
 use Rattle.guideline.specs.Demand.{BufferDemand}
 use Rattle.guideline.proofs.Demand.{buffer-demand}
-use Rattle.report.specs.Line.{key, reportLine, linesOf, same, numberIn, numberAt}
-use Rattle.lines.specs.Codes.{isCode, codeOf}
-use Rattle.lines.specs.Line.{separatedOf, layoutOf, blockOutside, classOutside, secondBarred, ruledOf, lineOf}
-use Rattle.ledger.specs.Entries as e
-use Rattle.ledger.specs.Entries.{lookup, exists, pairs, blockBy, volumesBy}
-use Rattle.ledger.specs.Reading.{onLine, readFrom}
-use Rattle.writing.specs.Rows.{BLK, blockRows, ascending, totalRows}
-use Rattle.aggregate.specs.Sheet.{blocksBy, sheetBy, figuresOf, blockRowsBy}
-use Rattle.aggregate.specs.Call.{Done, rule14, rule13, afterLines, sheetCall}
+use Rattle.sheet_line.specs.declared.Entry.{Entry}
+use Rattle.judgement.specs.Sheet.{sheetOf}
+use Rattle.judgement.specs.Judgement.{Judgement, judgement}
+use Rattle.judgement.specs.Judgement.Judgement.{turnedAway, sound}
+use Rattle.judgement.proofs.Accepted.{sound-accepted}
+use Rattle.aggregate.specs.Call.{sheetCall}
+use Rattle.aggregate.specs.Demand.{ReportDemand, Demand3}
+use Rattle.dummies.specs.Dummies.{Lent, Call, MeetsContract, MeetsDemand3, TurnsAllAway, ConstantReport, WritesNothing, TooShortAtOnce}
+use Rattle.dummies.specs.Dummies.{FirstFilledIn, filledIn, BufferOfFirst, allowance, FarAbove, FarBelow}
+use Rattle.dummies.specs.Answers.{Amounts, amountsOf, Facts, factsOf, Case, empty, guaranteed, twoBlocks, answers, given, claimed}
+use Rattle.dummies.proofs.Computed.{computed}
 
--- ---- lines of a sheet, as bytes
+-- what the sheet call gives for a row of the table
+row : (k : ℕ) → getD (given answers) k (empty .facts) ≡ getD (claimed answers) k (empty .facts)
+row k = ap (λ (l : List Facts). getD l k (empty .facts)) computed
 
--- GEN 0 4, a scalar of one
-scalar : List ℕ
-scalar =
-    71 ∷ 69 ∷ 78 ∷ 32 ∷ 32 ∷ 48 ∷ 32 ∷ 32 ∷ 52 ∷ 32 ∷ 32 ∷ 32 ∷ 32 ∷ 32 ∷ 32 ∷ 32 ∷ 32 ∷ 32 ∷ 32 ∷ 49 ∷ 48 ∷ 48 ∷ 48 ∷ 48 ∷ 32 ∷ 32 ∷ 32 ∷ 32 ∷ 32 ∷
-    32 ∷ 32 ∷ 32 ∷ 32 ∷ 32 ∷ 32 ∷ 32 ∷ 32 ∷ 32 ∷ 48 ∷ 10 ∷ []
+-- the rows are of bytes
+lent-empty : Lent (empty .sheet) (empty .lent)
+lent-empty = ap (λ (f : Facts). f .bytes) (row 0)
 
--- GEN 0 2, a guarantee requirement of a cent
-guarantee : List ℕ
-guarantee =
-    71 ∷ 69 ∷ 78 ∷ 32 ∷ 32 ∷ 48 ∷ 32 ∷ 32 ∷ 50 ∷ 32 ∷ 32 ∷ 32 ∷ 32 ∷ 32 ∷ 32 ∷ 32 ∷ 32 ∷ 32 ∷ 32 ∷ 32 ∷ 32 ∷ 32 ∷ 32 ∷ 49 ∷ 32 ∷ 32 ∷ 32 ∷ 32 ∷ 32 ∷
-    32 ∷ 32 ∷ 32 ∷ 32 ∷ 32 ∷ 32 ∷ 32 ∷ 32 ∷ 32 ∷ 48 ∷ 10 ∷ []
+lent-guaranteed : Lent (guaranteed .sheet) (guaranteed .lent)
+lent-guaranteed = ap (λ (f : Facts). f .bytes) (row 1)
 
--- RSK 1 1, a component of 100 cents
-first : List ℕ
-first =
-    82 ∷ 83 ∷ 75 ∷ 32 ∷ 32 ∷ 49 ∷ 32 ∷ 32 ∷ 49 ∷ 32 ∷ 32 ∷ 32 ∷ 32 ∷ 32 ∷ 32 ∷ 32 ∷ 32 ∷ 32 ∷ 32 ∷ 32 ∷ 32 ∷ 49 ∷ 48 ∷ 48 ∷ 32 ∷ 32 ∷ 32 ∷ 32 ∷ 32 ∷
-    32 ∷ 32 ∷ 32 ∷ 32 ∷ 32 ∷ 32 ∷ 32 ∷ 32 ∷ 32 ∷ 48 ∷ 10 ∷ []
+lent-two : Lent (twoBlocks .sheet) (twoBlocks .lent)
+lent-two = ap (λ (f : Facts). f .bytes) (row 2)
 
--- RSK 2 1, a component of 200 cents
-second : List ℕ
-second =
-    82 ∷ 83 ∷ 75 ∷ 32 ∷ 32 ∷ 50 ∷ 32 ∷ 32 ∷ 49 ∷ 32 ∷ 32 ∷ 32 ∷ 32 ∷ 32 ∷ 32 ∷ 32 ∷ 32 ∷ 32 ∷ 32 ∷ 32 ∷ 32 ∷ 50 ∷ 48 ∷ 48 ∷ 32 ∷ 32 ∷ 32 ∷ 32 ∷ 32 ∷
-    32 ∷ 32 ∷ 32 ∷ 32 ∷ 32 ∷ 32 ∷ 32 ∷ 32 ∷ 32 ∷ 48 ∷ 10 ∷ []
+module _ (call : Call) (meets : MeetsContract call) where
+  -- what the call gives for a row
+  at :
+      (a : Case) → Lent (a .sheet) (a .lent) → factsOf (a .sheet) (a .lent) (sheetCall (a .sheet) (a .lent)) ≡ a .facts →
+      factsOf (a .sheet) (a .lent) (call (a .sheet) (a .lent)) ≡ a .facts
+  at a l e = ap (factsOf (a .sheet) (a .lent)) (meets (a .sheet) (a .lent) l) ∙ e
 
--- room of n bytes
-room : ℕ → List ℕ
-room n = replicate n 35
-
--- the number in a field; 0 where there is none
-numberOr0 : Field → ℕ
-numberOr0 (Value n) = n
-numberOr0 Bad = 0
-
--- ---- the dummies
-
-module _ (call : List ℕ → List ℕ → Done) (meets : (s r : List ℕ) → call s r ≡ sheetCall s r) where
-  -- 'One that turns every sheet away'
-  pub turns-all-away : ((s r : List ℕ) → (n : ℕ) × (p : Place) × (call s r .outcome ≡ refused n p)) → ⊥
-  unfolding pick leastFrom digits field glyph before column factors factor soFar A U LT Vh y ys Q4 largestOf largest root I a D requirement K volumeFactors total volume growth general operationalTop RO sumK available bracket buffer key reportLine linesOf same numberIn numberAt isCode codeOf separatedOf layoutOf blockOutside classOutside secondBarred ruledOf lineOf e.same lookup exists pairs blockBy volumesBy onLine readFrom blockRows ascending totalRows blocksBy sheetBy figuresOf blockRowsBy rule14 rule13 afterLines sheetCall scalar room
+  pub turns-all-away : TurnsAllAway call → ⊥
   turns-all-away away =
-      let a : accepted (87 ∷ []) ≡ call scalar (room 87) .outcome = sym (ap (λ (d : Done). d .outcome) (meets scalar (room 87))) in
-      let w = away scalar (room 87) in
-      let b : call scalar (room 87) .outcome ≡ refused (w .0) (w .1) = w .2 in
-      let z : _≡_ {A = ℕ} 0 1 = cc in
+      let e = ap (λ (f : Facts). f .outcome) (at empty lent-empty (row 0)) in
+      let w = away (empty .sheet) (empty .lent) lent-empty .2 in
+      never (cc)
+
+  pub constant-report : ConstantReport call → ⊥
+  constant-report constant =
+      let e = at empty lent-empty (row 0) in
+      let f = at guaranteed lent-guaranteed (row 1) in
+      let be = ap (λ (f : Facts). f .buffer) e in
+      let bf = ap (λ (f : Facts). f .buffer) f in
+      let c =
+      constant (empty .sheet) (guaranteed .sheet) (empty .lent) _ _ lent-empty lent-guaranteed (ap (λ (f : Facts). f .outcome) e)
+      (ap (λ (f : Facts). f .outcome) f) in
+      let z : _≡_ {A = ℕ} 0 2 = cc in
       omega arith
 
-  -- 'one with a constant report'
-  pub constant-report : (bytes : List ℕ) → ((s r : List ℕ) → call s r .report ≡ bytes) → ⊥
-  unfolding pick leastFrom digits field glyph before column factors factor soFar A U LT Vh y ys Q4 largestOf largest root I a D requirement K volumeFactors total volume growth general operationalTop RO sumK available bracket buffer key reportLine linesOf same numberIn numberAt isCode codeOf separatedOf layoutOf blockOutside classOutside secondBarred ruledOf lineOf e.same lookup exists pairs blockBy volumesBy onLine readFrom blockRows ascending totalRows blocksBy sheetBy figuresOf blockRowsBy rule14 rule13 afterLines sheetCall scalar guarantee room
-  constant-report bytes constant =
-      let last : List ℕ → ℕ = λ l. getD l 85 0 in
-      let one = ap (λ (d : Done). last (d .report)) (meets scalar (room 87)) in
-      let two = ap (λ (d : Done). last (d .report)) (meets (scalar ++ guarantee) (room 87)) in
-      let z : _≡_ {A = ℕ} 48 50 = sym one ∙ ap last (constant scalar (room 87)) ∙ sym (ap last (constant (scalar ++ guarantee) (room 87))) ∙ two in
-      omega arith
-
-  -- 'one that writes nothing and claims success'
-  pub writes-nothing : ((s r : List ℕ) → call s r .report ≡ r) → ⊥
-  unfolding pick leastFrom digits field glyph before column factors factor soFar A U LT Vh y ys Q4 largestOf largest root I a D requirement K volumeFactors total volume growth general operationalTop RO sumK available bracket buffer key reportLine linesOf same numberIn numberAt isCode codeOf separatedOf layoutOf blockOutside classOutside secondBarred ruledOf lineOf e.same lookup exists pairs blockBy volumesBy onLine readFrom blockRows ascending totalRows blocksBy sheetBy figuresOf blockRowsBy rule14 rule13 afterLines sheetCall scalar room
+  pub writes-nothing : WritesNothing call → ⊥
   writes-nothing same =
-      let z : _≡_ {A = ℕ} 84 35 = sym (ap (λ (d : Done). getD (d .report) 0 0) (meets scalar (room 87))) ∙ ap (λ (l : List ℕ). getD l 0 0) (same scalar (room 87)) in
+      let e = at empty lent-empty (row 0) in
+      let h = ap (λ (f : Facts). f .head) e in
+      let c = same (empty .sheet) (empty .lent) _ lent-empty (ap (λ (f : Facts). f .outcome) e) in
+      let z : _≡_ {A = ℕ} 84 35 = sym h ∙ ap (λ (l : List ℕ). getD l 0 0) c in
       omega arith
 
-  -- 'one that says 'report too short' at once'
-  pub too-short-at-once : ((s r : List ℕ) → (p : Place) × (call s r .outcome ≡ refused 14 p)) → ⊥
-  too-short-at-once short = turns-all-away (λ s r. (14, short s r .0, short s r .1))
+  pub too-short-at-once : TooShortAtOnce call → ⊥
+  too-short-at-once short = turns-all-away (λ s r l. (14, short s r l .0, short s r l .1))
 
-  -- 'One that works out the first block and fills in the others'
-  pub first-filled-in : ((s r : List ℕ) → numberAt (call s r .report) BLK 2 5 ≡ numberAt (call s r .report) BLK 1 5) → ⊥
-  unfolding pick leastFrom digits field glyph before column factors factor soFar A U LT Vh y ys Q4 largestOf largest root I a D requirement K volumeFactors total volume growth general operationalTop RO sumK available bracket buffer key reportLine linesOf same numberIn numberAt isCode codeOf separatedOf layoutOf blockOutside classOutside secondBarred ruledOf lineOf e.same lookup exists pairs blockBy volumesBy onLine readFrom blockRows ascending totalRows blocksBy sheetBy figuresOf blockRowsBy rule14 rule13 afterLines sheetCall scalar first second room numberOr0
+  -- 'breaks demand 2 at the second K'
+  pub first-filled-in : FirstFilledIn call → ⊥
   first-filled-in filled =
-      let s : List ℕ = first ++ second ++ scalar in
-      let k : ℕ → Done → ℕ = λ b d. numberOr0 (numberAt (d .report) BLK b 5) in
-      let one = ap (k 1) (meets s (room 377)) in
-      let two = ap (k 2) (meets s (room 377)) in
-      let z : _≡_ {A = ℕ} 200 100 = sym two ∙ ap numberOr0 (filled s (room 377)) ∙ one in
+      let e = at twoBlocks lent-two (row 2) in
+      let z : _≡_ {A = ℕ} 100 200 =
+      filled (twoBlocks .sheet) (twoBlocks .lent) 100 200 lent-two (ap (λ (f : Facts). f .k₁) e) (ap (λ (f : Facts). f .k₂) e) in
       omega arith
 
--- 'A huge 'safe' buffer breaks demand 3 from above': one that is the allowance or more above the reported buffer doesn't meet it
-pub huge-buffer : (s : Sheet) → AcceptedSheet s → (x : ℕ) → 10000 * buffer s + (s .g * (2 * count s + 1) + 10000) ≤ 10000 * x → BufferDemand s x → ⊥
-huge-buffer s v x h d =
-    let n = d .near in
-    buffer-demand s v .at (record { choice = n .choice; below = omega (arith, n .below, mul-le-mul-right (bufferAt s (n .choice) .under) h) })
+module _ (s : Sheet) (v : AcceptedSheet s) where
+  -- two buffers that meet demand 3 are less than the allowance apart
+  apart : (x z : ℕ) → tenThousandths * x + allowance s ≤ tenThousandths * z → BufferDemand s x → BufferDemand s z → ⊥
+  apart x z h d e =
+      let n = e .near in
+      d .at (record { choice = n .choice; below = omega (arith, n .below, mul-le-mul-right (bufferAt s (n .choice) .denominator) h) })
+
+  -- 'A huge 'safe' buffer breaks demand 3 from above'
+  pub huge-buffer : (x : ℕ) → FarAbove s x → BufferDemand s x → ⊥
+  huge-buffer x h d = apart _ x h (buffer-demand s v) d
+
+  -- a buffer far too low breaks it from below
+  pub low-buffer : (x : ℕ) → FarBelow s x → BufferDemand s x → ⊥
+  low-buffer x h d = apart x _ h d (buffer-demand s v)
+
+-- a sheet whose amounts are read has been judged to be sound
+judged : (j : Judgement) → 1 ≤ amountsOf j .allowance → (es : List Entry) × (j ≡ sound es)
+judged (turnedAway n p) h = absurd (omega arith)
+judged (sound es) h = (es, refl)
+
+-- the same as `FarBelow`, of a sheet's amounts and the buffer with the first block in place of each
+abbrev Below : Amounts → Type 0
+Below a = tenThousandths * a .filledIn + a .allowance ≤ tenThousandths * a .buffer
+
+-- 'and demand 3 by its bounds'
+module _ (call : Call) (meets : MeetsDemand3 call) where
+  -- the buffer that it gives a sheet would have to be near the one that is due
+  pub filled-in-near :
+      BufferOfFirst call → (s r vs : List ℕ) (es : List Entry) → Lent s r → judgement s ≡ sound es → sheetOf es .credits ≤ available (filledIn (sheetOf es)) →
+      sheetCall s r .outcome ≡ accepted vs →
+      (FarBelow (sheetOf es) (buffer (filledIn (sheetOf es))) → ⊥) × (FarAbove (sheetOf es) (buffer (filledIn (sheetOf es))) → ⊥)
+  filled-in-near filled s r vs es l j c e =
+      let a = filled .accepts s r vs es l j c e in
+      let d = subst (λ (o : Outcome). Demand3 s o (call s r .report)) a (meets s r l) in
+      let q : d .0 ≡ es = cc (d .1) in
+      let t = subst (λ (es : List Entry). ReportDemand es (call s r .report)) q (d .2) in
+      let n : t .buffer ≡ buffer (filledIn (sheetOf es)) = cc (t .reads-buffer, filled .reads-buffer s r vs es l j a) in
+      let v = sound-accepted s es j in
+      let b = subst (BufferDemand (sheetOf es)) n (t .accurate) in
+      ((λ h. low-buffer _ v _ h b), (λ h. huge-buffer _ v _ h b))
+
+  -- of two blocks with a K of 100 and of 200 the buffer is 300, and 200 with the first in place of both
+  pub first-filled-in-buffer : BufferOfFirst call → ⊥
+  first-filled-in-buffer filled =
+      let a = ap (λ (f : Facts). f .amounts) (row 2) in
+      let j = judged (judgement (twoBlocks .sheet)) (omega (arith, ap (λ (m : Amounts). m .allowance) a)) in
+      let m = sym (ap amountsOf (j .1)) ∙ a in
+      filled-in-near filled (twoBlocks .sheet) (twoBlocks .lent) _ (j .0) lent-two (j .1) (omega (arith, ap (λ (m : Amounts). m .credits) m))
+      (ap (λ (f : Facts). f .outcome) (row 2)) .0 (subst Below (sym m) (omega arith))

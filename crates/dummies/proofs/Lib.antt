@@ -1,1 +1,4 @@
+pub mod Computed
 pub mod Dummies
+pub mod FilledIn
+pub mod Programs

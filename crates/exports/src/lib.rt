@@ -6,30 +6,35 @@ ghost use Rattle.block.specs.Call.{blockCall};
 ghost use Rattle.operational.specs.Call.{operationalCall};
 ghost use Rattle.aggregate.specs.Call.{sheetCall};
 ghost use Rattle.aggregate.specs.Demand.{Demand3};
-ghost use Rattle.exports.specs.Left.{placeOf, Left, left, SheetLeft, sheetLeft};
+ghost use Rattle.exports.specs.Left.{placeOf, Leaves};
 use aggregate::SheetAnswer;
 use block::BlockAnswer;
+use guideline::BLOCK_FIGURES;
+use guideline::BLOCK_NUMBERS;
+use guideline::GENERAL_FIGURES;
 use operational::OperationalAnswer;
 use refusal::Place;
 
 // Given by a call that is accepted. No refusal has this number.
 const ACCEPTED: u64 = 0;
 
-// The kinds of a place.
+// The kind of a place: nowhere, a line, a position.
 const NOWHERE: u64 = 0;
 
+// A line of the sheet.
 const LINE: u64 = 1;
 
+// A position in the call's numbers.
 const POSITION: u64 = 2;
 
 // The figures are I and D in half cents, then U, LT and K in cents.
 #[no_mangle]
 pub extern "C" fn tsav_block(
-    numbers: &[u64; 17],
-    figures: &mut [u64; 5],
+    numbers: &[u64; BLOCK_NUMBERS],
+    figures: &mut [u64; BLOCK_FIGURES],
     place: &mut [u64; 2],
 ) -> u64
-    ensures { λ r. ⌜ _≡_ {A = Left} (record { number = r; figures = now (figures .exit); place = now (place .exit) }) (left (blockCall (now (numbers .entry))) (now (figures .entry)) (now (place .entry))) ⌝ }
+    ensures { λ r. ⌜ Leaves (blockCall (now (numbers .entry))) r (now (figures .entry)) (now (place .entry)) (now (figures .exit)) (now (place .exit)) ⌝ }
 {
     let answer = block::block_call(numbers);
     match answer {
@@ -45,11 +50,11 @@ pub extern "C" fn tsav_block(
 #[no_mangle]
 pub extern "C" fn tsav_operational(
     volumes: &[u64],
-    general: &[u64; 3],
+    general: &[u64; GENERAL_FIGURES],
     figure: &mut [u64; 1],
     place: &mut [u64; 2],
 ) -> u64
-    ensures { λ r. ⌜ _≡_ {A = Left} (record { number = r; figures = now (figure .exit); place = now (place .exit) }) (left (operationalCall (now (volumes .entry)) (now (general .entry))) (now (figure .entry)) (now (place .entry))) ⌝ }
+    ensures { λ r. ⌜ Leaves (operationalCall (now (volumes .entry)) (now (general .entry))) r (now (figure .entry)) (now (place .entry)) (now (figure .exit)) (now (place .exit)) ⌝ }
 {
     let answer = operational::operational_call(volumes, general);
     match answer {
@@ -61,32 +66,34 @@ pub extern "C" fn tsav_operational(
     }
 }
 
-// The report's length is what is written of the lent report. Where 0 is given, the report meets demand 3.
+// Accepted, `written` holds how many bytes of the lent report are the report, from its start. Where 0 is given, the report meets demand 3.
 #[no_mangle]
 pub extern "C" fn tsav_sheet(
     sheet: &[u8],
     report: &mut [u8],
-    length: &mut [u64; 1],
+    written: &mut [u64; 1],
     place: &mut [u64; 2],
 ) -> u64
-    ensures { λ r. ⌜ _≡_ {A = SheetLeft} (record { number = r; length = now (length .exit); place = now (place .exit); report = now (report .exit) }) (sheetLeft (sheetCall (now (sheet .entry)) (now (report .entry))) (now (length .entry)) (now (place .entry))) ⌝ }
-    ensures { λ r. ⌜ (r ≡ 0 → Demand3 (now (sheet .entry)) (accepted (now (length .exit))) (now (report .exit))) ⌝ }
+    ensures { λ r. ⌜ Leaves (sheetCall (now (sheet .entry)) (now (report .entry)) .outcome) r (now (written .entry)) (now (place .entry)) (now (written .exit)) (now (place .exit)) ⌝ }
+    ensures { λ r. ⌜ now (report .exit) ≡ sheetCall (now (sheet .entry)) (now (report .entry)) .report ⌝ }
+    ensures { λ r. ⌜ (r ≡ 0 → Demand3 (now (sheet .entry)) (accepted (now (written .exit))) (now (report .exit))) ⌝ }
 {
     let answer = aggregate::sheet_call(sheet, report);
     match answer {
         SheetAnswer::Accepted(bytes) => {
-            *length = [bytes as u64];
+            *written = [cast::word(bytes)];
             ACCEPTED
         }
         SheetAnswer::Refused(number, at) => refuse(number, at, place),
     }
 }
 
+// A refusal's number is given, and its place is written.
 fn refuse(number: u8, at: Place, place: &mut [u64; 2]) -> u64
     ensures { λ r. ⌜ (r ≡ number) × (now (place .exit) ≡ placeOf at) ⌝ }
 {
     *place = place_numbers(at);
-    number as u64
+    cast::byte(number)
 }
 
 // The kind of a place, and its line or position.
@@ -95,7 +102,7 @@ fn place_numbers(at: Place) -> [u64; 2]
 {
     match at {
         Place::Nowhere => [NOWHERE, 0],
-        Place::Line(line) => [LINE, line as u64],
-        Place::Position(position) => [POSITION, position as u64],
+        Place::Line(line) => [LINE, cast::word(line)],
+        Place::Position(position) => [POSITION, cast::word(position)],
     }
 }

@@ -1,7 +1,6 @@
 -- Reading and writing a field undo each other, over every width; a field's number has no more digits than the field has
 -- columns. Assumes nothing.
 use mathlib.Core.Path.{_≡_, refl, sym, ap, _∙_}
-use mathlib.Core.Logic.{_⊎_, inl, inr}
 use mathlib.Core.List.{List, [], _∷_, _++_, append-nil}
 use Prim.Native.Nat.{ℕ, zero, suc, _+_, _-_, _*_, _/_, _%_, _^_, _≤_, _<_}
 use native.Mathlib.Nat.{pow-le-pow-right, add-zero, zero-add, lt-of-lt-of-le, one-le-pow}
@@ -9,16 +8,13 @@ use native.Mathlib.Decide.{decLe, ℕ-discrete}
 use native.Mathlib.Omega.{arith}
 use lib.ListN.{length}
 use lib.Seq.{append-snoc}
-use Rattle.search.proofs.Picks.{if-true, if-false, if-eq, if-ne, if-lt, if-ge}
-use Rattle.field.specs.Field.{field, digits, alone, glyph, before, column}
+use Rattle.search.proofs.Picks.{if-true, if-false, if-eq, if-ne, if-lt, if-ge, never}
+use Rattle.field.specs.Field.{field, digits, zeroOnly, digitOrSpace, leadingDigits, decimal}
 use Rattle.field.specs.declared.Field.{Field}
 use Rattle.field.specs.declared.Field.the-variants.{Value, Bad}
 use Rattle.field.proofs.Reading.{grows}
 
 -- ---- a digit, and what no digit is
-
-bad-value : {A : Type 0} {F : Field} {r : ℕ} → F ≡ Bad → F ≡ Value r → A
-bad-value p q = let z : _≡_ {A = ℕ} 0 1 = cc in absurd (let y : ⊥ = omega arith in y)
 
 same-value : {F : Field} {a b : ℕ} → F ≡ Value a → F ≡ Value b → a ≡ b
 same-value p q = cc
@@ -33,19 +29,19 @@ record Spelled (u b : ℕ) (t : List ℕ) (r : ℕ) : Type 0 where
   high : b ≤ 57
   rest : digits (10 * u + (b - 48)) t ≡ Value r
 
-order : (a b : ℕ) → (a < b) ⊎ (b ≤ a)
-order a b = elim (decLe b a) [ yes h ↦ inr h | no h ↦ inl (omega arith) ]
-
 spelled : (u b : ℕ) (t : List ℕ) (r : ℕ) → digits u (b ∷ t) ≡ Value r → Spelled u b t r
 unfolding digits
 spelled u b t r q =
-    elim (order b 48) [
-      | inl l ↦ bad-value (if-lt _ l) q
-      | inr l ↦ elim (order 57 b) [
-        | inl h ↦ bad-value (if-ge _ l ∙ if-lt _ h) q
-        | inr h ↦ record { low = l; high = h; rest = sym (digit-read u b t l h) ∙ q }
+    elim (decLe 48 b) [
+      | no n ↦ let l : b < 48 = omega arith in bad (if-lt _ l)
+      | yes l ↦ elim (decLe b 57) [
+        | no n ↦ let h : 57 < b = omega arith in bad (if-ge _ l ∙ if-lt _ h)
+        | yes h ↦ record { low = l; high = h; rest = sym (digit-read u b t l h) ∙ q }
       ]
     ]
+  where
+    bad : digits u (b ∷ t) ≡ Bad → Spelled u b t r
+    bad p = never (cc)
 
 -- ---- a field's number has no more digits than the field has columns
 
@@ -57,18 +53,18 @@ digits-bound (b ∷ bs) u m r h q =
     let e : m + 1 + length bs ≡ m + suc (length bs) = omega arith in
     rw e at (digits-bound bs (10 * u + (b - 48)) (m + 1) r (grows u m b h (p .high)) (p .rest))
 
-alone-zero : (bs : List ℕ) (r : ℕ) → alone bs ≡ Value r → r ≡ 0
-alone-zero [] r q = same-value q refl
-alone-zero (b ∷ bs) r q = bad-value refl q
+only-zero : (bs : List ℕ) (r : ℕ) → zeroOnly bs ≡ Value r → r ≡ 0
+only-zero [] r q = same-value q refl
+only-zero (b ∷ bs) r q = never (cc)
 
 pub field-bound : (s : List ℕ) (r : ℕ) → field s ≡ Value r → r < 10 ^ length s
 unfolding field
-field-bound [] r q = bad-value refl q
+field-bound [] r q = never (cc)
 field-bound (b ∷ bs) r q =
     elim (ℕ-discrete b 32) [
       | yes x ↦ lt-of-lt-of-le (field-bound bs r (sym (if-eq _ x) ∙ q)) (pow-le-pow-right (omega arith) (omega arith))
       | no x ↦ elim (ℕ-discrete b 48) [
-        | yes y ↦ rw (alone-zero bs r (sym (if-ne _ x ∙ if-eq _ y) ∙ q)) (one-le-pow (suc (length bs)) 10 (omega arith))
+        | yes y ↦ rw (only-zero bs r (sym (if-ne _ x ∙ if-eq _ y) ∙ q)) (one-le-pow (suc (length bs)) 10 (omega arith))
         | no y ↦
             let z : 0 < 10 ^ 0 = omega arith in
             rw zero-add at (digits-bound (b ∷ bs) 0 0 r z (sym (if-ne _ x ∙ if-ne _ y) ∙ q))
@@ -77,18 +73,18 @@ field-bound (b ∷ bs) r q =
 
 -- ---- what is written is read back
 
-glyph-space : (v : ℕ) → v ≡ 0 → glyph v ≡ 32
-unfolding glyph
-glyph-space v e = if-eq _ e
+digit-space : (v : ℕ) → v ≡ 0 → digitOrSpace v ≡ 32
+unfolding digitOrSpace
+digit-space v e = if-eq _ e
 
-glyph-digit : (v : ℕ) → 0 < v → glyph v ≡ 48 + v % 10
-unfolding glyph
-glyph-digit v h = let n : v ≡ 0 → ⊥ = λ e. omega arith in if-ne _ n
+digit-shown : (v : ℕ) → 0 < v → digitOrSpace v ≡ 48 + v % 10
+unfolding digitOrSpace
+digit-shown v h = let n : v ≡ 0 → ⊥ = λ e. omega arith in if-ne _ n
 
-spaces-read : (w : ℕ) (t : List ℕ) → field (before w 0 ++ t) ≡ field t
-unfolding field before
+spaces-read : (w : ℕ) (t : List ℕ) → field (leadingDigits w 0 ++ t) ≡ field t
+unfolding field leadingDigits
 spaces-read zero t = refl
-spaces-read (suc w) t = rw (glyph-space 0 refl, append-snoc (before w 0) 32 t) (spaces-read w (32 ∷ t) ∙ if-true _ refl)
+spaces-read (suc w) t = rw (digit-space 0 refl, append-snoc (leadingDigits w 0) 32 t) (spaces-read w (32 ∷ t) ∙ if-true _ refl)
 
 first-read : (v : ℕ) (t : List ℕ) → 0 < v → v / 10 ≡ 0 → field ((48 + v % 10) ∷ t) ≡ digits v t
 unfolding field
@@ -104,20 +100,20 @@ next-read v t =
     digit-read (v / 10) (48 + v % 10) t (omega arith) (omega arith) ∙ ap (λ (n : ℕ). digits n t) e
 
 -- a number's digits are read off the columns that end in them
-number-read : (w v : ℕ) (t : List ℕ) → 0 < v → v / 10 < 10 ^ w → field (before w (v / 10) ++ ((48 + v % 10) ∷ t)) ≡ digits v t
-unfolding before
+number-read : (w v : ℕ) (t : List ℕ) → 0 < v → v / 10 < 10 ^ w → field (leadingDigits w (v / 10) ++ ((48 + v % 10) ∷ t)) ≡ digits v t
+unfolding leadingDigits
 number-read zero v t h b = first-read v t h (omega arith)
 number-read (suc w) v t h b =
     elim (ℕ-discrete (v / 10) 0) [
       | yes z ↦ rw z (spaces-read (suc w) ((48 + v % 10) ∷ t)) ∙ first-read v t h z
       | no z ↦
           let p : 0 < v / 10 = omega arith in
-          rw (glyph-digit (v / 10) p, append-snoc (before w (v / 10 / 10)) (48 + v / 10 % 10) ((48 + v % 10) ∷ t))
+          rw (digit-shown (v / 10) p, append-snoc (leadingDigits w (v / 10 / 10)) (48 + v / 10 % 10) ((48 + v % 10) ∷ t))
           (number-read w (v / 10) ((48 + v % 10) ∷ t) p (omega arith)) ∙ next-read v t
     ]
 
-pub read-back : (w v : ℕ) → 0 < w → v < 10 ^ w → field (column w v) ≡ Value v
-unfolding column digits field
+pub read-back : (w v : ℕ) → 0 < w → v < 10 ^ w → field (decimal w v) ≡ Value v
+unfolding decimal digits field
 read-back zero v h b = absurd (omega arith)
 read-back (suc w) v h b =
     elim (ℕ-discrete v 0) [
@@ -127,65 +123,65 @@ read-back (suc w) v h b =
 
 -- ---- what is read is written back
 
-space-before : (n v : ℕ) → v < 10 ^ n → before (suc n) v ≡ 32 ∷ before n v
-unfolding before
-space-before zero v h = rw (glyph-space v (omega arith))
-space-before (suc n) v h = ap (λ (l : List ℕ). l ++ (glyph v ∷ [])) (space-before n (v / 10) (omega arith))
+space-leading : (n v : ℕ) → v < 10 ^ n → leadingDigits (suc n) v ≡ 32 ∷ leadingDigits n v
+unfolding leadingDigits
+space-leading zero v h = rw (digit-space v (omega arith))
+space-leading (suc n) v h = ap (λ (l : List ℕ). l ++ (digitOrSpace v ∷ [])) (space-leading n (v / 10) (omega arith))
 
-space-column : (n v : ℕ) → 0 < n → v < 10 ^ n → column (suc n) v ≡ 32 ∷ column n v
-unfolding column
-space-column zero v p h = absurd (omega arith)
-space-column (suc n) v p h = ap (λ (l : List ℕ). l ++ ((48 + v % 10) ∷ [])) (space-before n (v / 10) (omega arith))
+space-decimal : (n v : ℕ) → 0 < n → v < 10 ^ n → decimal (suc n) v ≡ 32 ∷ decimal n v
+unfolding decimal
+space-decimal zero v p h = absurd (omega arith)
+space-decimal (suc n) v p h = ap (λ (l : List ℕ). l ++ ((48 + v % 10) ∷ [])) (space-leading n (v / 10) (omega arith))
 
-before-column : (n v : ℕ) → 0 < v → before n v ≡ column n v
-unfolding before column
-before-column zero v h = refl
-before-column (suc n) v h = rw (glyph-digit v h)
+leading-decimal : (n v : ℕ) → 0 < v → leadingDigits n v ≡ decimal n v
+unfolding leadingDigits decimal
+leading-decimal zero v h = refl
+leading-decimal (suc n) v h = rw (digit-shown v h)
 
 -- a digit moves from what is left to read to what was written
-moved : (m u b : ℕ) (t : List ℕ) → 0 < 10 * u + (b - 48) → 48 ≤ b → b ≤ 57 → before m u ++ (b ∷ t) ≡ before (suc m) (10 * u + (b - 48)) ++ t
-unfolding before
+moved : (m u b : ℕ) (t : List ℕ) → 0 < 10 * u + (b - 48) → 48 ≤ b → b ≤ 57 → leadingDigits m u ++ (b ∷ t) ≡ leadingDigits (suc m) (10 * u + (b - 48)) ++ t
+unfolding leadingDigits
 moved m u b t p l h =
     let d : (10 * u + (b - 48)) / 10 ≡ u = omega arith in
     let e : 48 + (10 * u + (b - 48)) % 10 ≡ b = omega arith in
-    rw (glyph-digit (10 * u + (b - 48)) p, d, e) (sym (append-snoc (before m u) b t))
+    rw (digit-shown (10 * u + (b - 48)) p, d, e) (sym (append-snoc (leadingDigits m u) b t))
 
-spelled-written : (s : List ℕ) (m u r : ℕ) → 0 < u → digits u s ≡ Value r → before m u ++ s ≡ column (m + length s) r
+spelled-written : (s : List ℕ) (m u r : ℕ) → 0 < u → digits u s ≡ Value r → leadingDigits m u ++ s ≡ decimal (m + length s) r
 unfolding digits
-spelled-written [] m u r h q = rw (append-nil, add-zero, ← same-value refl q) (before-column m u h)
+spelled-written [] m u r h q = rw (append-nil, add-zero, ← same-value refl q) (leading-decimal m u h)
 spelled-written (b ∷ bs) m u r h q =
     let p = spelled u b bs r q in
     let e : suc m + length bs ≡ m + suc (length bs) = omega arith in
-    moved m u b bs (omega arith) (p .low) (p .high) ∙ spelled-written bs (suc m) (10 * u + (b - 48)) r (omega arith) (p .rest) ∙ ap (λ (n : ℕ). column n r) e
+    moved m u b bs (omega arith) (p .low) (p .high) ∙ spelled-written bs (suc m) (10 * u + (b - 48)) r (omega arith) (p .rest) ∙ ap (λ (n : ℕ). decimal n r) e
 
-digits-written : (b : ℕ) (bs : List ℕ) (r : ℕ) → (b ≡ 48 → ⊥) → digits 0 (b ∷ bs) ≡ Value r → b ∷ bs ≡ column (suc (length bs)) r
-unfolding before
+digits-written : (b : ℕ) (bs : List ℕ) (r : ℕ) → (b ≡ 48 → ⊥) → digits 0 (b ∷ bs) ≡ Value r → b ∷ bs ≡ decimal (suc (length bs)) r
+unfolding leadingDigits
 digits-written b bs r n q =
     let p = spelled 0 b bs r q in
     let e : 1 + length bs ≡ suc (length bs) = omega arith in
     let h : 0 < 10 * 0 + (b - 48) = omega arith in
-    moved 0 0 b bs h (p .low) (p .high) ∙ spelled-written bs 1 (10 * 0 + (b - 48)) r h (p .rest) ∙ ap (λ (n : ℕ). column n r) e
+    moved 0 0 b bs h (p .low) (p .high) ∙ spelled-written bs 1 (10 * 0 + (b - 48)) r h (p .rest) ∙ ap (λ (n : ℕ). decimal n r) e
 
-alone-written : (bs : List ℕ) (r : ℕ) → alone bs ≡ Value r → 48 ∷ bs ≡ column (suc (length bs)) r
-unfolding column before
-alone-written [] r q = rw (← same-value refl q)
-alone-written (b ∷ bs) r q = bad-value refl q
+zero-written : (bs : List ℕ) (r : ℕ) → zeroOnly bs ≡ Value r → 48 ∷ bs ≡ decimal (suc (length bs)) r
+unfolding decimal leadingDigits
+zero-written [] r q = rw (← same-value refl q)
+zero-written (b ∷ bs) r q = never (cc)
 
 some-column : (s : List ℕ) (r : ℕ) → field s ≡ Value r → 0 < length s
 unfolding field
-some-column [] r q = bad-value refl q
+some-column [] r q = never (cc)
 some-column (b ∷ bs) r q = omega arith
 
-pub written-back : (s : List ℕ) (r : ℕ) → field s ≡ Value r → s ≡ column (length s) r
+pub written-back : (s : List ℕ) (r : ℕ) → field s ≡ Value r → s ≡ decimal (length s) r
 unfolding field
-written-back [] r q = bad-value refl q
+written-back [] r q = never (cc)
 written-back (b ∷ bs) r q =
     elim (ℕ-discrete b 32) [
       | yes x ↦
           let p : field bs ≡ Value r = sym (if-eq _ x) ∙ q in
-          rw x (ap (λ (l : List ℕ). 32 ∷ l) (written-back bs r p) ∙ sym (space-column (length bs) r (some-column bs r p) (field-bound bs r p)))
+          rw x (ap (λ (l : List ℕ). 32 ∷ l) (written-back bs r p) ∙ sym (space-decimal (length bs) r (some-column bs r p) (field-bound bs r p)))
       | no x ↦ elim (ℕ-discrete b 48) [
-        | yes y ↦ rw y (alone-written bs r (sym (if-ne _ x ∙ if-eq _ y) ∙ q))
+        | yes y ↦ rw y (zero-written bs r (sym (if-ne _ x ∙ if-eq _ y) ∙ q))
         | no y ↦ digits-written b bs r y (sym (if-ne _ x ∙ if-ne _ y) ∙ q)
       ]
     ]

@@ -8,7 +8,7 @@ use native.Mathlib.Omega.{arith}
 use lib.ListN.{length, getD, drop, drop-of-length-le}
 use lib.Seq.{drop-cons}
 use Rattle.search.proofs.Picks.{if-eq, if-ne, if-lt, if-ge}
-use Rattle.field.specs.Field.{field, digits, alone}
+use Rattle.field.specs.Field.{mostColumns, field, digits, zeroOnly}
 use Rattle.field.specs.declared.Field.the-variants.{Value, Bad}
 
 module _ (s : List ℕ) (i : ℕ) (h : i < length s) where
@@ -32,7 +32,7 @@ module _ (s : List ℕ) (i : ℕ) (h : i < length s) where
   unfolding field
   field-digits n z = rw (drop-cons s i 0) (if-ne _ n ∙ if-ne _ z)
 
-  field-zero : getD s i 0 ≡ 48 → field (drop i s) ≡ alone (drop (i + 1) s)
+  field-zero : getD s i 0 ≡ 48 → field (drop i s) ≡ zeroOnly (drop (i + 1) s)
   unfolding field
   field-zero e =
       let n : getD s i 0 ≡ 32 → ⊥ = λ q. omega arith in
@@ -61,6 +61,6 @@ module _ (s : List ℕ) (i : ℕ) (h : length s ≤ i) where
 pub grows : (v i d : ℕ) → v < 10 ^ i → d ≤ 57 → 10 * v + (d - 48) < 10 ^ (i + 1)
 grows v i d h k = rw add-one (omega arith)
 
--- 18 digits
-pub narrow : (i : ℕ) → i ≤ 18 → 10 ^ i ≤ 1000000000000000000
-narrow i h = pow-le-pow-right (omega arith) h
+-- as many digits as the widest field has columns
+pub columns-fit : (i : ℕ) → i ≤ mostColumns → 10 ^ i ≤ 10 ^ mostColumns
+columns-fit i h = pow-le-pow-right (omega arith) h

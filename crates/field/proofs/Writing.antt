@@ -6,7 +6,7 @@ use native.Mathlib.Numerals.{add-one}
 use native.Mathlib.Omega.{arith}
 use lib.ListN.{length, set, drop, length-set, length-append, drop-of-length-le}
 use lib.Seq.{drop-cons, drop-set-lt, getD-set-same, append-snoc, lt-length-set}
-use Rattle.field.specs.Field.{glyph, before, column}
+use Rattle.field.specs.Field.{digitOrSpace, leadingDigits, decimal}
 
 -- the list from the place of a store on
 drop-set : (l : List ℕ) (j v : ℕ) → j < length l → drop j (set l j v) ≡ v ∷ drop (suc j) l
@@ -19,11 +19,11 @@ drop-set l j v h =
 pub record Written (n v : ℕ) (out : List ℕ) (i w : ℕ) : Type 0 where
   pub within : i ≤ length out
   pub long : length out ≡ n
-  pub text : before i w ++ drop i out ≡ column n v
+  pub text : leadingDigits i w ++ drop i out ≡ decimal n v
 
 last-digit : (n : ℕ) (l : List ℕ) (v : ℕ) → length l ≡ suc n
-    → before n (v / 10) ++ drop n (set l n (48 + v % 10)) ≡ column (suc n) v
-unfolding column
+    → leadingDigits n (v / 10) ++ drop n (set l n (48 + v % 10)) ≡ decimal (suc n) v
+unfolding decimal
 last-digit n l v e =
     let h : n < length l = omega arith in
     let o : length l ≤ suc n = omega arith in
@@ -37,34 +37,34 @@ last-written l v h =
     record {
       within = omega arith;
       long = refl;
-      text = last-digit (length l - 1) l v e ∙ ap (λ (n : ℕ). column n v) (sym (k ∙ e));
+      text = last-digit (length l - 1) l v e ∙ ap (λ (n : ℕ). decimal n v) (sym (k ∙ e));
     }
 
 next-digit : (l : List ℕ) (j w : ℕ) → j < length l
-    → before j (w / 10) ++ drop j (set l j (glyph w)) ≡ before (suc j) w ++ drop (suc j) l
-unfolding before
-next-digit l j w h = rw (drop-set l j (glyph w)) (sym (append-snoc (before j (w / 10)) (glyph w) (drop (suc j) l)))
+    → leadingDigits j (w / 10) ++ drop j (set l j (digitOrSpace w)) ≡ leadingDigits (suc j) w ++ drop (suc j) l
+unfolding leadingDigits
+next-digit l j w h = rw (drop-set l j (digitOrSpace w)) (sym (append-snoc (leadingDigits j (w / 10)) (digitOrSpace w) (drop (suc j) l)))
 
-pub next-written : {n v : ℕ} {l : List ℕ} {i w : ℕ} → Written n v l i w → 0 < i → Written n v (set l (i - 1) (glyph w)) (i - 1) (w / 10)
+pub next-written : {n v : ℕ} {l : List ℕ} {i w : ℕ} → Written n v l i w → 0 < i → Written n v (set l (i - 1) (digitOrSpace w)) (i - 1) (w / 10)
 next-written {n} {v} {l} {i} {w} W p =
     let e : suc (i - 1) ≡ i = omega arith in
-    let k = length-set l (i - 1) (glyph w) in
+    let k = length-set l (i - 1) (digitOrSpace w) in
     record {
       within = omega arith;
       long = k ∙ W .long;
-      text = next-digit l (i - 1) w (omega arith) ∙ ap (λ (j : ℕ). before j w ++ drop j l) e ∙ W .text;
+      text = next-digit l (i - 1) w (omega arith) ∙ ap (λ (j : ℕ). leadingDigits j w ++ drop j l) e ∙ W .text;
     }
 
-pub all-written : {n v : ℕ} {l : List ℕ} {i w : ℕ} → Written n v l i w → i ≤ 0 → l ≡ column n v
-unfolding before
+pub all-written : {n v : ℕ} {l : List ℕ} {i w : ℕ} → Written n v l i w → i ≤ 0 → l ≡ decimal n v
+unfolding leadingDigits
 all-written {i = i} W h = let e : i ≡ 0 = omega arith in rw e at (W .text)
 
-length-before : (w v : ℕ) → length (before w v) ≡ w
-unfolding before
-length-before zero v = refl
-length-before (suc w) v = rw (length-append, length-before w (v / 10), add-one)
+length-leading : (w v : ℕ) → length (leadingDigits w v) ≡ w
+unfolding leadingDigits
+length-leading zero v = refl
+length-leading (suc w) v = rw (length-append, length-leading w (v / 10), add-one)
 
-pub length-column : (w v : ℕ) → length (column w v) ≡ w
-unfolding column
-length-column zero v = refl
-length-column (suc w) v = rw (length-append, length-before w (v / 10), add-one)
+pub length-decimal : (w v : ℕ) → length (decimal w v) ≡ w
+unfolding decimal
+length-decimal zero v = refl
+length-decimal (suc w) v = rw (length-append, length-leading w (v / 10), add-one)

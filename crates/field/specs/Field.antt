@@ -8,32 +8,36 @@ use Rattle.search.specs.Pick.{pick}
 use Rattle.field.specs.declared.Field.{Field}
 use Rattle.field.specs.declared.Field.the-variants.{Value, Bad}
 
+-- the columns of the widest field, a report's number: what it holds fits 64 bits
+abbrev pub mostColumns : ℕ
+mostColumns = 18
+
 -- the number that decimal digits spell after v; Bad where another byte stands among them
 unfoldable pub digits : ℕ → List ℕ → Field
 digits v [] = Value v
 digits v (b ∷ bs) = pick (ltb b 48) Bad (pick (ltb 57 b) Bad (digits (10 * v + (b - 48)) bs))
 
 -- what a leading zero is: 0 itself where nothing follows it
-abbrev pub alone : List ℕ → Field
-alone [] = Value 0
-alone (b ∷ bs) = Bad
+abbrev pub zeroOnly : List ℕ → Field
+zeroOnly [] = Value 0
+zeroOnly (b ∷ bs) = Bad
 
 -- the number in a field: spaces, then digits to its end
 unfoldable pub field : List ℕ → Field
 field [] = Bad
-field (b ∷ bs) = pick (eqb b 32) (field bs) (pick (eqb b 48) (alone bs) (digits 0 (b ∷ bs)))
+field (b ∷ bs) = pick (eqb b 32) (field bs) (pick (eqb b 48) (zeroOnly bs) (digits 0 (b ∷ bs)))
 
 -- the last digit of what is left of a number; a space where nothing is left
-unfoldable pub glyph : ℕ → ℕ
-glyph v = pick (eqb v 0) 32 (48 + v % 10)
+unfoldable pub digitOrSpace : ℕ → ℕ
+digitOrSpace v = pick (eqb v 0) 32 (48 + v % 10)
 
 -- what is left of a number, in the w columns before digits that are written already
-unfoldable pub before : ℕ → ℕ → List ℕ
-before zero v = []
-before (suc w) v = before w (v / 10) ++ (glyph v ∷ [])
+unfoldable pub leadingDigits : ℕ → ℕ → List ℕ
+leadingDigits zero v = []
+leadingDigits (suc w) v = leadingDigits w (v / 10) ++ (digitOrSpace v ∷ [])
 
 -- a number right-justified in w columns: its last digit, and before it what is left. A number of more than w digits
 -- shows its last w.
-unfoldable pub column : ℕ → ℕ → List ℕ
-column zero v = []
-column (suc w) v = before w (v / 10) ++ ((48 + v % 10) ∷ [])
+unfoldable pub decimal : ℕ → ℕ → List ℕ
+decimal zero v = []
+decimal (suc w) v = leadingDigits w (v / 10) ++ ((48 + v % 10) ∷ [])

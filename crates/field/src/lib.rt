@@ -2,7 +2,7 @@
 ghost use mathlib.Core.Path.{_≡_};
 ghost use Prim.Native.Nat.{_+_, _-_, _*_, _%_, _≤_, _<_};
 ghost use lib.ListN.{length, drop};
-ghost use Rattle.field.specs.Field.{digits, field, glyph, column};
+ghost use Rattle.field.specs.Field.{mostColumns, digits, field, digitOrSpace, decimal};
 
 // What a number field holds.
 pub enum Field {
@@ -10,9 +10,9 @@ pub enum Field {
     Bad,
 }
 
-// The number in the columns of s. A report's number has 18 columns, the widest of all; it fits 64 bits.
+// The number in the columns of s.
 pub fn read_field(s: &[u8]) -> Field
-    requires { ⌜ length (now s) ≤ 18 ⌝ }
+    requires { ⌜ length (now s) ≤ mostColumns ⌝ }
     ensures { λ r. ⌜ r ≡ field (now (s .entry)) ⌝ }
 {
     let mut i = 0;
@@ -34,7 +34,7 @@ pub fn read_field(s: &[u8]) -> Field
 
 // The number that s spells from a column to its end, digits alone.
 fn digits_from(s: &[u8], from: usize) -> Field
-    requires { ⌜ (from ≤ length (now s)) × (length (now s) ≤ 18) ⌝ }
+    requires { ⌜ (from ≤ length (now s)) × (length (now s) ≤ mostColumns) ⌝ }
     ensures { λ r. ⌜ r ≡ digits 0 (drop from (now (s .entry))) ⌝ }
 {
     let mut v: u64 = 0;
@@ -47,22 +47,16 @@ fn digits_from(s: &[u8], from: usize) -> Field
         if b'9' < b {
             return Field::Bad;
         }
-        v = 10 * v + (wide(b) - 48);
+        v = 10 * v + (cast::byte(b) - 48);
         i += 1;
     }
     Field::Value(v)
 }
 
-fn wide(b: u8) -> u64
-    ensures { λ r. ⌜ r ≡ b ⌝ }
-{
-    b as u64
-}
-
 // The number v, right-justified in the columns of out.
 pub fn write_field(out: &mut [u8], v: u64)
     requires { ⌜ 0 < length (now out) ⌝ }
-    ensures { λ _. ⌜ now (out .exit) ≡ column (length (now (out .entry))) v ⌝ }
+    ensures { λ _. ⌜ now (out .exit) ≡ decimal (length (now (out .entry))) v ⌝ }
 {
     let mut i = out.len() - 1;
     // 0 has a digit too, so the last column never holds a space
@@ -70,14 +64,14 @@ pub fn write_field(out: &mut [u8], v: u64)
     let mut left = v / 10;
     while 0 < i {
         i -= 1;
-        out[i] = glyph_of(left);
+        out[i] = digit_or_space(left);
         left /= 10;
     }
 }
 
 // The last digit of a number, or a space before a number that has ended.
-fn glyph_of(v: u64) -> u8
-    ensures { λ r. ⌜ r ≡ glyph v ⌝ }
+fn digit_or_space(v: u64) -> u8
+    ensures { λ r. ⌜ r ≡ digitOrSpace v ⌝ }
 {
     if v == 0 {
         return b' ';
@@ -85,6 +79,7 @@ fn glyph_of(v: u64) -> u8
     digit(v)
 }
 
+// The last digit of a number.
 fn digit(v: u64) -> u8
     ensures { λ r. ⌜ r ≡ 48 + v % 10 ⌝ }
 {

@@ -4,7 +4,8 @@ use Prim.Native.Nat.{ℕ, suc, _+_, _-_, _*_, _≤_, _<_}
 use native.Mathlib.Nat.{mul-le-mul, mul-le-mul-left, mul-le-mul-right, le-of-mul-le-mul-left, mul-lt-mul-of-pos-right, mul-pos, mul-zero, mul-sub}
 use native.Mathlib.Decide.{decLe}
 use native.Mathlib.Omega.{arith}
-use Rattle.guideline.specs.Block.{M, kTop}
+use Rattle.search.proofs.Roots.{le-of-squares, lt-of-squares}
+use Rattle.guideline.specs.Block.{radicand, M, kNumerator}
 
 -- (b − a)(d − c) is 0 or more
 cross : {a b c d : ℕ} → a ≤ b → c ≤ d → a * d + b * c ≤ b * d + a * c
@@ -20,24 +21,7 @@ twice a b = go (decLe a b)
     go (yes h) = omega (arith, cross h h)
     go (no h) = let k : b ≤ a = omega arith in omega (arith, cross k k)
 
-pub le-of-sq : (a b : ℕ) → a * a ≤ b * b → a ≤ b
-le-of-sq a b h = go (decLe a b)
-  where
-    go : Dec (a ≤ b) → a ≤ b
-    go (yes k) = k
-    go (no k) = let l : suc b ≤ a = omega arith in omega (arith, mul-le-mul l l)
-
-lt-of-sq : (a b : ℕ) → a * a < b * b → a < b
-lt-of-sq a b h = go (decLe b a)
-  where
-    go : Dec (b ≤ a) → a < b
-    go (yes k) = omega (arith, mul-le-mul k k)
-    go (no k) = omega arith
-
 -- ---- D: the root of a² + a × i + i²
-
-abbrev pub radicand : ℕ → ℕ → ℕ
-radicand a i = a * a + a * i + i * i
 
 pub radicand-most : (a i v : ℕ) → a + i ≤ v → radicand a i ≤ v * v
 radicand-most a i v h = omega (arith, mul-le-mul h h)
@@ -46,22 +30,22 @@ pub radicand-rises : (a : ℕ) {i j : ℕ} → i ≤ j → radicand a i ≤ radi
 radicand-rises a h = omega (arith, mul-le-mul-left a h, mul-le-mul h h)
 
 pub root-thrice : (a i d : ℕ) → radicand a i ≤ d * d → a + 3 * i ≤ 3 * d
-root-thrice a i d h = le-of-sq (a + 3 * i) (3 * d) (omega arith)
+root-thrice a i d h = le-of-squares (a + 3 * i) (3 * d) (omega arith)
 
 root-twice : (a i d : ℕ) → radicand a i ≤ d * d → a + 2 * i ≤ 2 * d
-root-twice a i d h = le-of-sq (a + 2 * i) (2 * d) (omega arith)
+root-twice a i d h = le-of-squares (a + 2 * i) (2 * d) (omega arith)
 
 -- any n/s whose square is at least the radicand is above D − 2: `c` is D − 1
 module _ (a n s c : ℕ) (pos : 0 < s) where
   -- where the largest y decides I
   pub near-largest : (i : ℕ) → c * c < radicand a i → radicand a i * (s * s) ≤ n * n → c * s < n
-  near-largest i lt h = lt-of-sq (c * s) n (omega (arith, mul-lt-mul-of-pos-right lt (mul-pos pos pos)))
+  near-largest i lt h = lt-of-squares (c * s) n (omega (arith, mul-lt-mul-of-pos-right lt (mul-pos pos pos)))
 
   -- where the root decides I, which is j + 1
   pub near-root : (j : ℕ) → c * c < radicand a (suc j) → radicand a j * (s * s) ≤ n * n → c * s < n + s
   near-root j lt h =
       let two = root-twice (a * s) (j * s) n (omega arith) in
-      lt-of-sq (c * s) (n + s) (omega (arith, mul-lt-mul-of-pos-right lt (mul-pos pos pos), mul-le-mul-right s two))
+      lt-of-squares (c * s) (n + s) (omega (arith, mul-lt-mul-of-pos-right lt (mul-pos pos pos), mul-le-mul-right s two))
 
 -- ---- M
 
@@ -69,21 +53,21 @@ module _ (a n s c : ℕ) (pos : 0 < s) where
 pub factored : (v d : ℕ) → v ≤ 3 * d → M v d ≡ (3 * d - v) * (10 * d - 7 * v)
 factored v d h = either (decLe (7 * v) (10 * d))
   where
-    over : (x y : ℕ) → v + x ≡ 3 * d → 7 * v + y ≡ 10 * d → M v d ≡ x * y
-    over x y e f =
+    above-0 : (x y : ℕ) → v + x ≡ 3 * d → 7 * v + y ≡ 10 * d → M v d ≡ x * y
+    above-0 x y e f =
         let p : (v + x) * (7 * v + y) ≡ 3 * d * (10 * d) = λ i. e i * f i in
         omega (arith, ap (λ (n : ℕ). v * n) f, ap (λ (n : ℕ). n * (7 * v)) e)
 
-    under : (x y : ℕ) → v + x ≡ 3 * d → 10 * d + y ≡ 7 * v → M v d ≡ 0
-    under x y e f =
+    cut : (x y : ℕ) → v + x ≡ 3 * d → 10 * d + y ≡ 7 * v → M v d ≡ 0
+    cut x y e f =
         let p : (v + x) * (10 * d + y) ≡ 3 * d * (7 * v) = λ i. e i * f i in
         omega (arith, ap (λ (n : ℕ). v * n) f, ap (λ (n : ℕ). n * (10 * d)) e)
 
     either : Dec (7 * v ≤ 10 * d) → M v d ≡ (3 * d - v) * (10 * d - 7 * v)
-    either (yes k) = over (3 * d - v) (10 * d - 7 * v) (omega arith) (omega arith)
+    either (yes k) = above-0 (3 * d - v) (10 * d - 7 * v) (omega arith) (omega arith)
     either (no k) =
         let z : 10 * d - 7 * v ≡ 0 = omega arith in
-        under (3 * d - v) (7 * v - 10 * d) (omega arith) (omega arith) ∙ sym (ap (λ (n : ℕ). (3 * d - v) * n) z ∙ mul-zero (3 * d - v))
+        cut (3 * d - v) (7 * v - 10 * d) (omega arith) (omega arith) ∙ sym (ap (λ (n : ℕ). (3 * d - v) * n) z ∙ mul-zero (3 * d - v))
 
 -- so it never falls as d rises from v/3
 pub m-rises : (v d e : ℕ) → v ≤ 3 * d → d ≤ e → M v d ≤ M v e
@@ -102,36 +86,40 @@ m-rises-over v n s m t h k =
 
 -- ---- K
 
--- what K's fraction at n/s has on top, over 60 × V × s²
-abbrev pub topAt : ℕ → ℕ → ℕ → ℕ → ℕ → ℕ
-topAt u l v n s = (48 * (u * v) + 6 * (l * v)) * (s * s) + M (v * s) n
+-- the numerator of K's fraction at n/s, over 60 × V × s²
+abbrev pub numeratorAt : ℕ → ℕ → ℕ → ℕ → ℕ → ℕ
+numeratorAt u l v n s = (48 * (u * v) + 6 * (l * v)) * (s * s) + M (v * s) n
 
 module _ (u l v d : ℕ) (v-is : 2 * u ≡ v + l) (d-high : d ≤ v) where
   -- K is at least (LT + D) / 2
-  pub k-least : (k : ℕ) → 0 < v → kTop u l v d ≤ 60 * (v * k) → l + d ≤ 2 * k
+  pub k-least : (k : ℕ) → 0 < v → kNumerator u l v d ≤ 60 * (v * k) → l + d ≤ 2 * k
   k-least k pos h =
       le-of-mul-le-mul-left {k = v}
       (omega (arith, ap (λ (z : ℕ). z * v) v-is, mul-le-mul-right v d-high, twice d v))
       pos
 
   -- U passes K's test
-  pub u-passes : v ≤ 3 * d → kTop u l v d ≤ 60 * (v * u)
+  pub u-passes : v ≤ 3 * d → kNumerator u l v d ≤ 60 * (v * u)
   u-passes low =
       let b : v ≤ 30 * d = omega arith in
       omega (arith, ap (λ (z : ℕ). z * v) v-is, cross d-high b)
 
--- a fraction over 60 × V × s² rises with the part of its top that is x
-pub over-rises : (c v x s y t : ℕ) → x * (t * t) ≤ y * (s * s) → (c * (s * s) + x) * (60 * v * (t * t)) ≤ (c * (t * t) + y) * (60 * v * (s * s))
-over-rises c v x s y t h = omega (arith, mul-le-mul-right (60 * v) h)
+-- a fraction over 60 × V × s² rises with the part x of its numerator
+pub numerator-rises :
+    (c v x s y t : ℕ) → x * (t * t) ≤ y * (s * s) →
+    (c * (s * s) + x) * (60 * v * (t * t)) ≤ (c * (t * t) + y) * (60 * v * (s * s))
+numerator-rises c v x s y t h = omega (arith, mul-le-mul-right (60 * v) h)
 
 -- K is at or above K's fraction at n/s, where V/3 ≤ n/s ≤ D
-pub k-above : (u l v d k n s : ℕ) → v * s ≤ 3 * n → n ≤ d * s → kTop u l v d ≤ 60 * (v * k) → topAt u l v n s ≤ 60 * v * (s * s) * k
+pub k-above :
+    (u l v d k n s : ℕ) → v * s ≤ 3 * n → n ≤ d * s → kNumerator u l v d ≤ 60 * (v * k) →
+    numeratorAt u l v n s ≤ 60 * v * (s * s) * k
 k-above u l v d k n s low up h = omega (arith, m-rises (v * s) n (d * s) low up, m-scaled v d s, mul-le-mul-right (s * s) h)
 
 -- K − 2 is below K's fraction at n/3, where n is the larger of 3D − 6 and V
 pub k-near :
-    (u l v d k n : ℕ) → d ≤ v → v ≤ n → 3 * d ≤ n + 6 → n ≤ 3 * d → 0 < v → 60 * (v * suc k) < kTop u l v d →
-    60 * v * (3 * 3) * k < topAt u l v n 3
+    (u l v d k n : ℕ) → d ≤ v → v ≤ n → 3 * d ≤ n + 6 → n ≤ 3 * d → 0 < v → 60 * (v * suc k) < kNumerator u l v d →
+    60 * v * (3 * 3) * k < numeratorAt u l v n 3
 k-near u l v d k n du nl nd nu pos h =
     let b : 90 * d + 30 * n ≤ 180 * v = omega arith in
     omega (arith, cross nu b, mul-le-mul-right v nd)

@@ -11,9 +11,10 @@ use lib.ListN.{length, getD}
 use borrow.Author.Tests.{leb-true}
 use Rattle.search.proofs.Values.{values, values-same}
 use Rattle.amount.specs.Amount.{limit}
-use Rattle.guideline.specs.Operational.{Amounts, volumeFactors, factorOf, current, prior, total, volume, growth, general, operationalTop}
+use Rattle.guideline.specs.Sizes.{territories, volumeClasses, volumePairs}
+use Rattle.guideline.specs.Operational.{OperationalAmounts, volumeFactors, largestFactor, factorOf, current, prior, total, volume, growth, generalRequirement, operationalNumerator}
 
--- five volumes and the growth of the first k pairs, over 50,000
+-- five volumes and the growth of the first k pairs: their part of the numerator of RO
 unfoldable pub charged : List ℕ → ℕ → ℕ
 charged l k = 5 * total (λ j. factorOf j * current l j) k + total (λ j. factorOf j * (5 * current l j - 6 * prior l j)) k
 
@@ -33,10 +34,10 @@ pub charged-more : (l : List ℕ) (k : ℕ) → charged l (k + 1) ≡ charged l 
 unfolding charged total
 charged-more l k = rw (add-one, charged, total) (next (factorOf k) (current l k) (5 * current l k - 6 * prior l k) _ _)
 
--- no factor is above 250
-pub factor-most : (k : ℕ) → factorOf k ≤ 250
+pub factor-most : (k : ℕ) → factorOf k ≤ largestFactor
 unfolding values volumeFactors
-factor-most k = leb-true _ _ (values-same (λ j. leb (getD volumeFactors j 0) 250) (λ j. true) 8 refl (k % 8) (omega arith))
+factor-most k =
+    leb-true _ _ (values-same (λ j. leb (getD volumeFactors j 0) largestFactor) (λ j. true) volumeClasses refl (k % volumeClasses) (omega arith))
 
 more : (m f c e v : ℕ) → v ≤ 10 * limit * m → c ≤ limit → e ≤ 5 * limit → v + f * (5 * c + e) ≤ 10 * limit * (m + f)
 more m f c e v h k l =
@@ -48,30 +49,40 @@ charged-most : (l : List ℕ) → ((j : ℕ) → getD l j 0 ≤ limit) → (k : 
 unfolding total
 charged-most l u zero = omega (arith, charged-none l)
 charged-most l u (suc k) =
+    let c = current l k in
     rw (← add-one k, charged-more)
-    (more (total factorOf k) (factorOf k) (current l k) (5 * current l k - 6 * prior l k) (charged l k) (charged-most l u k) (u (2 * k)) (omega (arith, u (2 * k))))
+    (more (total factorOf k) (factorOf k) c (5 * c - 6 * prior l k) (charged l k) (charged-most l u k) (u (2 * k)) (omega (arith, u (2 * k))))
 
 total-rises : (f : ℕ → ℕ) (k m : ℕ) → total f k ≤ total f (k + m)
 unfolding total
 total-rises f k zero = rw add-zero (omega arith)
 total-rises f k (suc m) = rw add-suc (omega (arith, total-rises f k m))
 
--- the factors of 128 pairs, 16 territories, come to 16,000
-factors-sum : total factorOf 128 ≡ 16000
+-- a territory's factors come to 1,000
+factors-sum : total factorOf volumePairs ≡ 1000 * territories
 unfolding total volumeFactors
 factors-sum = refl
 
--- what 128 pairs can come to
-pub charged-fits : (l : List ℕ) → ((j : ℕ) → getD l j 0 ≤ limit) → (k : ℕ) → k ≤ 128 → charged l k ≤ 15999999999999840000
-charged-fits l u k h =
-    let e : k + (128 - k) ≡ 128 = omega arith in
-    omega (arith, charged-most l u k, rw e at (total-rises factorOf k (128 - k)), factors-sum)
+-- what volume and growth of all pairs can come to
+abbrev pub mostCharged : ℕ
+mostCharged = 10 * limit * (1000 * territories)
 
--- the numerator of RO fits a word, and leaves room to round it up
-pub top-fits : (l g : List ℕ) → Amounts l g → (5 * volume l + growth l ≤ 15999999999999840000) × (general g ≤ 127499999999998725) × (operationalTop l g ≤ 16637499999999833625)
-unfolding operationalTop general
-top-fits l g a =
-    let h : length l / 2 ≤ 128 = omega (arith, a .short) in
+pub charged-fits : (l : List ℕ) → ((j : ℕ) → getD l j 0 ≤ limit) → (k : ℕ) → k ≤ volumePairs → charged l k ≤ mostCharged
+charged-fits l u k h =
+    let e : k + (volumePairs - k) ≡ volumePairs = omega arith in
+    omega (arith, charged-most l u k, rw e at (total-rises factorOf k (volumePairs - k)), factors-sum)
+
+-- how large the parts of the numerator of RO can be: it fits a word
+pub record NumeratorFits (l g : List ℕ) : Type 0 where
+  pub business-fits : 5 * volume l + growth l ≤ mostCharged
+  pub general-fits : generalRequirement g ≤ 1275 * limit
+  pub sum-fits : operationalNumerator l g ≤ mostCharged + 5 * (1275 * limit)
+
+pub numerator-fits : (l g : List ℕ) → OperationalAmounts l g → NumeratorFits l g
+unfolding operationalNumerator generalRequirement
+numerator-fits l g a =
+    let h : length l / 2 ≤ volumePairs = omega (arith, a .short) in
     let b = charged-fits l (a .volumes) (length l / 2) h in
     let e = charged-all l in
-    omega (arith, a .gross, a .guarantee, a .ceded)
+    let r : generalRequirement g ≤ 1275 * limit = omega (arith, a .gross, a .guarantee, a .ceded) in
+    record { business-fits = omega arith; general-fits = r; sum-fits = omega arith }

@@ -1,15 +1,15 @@
--- Demand 3 for every block and every sheet that is accepted. Assumes nothing.
+-- Demand 3 for every block and every sheet that is accepted, put together of what the other files prove of each figure. Assumes nothing.
 use mathlib.Core.List.{List}
 use Prim.Native.Nat.{ℕ}
 use native.Mathlib.Omega.{arith}
-use Rattle.guideline.specs.Block.{U, LT, Vh, Accepted}
+use Rattle.guideline.specs.Block.{U, LT, Vh, AcceptedBlock}
 use Rattle.guideline.specs.Buffer.{Sheet, buffer, AcceptedSheet}
 use Rattle.guideline.specs.Demand.{BlockDemand, BufferDemand}
 use Rattle.guideline.proofs.Figures.{v-is, u-small, d-high, d-third, requirement-rises, k-twice, k-high}
-use Rattle.guideline.proofs.Exactly.{m-rises, fraction-rises, fits-below, k-at, k-near-by}
+use Rattle.guideline.proofs.Exactly.{m-rises, fraction-rises, i-at, d-at, fits-below, k-at, k-near-by}
 use Rattle.guideline.proofs.ExactBuffer.{buffer-at, buffer-near}
 
-pub block-demand : (b : List ℕ) → Accepted b → BlockDemand b
+pub block-demand : (b : List ℕ) → AcceptedBlock b → BlockDemand b
 block-demand b v =
     record {
       d-high = d-high b v;
@@ -19,6 +19,8 @@ block-demand b v =
       k-rises = requirement-rises (U b) (LT b) (Vh b) (v-is b v) (u-small b v);
       k-twice = k-twice b v;
       k-high = k-high b v;
+      i-at = i-at b v;
+      d-at = d-at b v;
       fits-below = fits-below b v;
       k-at = k-at b v;
       k-near = k-near-by b v _ (omega arith);

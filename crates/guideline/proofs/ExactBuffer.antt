@@ -1,4 +1,5 @@
--- The reported buffer against the exact one. Assumes nothing.
+-- The reported buffer against the exact one: block by block what is proved of K, summed, with less than a cent each for RO and the last
+-- rounding. Assumes nothing.
 use mathlib.Core.Path.{ap}
 use mathlib.Core.List.{List, [], _∷_}
 use Prim.Native.Nat.{ℕ, _+_, _*_}
@@ -6,23 +7,26 @@ use native.Mathlib.Nat.{mul-le-mul-left, mul-le-mul-right, mul-pos, mul-lt-mul-o
 use native.Mathlib.Omega.{arith}
 use lib.ListN.{length}
 use Rattle.search.proofs.LeastOf.{least-ceil}
-use Rattle.guideline.specs.Block.{K}
-use Rattle.guideline.specs.Fraction.{Fraction, _≤ᶠ_, whole}
+use Rattle.search.specs.Each.{Each}
+use Rattle.guideline.specs.Block.{AcceptedBlock, K}
+use Rattle.guideline.specs.Sizes.{tenThousandths}
+use Rattle.guideline.specs.Operational.{operationalDenominator}
+use Rattle.guideline.specs.Fraction.{Fraction, _≤ᶠ_, whole, plus}
 use Rattle.guideline.specs.Exact.{kAt}
-use Rattle.guideline.specs.Buffer.{Sheet, sumK, buffer, plus, Choice, sumAt, StrictlyBelowBuffer, lessAllowance, EachAccepted, AcceptedSheet}
+use Rattle.guideline.specs.Buffer.{Sheet, sumK, buffer, Choice, sumAt, StrictlyBelowBuffer, lessAllowance, AcceptedSheet}
 use Rattle.guideline.proofs.Exactly.{k-bound, k-near-by}
 use Rattle.guideline.proofs.Totals.{ro-law, bracket-is, buffer-law}
 
 -- ---- sums of fractions
 
 plus-high : (x y : Fraction) (k l : ℕ) → x ≤ᶠ whole k 0 → y ≤ᶠ whole l 0 → plus x y ≤ᶠ whole (k + l) 0
-plus-high x y k l p q = omega (arith, mul-le-mul-right (y .under) p, mul-le-mul-right (x .under) q)
+plus-high x y k l p q = omega (arith, mul-le-mul-right (y .denominator) p, mul-le-mul-right (x .denominator) q)
 
 plus-low : (x y : Fraction) (k i l j : ℕ) → whole k i ≤ᶠ x → whole l j ≤ᶠ y → whole (k + l) (i + j) ≤ᶠ plus x y
-plus-low x y k i l j p q = omega (arith, mul-le-mul-right (y .under) p, mul-le-mul-right (x .under) q)
+plus-low x y k i l j p q = omega (arith, mul-le-mul-right (y .denominator) p, mul-le-mul-right (x .denominator) q)
 
 -- at any choice, K's fractions come to at most the sum of K
-sum-high : (bs : List (List ℕ)) → EachAccepted bs → (c : Choice bs) → sumAt bs c ≤ᶠ whole (sumK bs) 0
+sum-high : (bs : List (List ℕ)) → Each AcceptedBlock bs → (c : Choice bs) → sumAt bs c ≤ᶠ whole (sumK bs) 0
 unfolding sumK
 sum-high [] vs c = omega arith
 sum-high (b ∷ bs) vs c = plus-high (kAt b (c .0)) (sumAt bs (c .2)) (K b) (sumK bs) (k-bound b (vs .0) (c .0) (c .1)) (sum-high bs (vs .1) (c .2))
@@ -32,7 +36,7 @@ record Near (bs : List (List ℕ)) : Type 0 where
   choice : Choice bs
   near : whole (sumK bs) (2 * length bs) ≤ᶠ sumAt bs choice
 
-sum-near : (bs : List (List ℕ)) → EachAccepted bs → Near bs
+sum-near : (bs : List (List ℕ)) → Each AcceptedBlock bs → Near bs
 unfolding sumK
 sum-near [] vs = record { choice = tt; near = omega arith }
 sum-near (b ∷ bs) vs =
@@ -49,7 +53,7 @@ module _ (s : Sheet) (v : AcceptedSheet s) where
   buffer-at t =
       let x = sumAt (s .blocks) (t .choice) in
       let g = s .g in
-      let m = x .under in
+      let m = x .denominator in
       omega (
         arith,
         t .below,
@@ -65,14 +69,16 @@ module _ (s : Sheet) (v : AcceptedSheet s) where
       let r = sum-near (s .blocks) (v .blocks-pass) in
       let x = sumAt (s .blocks) (r .choice) in
       let g = s .g in
-      let m = x .under in
+      let m = x .denominator in
+      let ro = least-ceil operationalDenominator _ _ (omega arith) (ro-law (s .volumes) (s .general) (v .amounts)) in
+      let b = least-ceil tenThousandths _ _ (omega arith) (buffer-law s v) in
       record {
         choice = r .choice;
         below = omega (
           arith,
           mul-le-mul-left g (r .near),
-          mul-lt-mul-of-pos-left (least-ceil 50000 _ _ (omega arith) (ro-law (s .volumes) (s .general) (v .amounts))) (mul-pos (v .g-low) (x .above)),
-          mul-lt-mul-of-pos-left (least-ceil 10000 _ _ (omega arith) (buffer-law s v)) (x .above),
+          mul-lt-mul-of-pos-left ro (mul-pos (v .g-low) (x .positive)),
+          mul-lt-mul-of-pos-left b (x .positive),
           ap (λ (z : ℕ). g * m * z) (bracket-is s v),
         );
       }

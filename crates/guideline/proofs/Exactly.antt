@@ -1,4 +1,5 @@
--- The reported D and K against the exact ones. Assumes nothing.
+-- The reported I, D and K against the exact ones: what is reported is at or above, so every d that fits is at most D and K's fraction there at
+-- most K; and D less 2, or a third of V, still fits, where K's fraction is less than 2 below. Assumes nothing.
 use mathlib.Core.Path.{_≡_, ap, _∙_}
 use mathlib.Core.List.{List}
 use Prim.Native.Nat.{ℕ, suc, _+_, _-_, _*_, max, _≤_, _<_}
@@ -9,11 +10,11 @@ use native.Mathlib.Omega.{arith}
 use lib.IntN.{pos}
 use Rattle.search.proofs.Picks.{if-eq, if-ne}
 use Rattle.search.proofs.LeastOf.{least-short}
-use Rattle.guideline.specs.Block.{PC, seven, U, LT, Vh, y, largest, root, I, a, D, K, Accepted}
-use Rattle.guideline.specs.Fraction.{Fraction, _≤ᶠ_, _<ᶠ_, whole, quarters, thrice, squareLess, sumSquares}
-use Rattle.guideline.specs.Exact.{AtOrAboveI, AtOrAboveD, Fits, mTop, kOver, kAt, StrictlyBelowK}
-use Rattle.guideline.proofs.Bounds.{radicand, radicand-rises, root-thrice, m-rises-over, over-rises, k-above, near-largest, near-root, k-near}
-use Rattle.guideline.proofs.Fractions.{nat, nat-is, nat-rises, nat-le, square-is, mTop-is, square-from, radicand-nat, third-below}
+use Rattle.guideline.specs.Block.{PC, seven, radicand, U, LT, Vh, y, largest, root, I, a, D, K, AcceptedBlock}
+use Rattle.guideline.specs.Fraction.{Fraction, _≤ᶠ_, _<ᶠ_, whole, ratio, quarters, thrice, squareLess, radicandAt, ≤ᶠ-trans}
+use Rattle.guideline.specs.Exact.{AtOrAboveI, AtOrAboveD, Fits, mNumerator, kFraction, kAt, StrictlyBelowK, i-upwards}
+use Rattle.guideline.proofs.Bounds.{radicand-rises, root-thrice, m-rises-over, numerator-rises, k-above, near-largest, near-root, k-near}
+use Rattle.guideline.proofs.Fractions.{nat, nat-is, nat-le, square-is, mNumerator-is, square-from, radicand-nat, third-below}
 use Rattle.guideline.proofs.Figures.{q, q-is, q-least, v-sum, u-high, root-law, d-law, d-high, d-third, k-law, k-none}
 
 -- ---- small laws
@@ -31,41 +32,44 @@ decided (no k) h = absurd (k h)
 
 -- ---- K's fraction
 
-kAt-some : (b : List ℕ) (d : Fraction) → 0 < U b → (h : 0 < Vh b) → kAt b d ≡ kOver (U b) (LT b) (Vh b) d (yes h)
+kAt-some : (b : List ℕ) (d : Fraction) → 0 < U b → (h : 0 < Vh b) → kAt b d ≡ kFraction (U b) (LT b) (Vh b) d (yes h)
 unfolding kAt
-kAt-some b d k h = if-ne _ (ne-of-gt k) ∙ ap (kOver (U b) (LT b) (Vh b) d) (decided (decLt 0 (Vh b)) h)
+kAt-some b d k h = if-ne _ (ne-of-gt k) ∙ ap (kFraction (U b) (LT b) (Vh b) d) (decided (decLt 0 (Vh b)) h)
 
 kAt-none : (b : List ℕ) (d : Fraction) → U b ≡ 0 → kAt b d ≡ whole 0 0
 unfolding kAt
 kAt-none b d e = if-eq _ e
 
-module _ (b : List ℕ) (v : Accepted b) where
+module _ (b : List ℕ) (v : AcceptedBlock b) where
   v-pos : 0 < U b → 0 < Vh b
   v-pos h = omega (arith, u-high b v)
 
-  -- a d from V/3 on is a natural over its `under`
-  third-nat : (d : Fraction) → whole (Vh b) 0 ≤ᶠ thrice d → Vh b * d .under ≤ 3 * nat d
+  -- a d from V/3 on is a natural over its denominator
+  third-nat : (d : Fraction) → whole (Vh b) 0 ≤ᶠ thrice d → Vh b * d .denominator ≤ 3 * nat d
   third-nat d h = omega arith
 
   zero-below : (d : Fraction) → whole (Vh b) 0 ≤ᶠ thrice d → whole 0 0 ≤ᶠ d
   zero-below d low = omega arith
 
   -- M never falls
-  pub m-rises : (d e : Fraction) → whole (Vh b) 0 ≤ᶠ thrice d → d ≤ᶠ e → mTop (Vh b) d * (e .under * e .under) ≤ mTop (Vh b) e * (d .under * d .under)
+  pub m-rises :
+      (d e : Fraction) → whole (Vh b) 0 ≤ᶠ thrice d → d ≤ᶠ e →
+      mNumerator (Vh b) d * (e .denominator * e .denominator) ≤ mNumerator (Vh b) e * (d .denominator * d .denominator)
   m-rises d e low up =
-      rw (mTop-is (Vh b) d (zero-below d low), mTop-is (Vh b) e (nat-rises d e (zero-below d low) up))
-      (m-rises-over (Vh b) (nat d) (d .under) (nat e) (e .under) (third-nat d low) (nat-le d e (zero-below d low) up))
+      let z = zero-below d low in
+      rw (mNumerator-is (Vh b) d z, mNumerator-is (Vh b) e (≤ᶠ-trans (whole 0 0) d e z up))
+      (m-rises-over (Vh b) (nat d) (d .denominator) (nat e) (e .denominator) (third-nat d low) (nat-le d e z up))
 
   -- K's fraction never falls
   pub fraction-rises : (d e : Fraction) → whole (Vh b) 0 ≤ᶠ thrice d → d ≤ᶠ e → kAt b d ≤ᶠ kAt b e
   fraction-rises d e low up = go (decLe 1 (U b))
     where
       go : Dec (1 ≤ U b) → kAt b d ≤ᶠ kAt b e
-      go (yes h) = rw (kAt-some b d h (v-pos h), kAt-some b e h (v-pos h))
-          (omega (
-            arith,
-            over-rises (48 * (U b * Vh b) + 6 * (LT b * Vh b)) (Vh b) (mTop (Vh b) d) (d .under) (mTop (Vh b) e) (e .under) (m-rises d e low up),
-          ))
+      go (yes h) =
+          let x = mNumerator (Vh b) d in
+          let y = mNumerator (Vh b) e in
+          let r = numerator-rises (48 * (U b * Vh b) + 6 * (LT b * Vh b)) (Vh b) x (d .denominator) y (e .denominator) (m-rises d e low up) in
+          rw (kAt-some b d h (v-pos h), kAt-some b e h (v-pos h)) (omega arith)
       go (no h) = rw (kAt-none b d (omega arith), kAt-none b e (omega arith)) (omega arith)
 
   -- ---- I, and the reported D against the exact one
@@ -86,41 +90,44 @@ module _ (b : List ℕ) (v : Accepted b) where
   unfolding I
   i-root h = omega arith
 
-  -- what is below the exact I is at most the reported I
-  i-below : (i : Fraction) → ¬ AtOrAboveI b i → i ≤ᶠ whole (I b) 0
-  i-below i below = go (decLe (i .up) (I b * i .under + i .down))
-    where
-      at : I b * i .under + i .down ≤ i .up → AtOrAboveI b i
-      at h =
-          let c = 2 * PC b in
-          let m = i .under in
-          record {
-            floor = omega (arith, mul-le-mul-right m largest-in);
-            square = rw (q-is b) (omega (arith, square-from (q b) (root b) m (i .up) (i .down + c * m) (root-law b v .reaches) (omega (arith, mul-le-mul-right m root-in))));
-          }
+  -- the reported I is at or above the exact I, so what is below it is at most the reported I
+  pub i-at : AtOrAboveI b (whole (I b) 0)
+  i-at =
+      let c = 2 * PC b in
+      let from = square-from (q b) (root b) (I b) c (root-law b v .reaches) root-in in
+      record { floor = omega (arith, largest-in); square = rw (q-is b) (omega arith) }
 
-      go : Dec (i .up ≤ I b * i .under + i .down) → i ≤ᶠ whole (I b) 0
+  i-below : (i : Fraction) → ¬ AtOrAboveI b i → i ≤ᶠ whole (I b) 0
+  i-below i below = go (decLe (i .numerator⁺) (I b * i .denominator + i .numerator⁻))
+    where
+      go : Dec (i .numerator⁺ ≤ I b * i .denominator + i .numerator⁻) → i ≤ᶠ whole (I b) 0
       go (yes h) = omega arith
-      go (no h) = absurd (below (at (omega arith)))
+      go (no h) = absurd (below (i-upwards b (whole (I b) 0) i (omega arith) i-at))
 
   -- the reported D is at or above the exact D
-  d-at : AtOrAboveD b (whole (D b) 0)
+  pub d-at : AtOrAboveD b (whole (D b) 0)
   d-at =
       record {
         natural = omega arith;
         below = λ i ni bi.
             let e = nat-is i ni in
-            let m = i .under in
+            let m = i .denominator in
             let le : nat i ≤ I b * m = omega (arith, i-below i bi) in
-            omega (arith, square-is (i .up) (i .down) (nat i) e, ap (λ (z : ℕ). a b * m * z) e, radicand-rises (a b * m) le, mul-le-mul-right (m * m) (d-law b v .reaches));
+            omega (
+              arith,
+              square-is (i .numerator⁺) (i .numerator⁻) (nat i) e,
+              ap (λ (z : ℕ). a b * m * z) e,
+              radicand-rises (a b * m) le,
+              mul-le-mul-right (m * m) (d-law b v .reaches),
+            );
         at-floor = omega (arith, radicand-rises (a b) largest-in, d-law b v .reaches);
       }
 
   -- what fits is at most the reported D
   pub fits-below : (d : Fraction) → Fits b d → d ≤ᶠ whole (D b) 0
-  fits-below d f = go (decLe (d .up) (D b * d .under + d .down))
+  fits-below d f = go (decLe (d .numerator⁺) (D b * d .denominator + d .numerator⁻))
     where
-      go : Dec (d .up ≤ D b * d .under + d .down) → d ≤ᶠ whole (D b) 0
+      go : Dec (d .numerator⁺ ≤ D b * d .denominator + d .numerator⁻) → d ≤ᶠ whole (D b) 0
       go (yes h) = omega arith
       go (no h) = absurd (f .within (record { smaller = whole (D b) 0; less = omega arith; at = d-at }))
 
@@ -135,8 +142,8 @@ module _ (b : List ℕ) (v : Accepted b) where
 
       go : Dec (1 ≤ U b) → kAt b d ≤ᶠ whole (K b) 0
       go (yes h) =
-          let le = k-above (U b) (LT b) (Vh b) (D b) (K b) (nat d) (d .under) (third-nat d third) (omega (arith, fits-below d f)) (k-law b v h .reaches) in
-          rw (kAt-some b d h (v-pos h)) (omega (arith, mTop-is (Vh b) d (omega (arith, third))))
+          let le = k-above (U b) (LT b) (Vh b) (D b) (K b) (nat d) (d .denominator) (third-nat d third) (omega (arith, fits-below d f)) (k-law b v h .reaches) in
+          rw (kAt-some b d h (v-pos h)) (omega (arith, mNumerator-is (Vh b) d (omega (arith, third))))
       go (no h) = rw (kAt-none b d (omega arith)) (omega arith)
 
   pub k-at : ¬ StrictlyBelowK b (whole (K b) 0)
@@ -145,47 +152,48 @@ module _ (b : List ℕ) (v : Accepted b) where
   -- ---- K − 2 is strictly below it
 
   -- what is at or above the exact D is at least V/3 ..
-  at-third : (e : Fraction) → AtOrAboveD b e → Vh b * e .under ≤ 3 * nat e
+  at-third : (e : Fraction) → AtOrAboveD b e → Vh b * e .denominator ≤ 3 * nat e
   at-third e h = go (decLe 1 (seven (y b)))
     where
       c : ℕ
       c = 2 * PC b
 
-      go : Dec (1 ≤ seven (y b)) → Vh b * e .under ≤ 3 * nat e
+      go : Dec (1 ≤ seven (y b)) → Vh b * e .denominator ≤ 3 * nat e
       go (yes p) =
-          let i : Fraction = record { up = 3 * c + seven (y b); down = 0; under = 3; above = omega arith } in
+          let i : Fraction = ratio (pos (3 * c + seven (y b))) 3 (omega arith) in
           let sq = h .below i (omega arith) (λ t. third-below (q b) (seven (y b)) c (omega arith) (q-least b) p (rw (q-is b) at (t .square))) in
           let le = root-thrice _ _ _ (radicand-nat (a b) (3 * c + seven (y b)) 3 (omega arith) e (h .natural) sq) in
-          omega (arith, ap (λ (z : ℕ). z * e .under) (v-sum b v))
+          omega (arith, ap (λ (z : ℕ). z * e .denominator) (v-sum b v))
       go (no p) =
           let le = root-thrice _ _ _ (radicand-nat (a b) (largest b + c) 1 (omega arith) e (h .natural) (h .at-floor)) in
           let s0 : Vh b ≡ c + a b = omega (arith, v-sum b v) in
-          omega (arith, ap (λ (z : ℕ). z * e .under) s0)
+          omega (arith, ap (λ (z : ℕ). z * e .denominator) s0)
 
   -- .. and above D − 2
-  at-near : (e : Fraction) → AtOrAboveD b e → D b * e .under < nat e + 2 * e .under
+  at-near : (e : Fraction) → AtOrAboveD b e → D b * e .denominator < nat e + 2 * e .denominator
   at-near e h = go (decLe 1 (D b)) (decLe (root b) (largest b))
     where
       c : ℕ
       c = 2 * PC b
 
       m : ℕ
-      m = e .under
+      m = e .denominator
 
       one-less : 1 ≤ D b → D b * m ≡ (D b - 1) * m + m
       one-less p = let k : D b ≡ D b - 1 + 1 = omega arith in omega (arith, ap (λ (z : ℕ). z * m) k)
 
-      on-naturals : (j : ℕ) → sumSquares (a b) (whole j 0) ≤ᶠ squareLess e 0 → radicand (a b) j * (m * m) ≤ nat e * nat e
+      on-naturals : (j : ℕ) → radicandAt (a b) (whole j 0) ≤ᶠ squareLess e 0 → radicand (a b) j * (m * m) ≤ nat e * nat e
       on-naturals j k = omega (arith, radicand-nat (a b) j 1 (omega arith) e (h .natural) k)
 
       short : 1 ≤ D b → (D b - 1) * (D b - 1) < radicand (a b) (I b)
       short p = least-short (d-law b v) (D b - 1) (omega arith)
 
-      go : Dec (1 ≤ D b) → Dec (root b ≤ largest b) → D b * e .under < nat e + 2 * e .under
-      go (no p) r = let d0 : D b ≡ 0 = omega arith in omega (arith, e .above, ap (λ (z : ℕ). z * m) d0)
+      go : Dec (1 ≤ D b) → Dec (root b ≤ largest b) → D b * e .denominator < nat e + 2 * e .denominator
+      go (no p) r = let d0 : D b ≡ 0 = omega arith in omega (arith, e .positive, ap (λ (z : ℕ). z * m) d0)
       go (yes p) (yes r) =
-          let lt = near-largest (a b) (nat e) m (D b - 1) (e .above) (largest b + c) (rw (i-largest r) at (short p)) (on-naturals _ (h .at-floor)) in
-          omega (arith, one-less p, e .above)
+          let s = rw (i-largest r) at (short p) in
+          let lt = near-largest (a b) (nat e) m (D b - 1) (e .positive) (largest b + c) s (on-naturals _ (h .at-floor)) in
+          omega (arith, one-less p, e .positive)
       go (yes p) (no r) =
           let j = root b - 1 + c in
           let below : ¬ AtOrAboveI b (whole j 0) =
@@ -193,7 +201,8 @@ module _ (b : List ℕ) (v : Accepted b) where
           let sq : quarters (pos (q b)) ≤ᶠ squareLess (whole j 0) c = rw (q-is b) at (t .square) in
           let k = root-law b v .first (root b - 1) (omega arith) in
           omega arith in
-          let lt = near-root (a b) (nat e) m (D b - 1) (e .above) j (rw (i-root (omega arith)) at (short p)) (on-naturals j (h .below (whole j 0) (omega arith) below)) in
+          let s = rw (i-root (omega arith)) at (short p) in
+          let lt = near-root (a b) (nat e) m (D b - 1) (e .positive) j s (on-naturals j (h .below (whole j 0) (omega arith) below)) in
           omega (arith, one-less p)
 
   -- so the larger of D − 2 and V/3 fits
@@ -201,7 +210,7 @@ module _ (b : List ℕ) (v : Accepted b) where
   n₀ = max (3 * D b - 6) (Vh b)
 
   d₀ : Fraction
-  d₀ = record { up = n₀; down = 0; under = 3; above = omega arith }
+  d₀ = ratio (pos n₀) 3 (omega arith)
 
   fits₀ : Fits b d₀
   unfolding d₀ n₀
@@ -210,7 +219,7 @@ module _ (b : List ℕ) (v : Accepted b) where
         third = omega arith;
         within = λ s.
             let e = s .smaller in
-            let m = e .under in
+            let m = e .denominator in
             omega (
               arith,
               nat-is e (s .at .natural),
@@ -228,7 +237,10 @@ module _ (b : List ℕ) (v : Accepted b) where
       go (yes h) (yes k) =
           let ke : K b ≡ K b - 2 + 2 = omega arith in
           let low = d-third b v in
-          let near = k-near (U b) (LT b) (Vh b) (D b) (K b - 2) n₀ (d-high b v) (omega arith) (omega arith) (omega arith) (v-pos h) (least-short (k-law b v h) (suc (K b - 2)) (omega arith)) in
+          let short = least-short (k-law b v h) (suc (K b - 2)) (omega arith) in
+          let near = k-near (U b) (LT b) (Vh b) (D b) (K b - 2) n₀ (d-high b v) (omega arith) (omega arith) (omega arith) (v-pos h) short in
           rw (kAt-some b d₀ h (v-pos h)) (omega (arith, ap (λ (z : ℕ). z * Vh b) ke, mul-le-mul-right (Vh b) two))
-      go (yes h) (no k) = let ku : K b ≤ 1 = omega arith in rw (kAt-some b d₀ h (v-pos h)) (omega (arith, u-high b v, mul-le-mul-right (Vh b) ku, mul-le-mul-right (Vh b) two))
+      go (yes h) (no k) =
+          let ku : K b ≤ 1 = omega arith in
+          rw (kAt-some b d₀ h (v-pos h)) (omega (arith, u-high b v, mul-le-mul-right (Vh b) ku, mul-le-mul-right (Vh b) two))
       go (no h) k = rw (kAt-none b d₀ (omega arith)) (omega (arith, k-none b v (omega arith)))

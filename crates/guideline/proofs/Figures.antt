@@ -1,27 +1,32 @@
--- What the figures of an accepted block obey. Assumes nothing.
-use mathlib.Core.Path.{_≡_, sym, ap, _∙_}
+-- What the figures of an accepted block obey: no difference is cut, the root lies between a third of the sum of y and that sum, so D between a
+-- third of V and V, and K between half of LT + D and U. Assumes nothing.
+use mathlib.Core.Path.{_≡_, refl, sym, ap, _∙_}
 use mathlib.Core.List.{List}
 use Prim.Native.Nat.{ℕ, _+_, _*_, _/_, _^_, _≤_, _<_}
 use native.Mathlib.Nat.{mul-le-mul, mul-le-mul-left, ne-of-gt}
 use native.Mathlib.Decide.{decLe}
 use native.Mathlib.Omega.{arith}
 use lib.Dec.{leb}
-use lib.ListN.{getD}
+use lib.ListN.{length, getD}
 use lib.IntN.{ℤ, pos}
 use lib.Signed.{leZ}
-use borrow.Author.Tests.{le-leb, lt-leb}
 use Rattle.search.specs.Least.{least}
 use Rattle.search.proofs.Picks.{if-eq, if-ne}
 use Rattle.search.proofs.LeastOf.{LeastOf, Rising, least-of}
+use Rattle.search.proofs.Roots.{le-of-squares}
+use Rattle.search.proofs.Tests.{leb-same}
 use Rattle.amount.specs.Amount.{limit}
-use Rattle.guideline.specs.Block.{ir, lt, PC, A, seven, U, LT, Vh, y, ys, Q4, largestOf, largest, root, I, a, D, kTop, requirement, K, Each, Accepted}
+use Rattle.guideline.specs.Sizes.{risks, blockFigures}
+use Rattle.guideline.specs.Block.{ir, lt, PC, A, seven, U, LT, Vh, y, ys, Q4, largestOf, largest, root, I, a, radicand, D, kNumerator, requirement, K, EachRisk, AcceptedBlock, figuresOf}
 use Rattle.guideline.proofs.Sums.{sum}
 use Rattle.guideline.proofs.Table.{form, form-least, form-most, quarter-form, quarter-natural}
-use Rattle.guideline.proofs.Bounds.{le-of-sq, radicand, radicand-most, root-thrice, m-rises, k-least, u-passes}
+use Rattle.guideline.proofs.Bounds.{radicand-most, root-thrice, m-rises, k-least, u-passes}
 
 -- ---- a block that is accepted, by its 17 numbers
 
-pub accepted-of : (b : List ℕ) → ((k : ℕ) → getD b k 0 ≤ limit) → getD b 13 0 ≡ 0 → ((i : ℕ) → i < 7 → getD b (2 * i + 1) 0 ≤ getD b (2 * i) 0) → Accepted b
+pub accepted-of :
+    (b : List ℕ) → ((k : ℕ) → getD b k 0 ≤ limit) → getD b 13 0 ≡ 0 → ((i : ℕ) → i < risks → getD b (2 * i + 1) 0 ≤ getD b (2 * i) 0) →
+    AcceptedBlock b
 accepted-of b a z w =
     record {
       ir-fits = (a 0, a 2, a 4, a 6, a 8, a 10, a 12);
@@ -47,7 +52,7 @@ least-of-pos : {z : ℤ} {n : ℕ} → z ≡ pos n → (f : ℕ → ℕ) → Ris
 least-of-pos {z} {n} e f rises w lt h = rw e (least-of n f rises w lt h)
 
 module _ (b : List ℕ) where
-  summed : sum 7 (λ i. pos (getD (ys b) i 0)) ≡ pos (seven (y b))
+  summed : sum risks (λ i. pos (getD (ys b) i 0)) ≡ pos (seven (y b))
   unfolding sum ys
   summed = ap pos (omega arith)
 
@@ -73,15 +78,15 @@ module _ (u l v d : ℕ) where
   unfolding requirement
   requirement-none e = if-eq _ e
 
-  pub requirement-some : 0 < u → requirement u l v d ≡ least (λ k. leb (kTop u l v d) (60 * (v * k)))
+  pub requirement-some : 0 < u → requirement u l v d ≡ least (λ k. leb (kNumerator u l v d) (60 * (v * k)))
   unfolding requirement
   requirement-some h = if-ne 0 (ne-of-gt h)
 
 module _ (u l v : ℕ) (v-is : 2 * u ≡ v + l) (fits : u < 2 ^ 64) where
-  requirement-law : (d : ℕ) → d ≤ v → v ≤ 3 * d → 0 < u → LeastOf (kTop u l v d) (λ k. 60 * (v * k)) (requirement u l v d)
+  requirement-law : (d : ℕ) → d ≤ v → v ≤ 3 * d → 0 < u → LeastOf (kNumerator u l v d) (λ k. 60 * (v * k)) (requirement u l v d)
   requirement-law d high low h =
       rw (requirement-some u l v d h)
-      (least-of (kTop u l v d) (λ k. 60 * (v * k)) (λ m k le. omega (arith, mul-le-mul-left v le)) u fits (u-passes u l v d v-is high low))
+      (least-of (kNumerator u l v d) (λ k. 60 * (v * k)) (λ m k le. omega (arith, mul-le-mul-left v le)) u fits (u-passes u l v d v-is high low))
 
   -- 'K never falls as D rises'
   pub requirement-rises : (d e : ℕ) → v ≤ 3 * d → d ≤ e → e ≤ v → requirement u l v d ≤ requirement u l v e
@@ -95,13 +100,13 @@ module _ (u l v : ℕ) (v-is : 2 * u ≡ v + l) (fits : u < 2 ^ 64) where
 
 -- ---- the figures
 
-module _ (b : List ℕ) (v : Accepted b) where
-  y-is : Each (λ i. y b i + lt b i ≡ 2 * ir b i)
+module _ (b : List ℕ) (v : AcceptedBlock b) where
+  y-is : EachRisk (λ i. y b i + lt b i ≡ 2 * ir b i)
   unfolding y
   y-is = omega arith
 
   -- the widths of y(i), U and V
-  pub y-fits : Each (λ i. y b i ≤ 2 * limit)
+  pub y-fits : EachRisk (λ i. y b i ≤ 2 * limit)
   unfolding y
   y-fits = omega arith
 
@@ -123,8 +128,11 @@ module _ (b : List ℕ) (v : Accepted b) where
   unfolding U LT a
   v-sum = omega (arith, v-is, y-is)
 
+  pub v-fits : Vh b ≤ 20 * limit
+  v-fits = omega (arith, v-is, u-fits)
+
   v-small : Vh b < 2 ^ 64
-  v-small = omega (arith, v-is, u-fits)
+  v-small = omega (arith, v-fits)
 
   pub u-small : U b < 2 ^ 64
   u-small = omega (arith, u-fits)
@@ -132,7 +140,8 @@ module _ (b : List ℕ) (v : Accepted b) where
   pub root-law : LeastOf (q b) (λ r. 4 * (r * r)) (root b)
   unfolding root
   root-law =
-      let l : LeastOf (q b) _ (root b) = least-of-pos (q-is b) _ (λ m k le. omega (arith, mul-le-mul le le)) (seven (y b)) (omega (arith, v-small, v-sum)) (omega (arith, q-most b)) in
+      let l : LeastOf (q b) _ (root b) =
+      least-of-pos (q-is b) _ (λ m k le. omega (arith, mul-le-mul le le)) (seven (y b)) (omega (arith, v-small, v-sum)) (omega (arith, q-most b)) in
       record { reaches = omega (arith, l .reaches); first = λ m h. l .first m (omega arith) }
 
   -- I is at most V, also with a beside it
@@ -143,7 +152,8 @@ module _ (b : List ℕ) (v : Accepted b) where
   pub d-law : LeastOf (radicand (a b) (I b)) (λ d. d * d) (D b)
   unfolding D
   d-law =
-      let l : LeastOf (radicand (a b) (I b)) _ (D b) = least-of (radicand (a b) (I b)) _ (λ m k le. omega (arith, mul-le-mul le le)) (Vh b) v-small (omega (arith, radicand-most (a b) (I b) (Vh b) i-high)) in
+      let most = radicand-most (a b) (I b) (Vh b) i-high in
+      let l : LeastOf (radicand (a b) (I b)) _ (D b) = least-of (radicand (a b) (I b)) _ (λ m k le. omega (arith, mul-le-mul le le)) (Vh b) v-small (omega arith) in
       record { reaches = omega (arith, l .reaches); first = λ m h. l .first m (omega arith) }
 
   pub d-high : D b ≤ Vh b
@@ -151,14 +161,14 @@ module _ (b : List ℕ) (v : Accepted b) where
 
   -- three roots reach the sum
   sum-root : seven (y b) ≤ 3 * root b
-  sum-root = le-of-sq (seven (y b)) (3 * root b) (omega (arith, q-least b, root-law .reaches))
+  sum-root = le-of-squares (seven (y b)) (3 * root b) (omega (arith, q-least b, root-law .reaches))
 
   -- 'From the matrix, 3 × D is at least V'
   pub d-third : Vh b ≤ 3 * D b
   unfolding I
   d-third = omega (arith, v-sum, sum-root, root-thrice (a b) (I b) (D b) (d-law .reaches))
 
-  pub k-law : 0 < U b → LeastOf (kTop (U b) (LT b) (Vh b) (D b)) (λ k. 60 * (Vh b * k)) (K b)
+  pub k-law : 0 < U b → LeastOf (kNumerator (U b) (LT b) (Vh b) (D b)) (λ k. 60 * (Vh b * k)) (K b)
   unfolding K
   k-law h = requirement-law (U b) (LT b) (Vh b) v-is u-small (D b) d-high d-third h
 
@@ -184,6 +194,11 @@ module _ (b : List ℕ) (v : Accepted b) where
   pub figures-fit : (I b < 10 ^ 18) × (D b < 10 ^ 18) × (U b < 10 ^ 18) × (LT b < 10 ^ 18) × (K b < 10 ^ 18)
   figures-fit = omega (arith, v-is, u-fits, i-high, d-high, k-high)
 
+-- a block has so many figures
+pub figures-long : (b : List ℕ) → length (figuresOf b) ≡ blockFigures
+unfolding figuresOf
+figures-long b = refl
+
 -- ---- as code finds the root
 
 -- a sum of quarters that is a natural: its root is that of its quarter, rounded up
@@ -192,8 +207,4 @@ unfolding root
 root-is b q e = rw e (λ i. least (λ r. same (r * r) i))
   where
     same : (n : ℕ) → leb q (4 * n) ≡ leb ((q + 3) / 4) n
-    same n = go (decLe q (4 * n))
-      where
-        go : Dec (q ≤ 4 * n) → leb q (4 * n) ≡ leb ((q + 3) / 4) n
-        go (yes h) = le-leb q (4 * n) h ∙ sym (le-leb ((q + 3) / 4) n (omega arith))
-        go (no h) = lt-leb q (4 * n) (omega arith) ∙ sym (lt-leb ((q + 3) / 4) n (omega arith))
+    same n = leb-same q (4 * n) ((q + 3) / 4) n (λ h. omega arith) (λ h. omega arith)

@@ -8,4 +8,5 @@ pub mod Exactly
 pub mod Charges
 pub mod Totals
 pub mod ExactBuffer
+pub mod LeastNumbers
 pub mod Demand

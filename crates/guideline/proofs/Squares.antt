@@ -6,11 +6,12 @@ use Prim.Native.Nat.{ℕ, _+_, _*_, _/_, _%_}
 use lib.ListN.{getD}
 use lib.IntN.{ℤ, pos, negsuc, natAbs, _+ℤ_, _*ℤ_, zero-*ℤ}
 use Rattle.integer.proofs.Integer.{ring}
+use Rattle.guideline.specs.Sizes.{risks, products}
 use Rattle.guideline.proofs.Sums.{sum, sum-same, sum-add, sum-times, sum-square}
 
 -- the k-th product of two values, row by row
 abbrev pub product : (ℕ → ℤ) → ℕ → ℤ
-product x k = x (k / 7) *ℤ x (k % 7)
+product x k = x (k / risks) *ℤ x (k % risks)
 
 pub square-pos : (z : ℤ) → z *ℤ z ≡ pos (natAbs z * natAbs z)
 square-pos (pos n) = refl
@@ -32,25 +33,25 @@ made (s ∷ ss) k = pos (s .weight) *ℤ product (on s) k +ℤ made ss k
 
 -- the line's value
 abbrev valued : Square → (ℕ → ℤ) → ℤ
-valued s x = sum 7 (λ i. on s i *ℤ x i)
+valued s x = sum risks (λ i. on s i *ℤ x i)
 
 -- what the squares come to, whatever the signs: a natural
-pub worth : List Square → (ℕ → ℤ) → ℕ
-worth [] x = 0
-worth (s ∷ ss) x = s .weight * (natAbs (valued s x) * natAbs (valued s x)) + worth ss x
+pub sumOfSquares : List Square → (ℕ → ℤ) → ℕ
+sumOfSquares [] x = 0
+sumOfSquares (s ∷ ss) x = s .weight * (natAbs (valued s x) * natAbs (valued s x)) + sumOfSquares ss x
 
-pub made-sum : (ss : List Square) (x : ℕ → ℤ) → sum 49 (λ k. made ss k *ℤ product x k) ≡ pos (worth ss x)
-unfolding made worth
-made-sum [] x = sum-times (product x) (pos 0) 49 ∙ zero-*ℤ (sum 49 (product x))
+pub made-sum : (ss : List Square) (x : ℕ → ℤ) → sum products (λ k. made ss k *ℤ product x k) ≡ pos (sumOfSquares ss x)
+unfolding made sumOfSquares
+made-sum [] x = sum-times (product x) (pos 0) products ∙ zero-*ℤ (sum products (product x))
 made-sum (s ∷ ss) x =
-    sum-same 49 _ _ (λ k h. step (pos (s .weight)) (on s (k / 7)) (on s (k % 7)) (made ss k) (x (k / 7)) (x (k % 7)))
-    ∙ sum-add (λ k. pos (s .weight) *ℤ product (λ i. on s i *ℤ x i) k) (λ k. made ss k *ℤ product x k) 49
+    sum-same products _ _ (λ k h. step (pos (s .weight)) (on s (k / risks)) (on s (k % risks)) (made ss k) (x (k / risks)) (x (k % risks)))
+    ∙ sum-add (λ k. pos (s .weight) *ℤ product (λ i. on s i *ℤ x i) k) (λ k. made ss k *ℤ product x k) products
     ∙ (λ i. first i +ℤ made-sum ss x i)
   where
     step : (w l m r a b : ℤ) → (w *ℤ (l *ℤ m) +ℤ r) *ℤ (a *ℤ b) ≡ w *ℤ (l *ℤ a *ℤ (m *ℤ b)) +ℤ r *ℤ (a *ℤ b)
     step w l m r a b = simp ring
 
-    first : sum 49 (λ k. pos (s .weight) *ℤ product (λ i. on s i *ℤ x i) k) ≡ pos (s .weight * (natAbs (valued s x) * natAbs (valued s x)))
+    first : sum products (λ k. pos (s .weight) *ℤ product (λ i. on s i *ℤ x i) k) ≡ pos (s .weight * (natAbs (valued s x) * natAbs (valued s x)))
     first =
-        sum-times (product (λ i. on s i *ℤ x i)) (pos (s .weight)) 49
+        sum-times (product (λ i. on s i *ℤ x i)) (pos (s .weight)) products
         ∙ ap (λ (z : ℤ). pos (s .weight) *ℤ z) (sum-square (λ i. on s i *ℤ x i) ∙ square-pos (valued s x))

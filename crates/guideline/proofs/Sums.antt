@@ -5,6 +5,7 @@ use native.Mathlib.Nat.{add-zero, add-suc, zero-mul, suc-mul}
 use native.Mathlib.Omega.{arith}
 use lib.IntN.{ℤ, pos, _+ℤ_, _*ℤ_, +ℤ-idr, +ℤ-assoc, *ℤ-zero, *ℤ-comm}
 use Rattle.integer.proofs.Integer.{ring, *ℤ-+ℤ}
+use Rattle.guideline.specs.Sizes.{risks, products}
 
 -- f 0 + .. + f (n − 1)
 unfoldable pub sum : ℕ → (ℕ → ℤ) → ℤ
@@ -33,7 +34,8 @@ module _ (f : ℕ → ℤ) where
   sum-on : (m n : ℕ) → sum (m + n) f ≡ sum m f +ℤ sum n (λ k. f (m + k))
   unfolding sum
   sum-on m zero = rw add-zero (sym (+ℤ-idr (sum m f)))
-  sum-on m (suc n) = rw add-suc (ap (λ (z : ℤ). z +ℤ f (m + n)) (sum-on m n) ∙ +ℤ-assoc (sum m f) (sum n (λ k. f (m + k))) (f (m + n)))
+  sum-on m (suc n) =
+      rw add-suc (ap (λ (z : ℤ). z +ℤ f (m + n)) (sum-on m n) ∙ +ℤ-assoc (sum m f) (sum n (λ k. f (m + k))) (f (m + n)))
 
   -- a table with w columns, row by row
   sum-rows : (w n : ℕ) → sum (n * w) f ≡ sum n (λ i. sum w (λ j. f (i * w + j)))
@@ -42,14 +44,15 @@ module _ (f : ℕ → ℤ) where
   sum-rows w (suc n) = rw suc-mul (sum-on (n * w) w ∙ ap (λ (z : ℤ). z +ℤ sum w (λ j. f (n * w + j))) (sum-rows w n))
 
 -- all products of two of the first seven values, row by row
-pub sum-square : (f : ℕ → ℤ) → sum 49 (λ k. f (k / 7) *ℤ f (k % 7)) ≡ sum 7 f *ℤ sum 7 f
+pub sum-square : (f : ℕ → ℤ) → sum products (λ k. f (k / risks) *ℤ f (k % risks)) ≡ sum risks f *ℤ sum risks f
 sum-square f =
-    sum-rows (λ k. f (k / 7) *ℤ f (k % 7)) 7 7
-    ∙ sum-same 7 _ (λ i. sum 7 f *ℤ f i) (λ i h. sum-same 7 _ (λ j. f i *ℤ f j) (at i) ∙ sum-times f (f i) 7 ∙ *ℤ-comm (f i) (sum 7 f))
-    ∙ sum-times f (sum 7 f) 7
+    sum-rows (λ k. f (k / risks) *ℤ f (k % risks)) risks risks
+    ∙ sum-same risks _ (λ i. sum risks f *ℤ f i)
+    (λ i h. sum-same risks _ (λ j. f i *ℤ f j) (at i) ∙ sum-times f (f i) risks ∙ *ℤ-comm (f i) (sum risks f))
+    ∙ sum-times f (sum risks f) risks
   where
-    at : (i j : ℕ) → j < 7 → f ((i * 7 + j) / 7) *ℤ f ((i * 7 + j) % 7) ≡ f i *ℤ f j
+    at : (i j : ℕ) → j < risks → f ((i * risks + j) / risks) *ℤ f ((i * risks + j) % risks) ≡ f i *ℤ f j
     at i j h =
-        let d : (i * 7 + j) / 7 ≡ i = omega arith in
-        let m : (i * 7 + j) % 7 ≡ j = omega arith in
+        let d : (i * risks + j) / risks ≡ i = omega arith in
+        let m : (i * risks + j) % risks ≡ j = omega arith in
         rw (d, m)

@@ -1,4 +1,4 @@
--- The correlation factors: one computed test over the whole table, and what it says of the table and of the sum over all i, j.
+-- The correlation factors: one computed test over all of the table, and what it says of the table and of the sum over all i, j.
 -- Assumes nothing.
 use mathlib.Core.Path.{_≡_, refl, sym, ap, _∙_}
 use mathlib.Core.Bool.{Bool, true}
@@ -13,10 +13,11 @@ use mir.Syntax.{w8, w64}
 use mir.Val.{SFits}
 use borrow.Author.Tests.{leb-true}
 use Rattle.search.proofs.Values.{values, values-same}
-use Rattle.integer.proofs.Integer.{ring, *ℤ-+ℤ, *ℤ-assoc, +ℤ-*ℤ, over-pos}
+use Rattle.integer.proofs.Integer.{ring, *ℤ-+ℤ, *ℤ-assoc, +ℤ-*ℤ, natural-diff}
+use Rattle.guideline.specs.Sizes.{risks, products}
 use Rattle.guideline.specs.Factors.{factors, factor, soFar, quarterSum}
 use Rattle.guideline.proofs.Sums.{sum, sum-same, sum-add, sum-times, sum-square}
-use Rattle.guideline.proofs.Squares.{Square, made, worth, made-sum, product, square-pos}
+use Rattle.guideline.proofs.Squares.{Square, made, sumOfSquares, made-sum, product, square-pos}
 
 -- ---- the test
 
@@ -33,39 +34,39 @@ squares =
     ∷ []
 
 -- what is tested of each entry, as found against as wanted: its size, that it equals its mirror image, its part in the sum of squares
-record Entry : Type 0 where
+record FactorFacts : Type 0 where
   small : Bool
   mirror : ℤ
   scaled : ℤ
 
-found : ℕ → Entry
+found : ℕ → FactorFacts
 found k = record { small = leb (natAbs (factor k)) 4; mirror = factor k; scaled = pos 5040 *ℤ factor k }
 
-wanted : ℕ → Entry
-wanted k = record { small = true; mirror = factor (k % 7 * 7 + k / 7); scaled = pos 2520 +ℤ made squares k }
+wanted : ℕ → FactorFacts
+wanted k = record { small = true; mirror = factor (k % risks * risks + k / risks); scaled = pos 2520 +ℤ made squares k }
 
-tested : values found 49 ≡ values wanted 49
+tested : values found products ≡ values wanted products
 unfolding values found wanted factor factors made squares
 tested = refl
 
-entry : (k : ℕ) → k < 49 → found k ≡ wanted k
-entry = values-same found wanted 49 tested
+entry : (k : ℕ) → k < products → found k ≡ wanted k
+entry = values-same found wanted products tested
 
 -- 'rows and columns 1 to 7': beside the table there is nothing
-beside : (k : ℕ) → 49 ≤ k → factor k ≡ pos 0
+beside : (k : ℕ) → products ≤ k → factor k ≡ pos 0
 unfolding factor factors
 beside k h =
-    let out : length factors ≤ k / 7 = omega arith in
-    ap (λ (r : List ℤ). getD r (k % 7) (pos 0)) (List·getD-eq-default factors [] out)
+    let out : length factors ≤ k / risks = omega arith in
+    ap (λ (r : List ℤ). getD r (k % risks) (pos 0)) (List·getD-eq-default factors [] out)
 
 -- no factor is above 4 quarters in size
 pub factor-small : (k : ℕ) → natAbs (factor k) ≤ 4
 unfolding found wanted
-factor-small k = go (decLe 49 k)
+factor-small k = go (decLe products k)
   where
-    go : Dec (49 ≤ k) → natAbs (factor k) ≤ 4
+    go : Dec (products ≤ k) → natAbs (factor k) ≤ 4
     go (yes h) = rw (beside k h) (omega arith)
-    go (no h) = leb-true _ 4 (ap (λ (e : Entry). e .small) (entry k (omega arith)))
+    go (no h) = leb-true _ 4 (ap (λ (e : FactorFacts). e .small) (entry k (omega arith)))
 
 -- so it fits a byte and a machine word
 pub small-fits : (z : ℤ) → natAbs z ≤ 4 → SFits w8 z × SFits w64 z
@@ -73,25 +74,36 @@ small-fits (pos n) h = (record { sfits = omega arith }, record { sfits = omega a
 small-fits (negsuc n) h = (record { sfits = omega arith }, record { sfits = omega arith })
 
 -- rows and columns may change places
-pub factor-symmetric : (i j : ℕ) → i < 7 → j < 7 → factor (i * 7 + j) ≡ factor (j * 7 + i)
+pub factor-symmetric : (i j : ℕ) → i < risks → j < risks → factor (i * risks + j) ≡ factor (j * risks + i)
 unfolding found wanted
 factor-symmetric i j h l =
-    let e : (i * 7 + j) % 7 * 7 + (i * 7 + j) / 7 ≡ j * 7 + i = omega arith in
-    ap (λ (x : Entry). x .mirror) (entry (i * 7 + j) (omega arith)) ∙ ap factor e
+    let e : (i * risks + j) % risks * risks + (i * risks + j) / risks ≡ j * risks + i = omega arith in
+    ap (λ (x : FactorFacts). x .mirror) (entry (i * risks + j) (omega arith)) ∙ ap factor e
 
 -- ---- the sum over all i, j of factor × x(i) × x(j), in quarters, for x of any sign
 
 unfoldable pub form : (ℕ → ℤ) → ℤ
-form x = sum 49 (λ k. factor k *ℤ product x k)
+form x = sum products (λ k. factor k *ℤ product x k)
 
--- 2520 × (twice the form less the square of the sum) is the squares' worth
-certified : (x : ℕ → ℤ) → pos 5040 *ℤ form x ≡ pos (2520 * (natAbs (sum 7 x) * natAbs (sum 7 x)) + worth squares x)
+-- the square of the sum of x(1) to x(7)
+abbrev squareOfSum : (ℕ → ℤ) → ℕ
+squareOfSum x = natAbs (sum risks x) * natAbs (sum risks x)
+
+-- 2520 × (twice the form less the square of the sum) is the sum of the squares
+certified : (x : ℕ → ℤ) → pos 5040 *ℤ form x ≡ pos (2520 * squareOfSum x + sumOfSquares squares x)
 unfolding form found wanted
 certified x =
-    sym (sum-times (λ k. factor k *ℤ product x k) (pos 5040) 49)
-    ∙ sum-same 49 _ _ (λ k h. sym (*ℤ-assoc (pos 5040) (factor k) (product x k)) ∙ ap (λ (e : Entry). e .scaled *ℤ product x k) (entry k h) ∙ +ℤ-*ℤ (pos 2520) (made squares k) (product x k))
-    ∙ sum-add (λ k. pos 2520 *ℤ product x k) (λ k. made squares k *ℤ product x k) 49
-    ∙ (λ i. (sum-times (product x) (pos 2520) 49 ∙ ap (λ (z : ℤ). pos 2520 *ℤ z) (sum-square x ∙ square-pos (sum 7 x))) i +ℤ made-sum squares x i)
+    sym (sum-times (λ k. factor k *ℤ product x k) (pos 5040) products)
+    ∙ sum-same products _ _ (λ k h. scaled-at k h (product x k))
+    ∙ sum-add (λ k. pos 2520 *ℤ product x k) (λ k. made squares k *ℤ product x k) products
+    ∙ (λ i. ones i +ℤ made-sum squares x i)
+  where
+    scaled-at : (k : ℕ) → k < products → (p : ℤ) → pos 5040 *ℤ (factor k *ℤ p) ≡ pos 2520 *ℤ p +ℤ made squares k *ℤ p
+    scaled-at k h p =
+        sym (*ℤ-assoc (pos 5040) (factor k) p) ∙ ap (λ (e : FactorFacts). e .scaled *ℤ p) (entry k h) ∙ +ℤ-*ℤ (pos 2520) (made squares k) p
+
+    ones : sum products (λ k. pos 2520 *ℤ product x k) ≡ pos (2520 * squareOfSum x)
+    ones = sum-times (product x) (pos 2520) products ∙ ap (λ (z : ℤ). pos 2520 *ℤ z) (sum-square x ∙ square-pos (sum risks x))
 
 -- it is never negative ..
 pub form-natural : (x : ℕ → ℤ) → (q : ℕ) × (form x ≡ pos q)
@@ -105,17 +117,17 @@ form-natural x = go (form x) (certified x)
         split n = omega arith
 
 -- .. and twice it at least the square of the sum
-pub form-least : (x : ℕ → ℤ) (q : ℕ) → form x ≡ pos q → natAbs (sum 7 x) * natAbs (sum 7 x) ≤ 2 * q
+pub form-least : (x : ℕ → ℤ) (q : ℕ) → form x ≡ pos q → squareOfSum x ≤ 2 * q
 form-least x q e =
-    let g : pos (5040 * q) ≡ pos (2520 * (natAbs (sum 7 x) * natAbs (sum 7 x)) + worth squares x) = sym (ap (λ (z : ℤ). pos 5040 *ℤ z) e) ∙ certified x in
-    let h : 5040 * q ≡ 2520 * (natAbs (sum 7 x) * natAbs (sum 7 x)) + worth squares x = cc in
+    let g : pos (5040 * q) ≡ pos (2520 * squareOfSum x + sumOfSquares squares x) = sym (ap (λ (z : ℤ). pos 5040 *ℤ z) e) ∙ certified x in
+    let h : 5040 * q ≡ 2520 * squareOfSum x + sumOfSquares squares x = cc in
     omega arith
 
 -- of naturals it is at most four times that square: what each factor is short of 4 adds up to a natural
 module _ (p : ℕ → ℕ) where
   short : (z : ℤ) → natAbs z ≤ 4 → (c : ℕ) × (z +ℤ pos c ≡ pos 4)
   short (pos n) h = (4 - n, ap pos (omega arith))
-  short (negsuc n) h = (suc n + 4, over-pos (suc n) 4)
+  short (negsuc n) h = (suc n + 4, natural-diff (suc n) 4)
 
   most : (n : ℕ) → (m : ℕ) × (sum n (λ k. factor k *ℤ pos (p k)) +ℤ pos m ≡ pos 4 *ℤ sum n (λ k. pos (p k)))
   unfolding sum
@@ -132,11 +144,12 @@ module _ (p : ℕ → ℕ) where
       step : (s f x m c : ℤ) → s +ℤ f *ℤ x +ℤ (m +ℤ c *ℤ x) ≡ s +ℤ m +ℤ (f +ℤ c) *ℤ x
       step s f x m c = simp ring
 
-pub form-most : (y : ℕ → ℕ) (q s : ℕ) → form (λ i. pos (y i)) ≡ pos q → sum 7 (λ i. pos (y i)) ≡ pos s → q ≤ 4 * (s * s)
+pub form-most : (y : ℕ → ℕ) (q s : ℕ) → form (λ i. pos (y i)) ≡ pos q → sum risks (λ i. pos (y i)) ≡ pos s → q ≤ 4 * (s * s)
 unfolding form
 form-most y q s e f =
-    let m = most (λ k. y (k / 7) * y (k % 7)) 49 in
-    let g : pos (q + m .0) ≡ pos (4 * (s * s)) = sym (ap (λ (z : ℤ). z +ℤ pos (m .0)) e) ∙ m .1 ∙ ap (λ (z : ℤ). pos 4 *ℤ z) (sum-square (λ i. pos (y i)) ∙ (λ i. f i *ℤ f i)) in
+    let m = most (λ k. y (k / risks) * y (k % risks)) products in
+    let g : pos (q + m .0) ≡ pos (4 * (s * s)) =
+    sym (ap (λ (z : ℤ). z +ℤ pos (m .0)) e) ∙ m .1 ∙ ap (λ (z : ℤ). pos 4 *ℤ z) (sum-square (λ i. pos (y i)) ∙ (λ i. f i *ℤ f i)) in
     let h : q + m .0 ≡ 4 * (s * s) = cc in
     omega arith
 
@@ -149,7 +162,7 @@ so-far-sum ys (suc n) = ap (λ (z : ℤ). z +ℤ factor n *ℤ product (λ i. po
 
 pub quarter-form : (ys : List ℕ) → quarterSum ys ≡ form (λ i. pos (getD ys i 0))
 unfolding form
-quarter-form ys = so-far-sum ys 49
+quarter-form ys = so-far-sum ys products
 
 -- 'A single term may be negative; Q never is'
 pub quarter-natural : (ys : List ℕ) → (q : ℕ) × (quarterSum ys ≡ pos q)

@@ -1,18 +1,22 @@
 -- A block's figures, sections 11.2.1 to 11.2.4, in the letters of document 01, 'A block'. Figures in half cents are marked so;
--- all others are in cents. A difference is cut at 0; for a block that is accepted, none that is written here falls below 0 but M's.
+-- all others are in cents. A difference is cut at 0; for a block that is accepted, none that is written here falls below 0 but M's
+-- (`v-difference`, `y-difference`).
 -- A block is the block call's 17 numbers: seven pairs IR(i), LT(i), then PC, credit and market.
 -- Assumes nothing.
-use mathlib.Core.Path.{_≡_}
+use mathlib.Core.Path.{_≡_, sym, ap, _∙_}
 use mathlib.Core.List.{List, [], _∷_}
 use Prim.Native.Nat.{ℕ, _+_, _-_, _*_, max, _≤_}
 use lib.Dec.{leb, eqb}
 use lib.ListN.{getD}
-use lib.IntN.{ℤ, pos}
+use native.Mathlib.Omega.{arith}
+use lib.IntN.{ℤ, pos, _+ℤ_, _-ℤ_}
 use lib.Signed.{leZ}
+use Rattle.integer.proofs.Integer.{as-diff, diff-eq, diff-add}
 use Rattle.amount.specs.Amount.{limit}
 use Rattle.search.specs.Pick.{pick}
 use Rattle.search.specs.Least.{least}
 use Rattle.guideline.specs.Factors.{quarterSum}
+use Rattle.guideline.specs.Difference.{larger, cut-larger, less-diff, uncut}
 
 -- the gross component IR(i) of risk i, from 1 to 7
 abbrev pub ir : List ℕ → ℕ → ℕ
@@ -26,9 +30,17 @@ lt b i = getD b (2 * i - 1) 0
 abbrev pub PC : List ℕ → ℕ
 PC b = getD b 14 0
 
+-- credit
+abbrev pub credit : List ℕ → ℕ
+credit b = getD b 15 0
+
+-- market
+abbrev pub market : List ℕ → ℕ
+market b = getD b 16 0
+
 -- credit plus market
 unfoldable pub A : List ℕ → ℕ
-A b = getD b 15 0 + getD b 16 0
+A b = credit b + market b
 
 -- the sum over the seven risks
 abbrev pub seven : (ℕ → ℕ) → ℕ
@@ -79,35 +91,66 @@ I b = max (root b) (largest b) + 2 * PC b
 unfoldable pub a : List ℕ → ℕ
 a b = 2 * A b
 
+-- 'a² + a × I + I²', of which D is the root
+abbrev pub radicand : ℕ → ℕ → ℕ
+radicand a i = a * a + a * i + i * i
+
 -- the diversified requirement, in half cents
 unfoldable pub D : List ℕ → ℕ
-D b = least (λ d. leb (a b * a b + a b * I b + I b * I b) (d * d))
+D b = least (λ d. leb (radicand (a b) (I b)) (d * d))
 
 -- 'the larger of 0 and 7V² − 31 × D × V + 30D²'
 abbrev pub M : ℕ → ℕ → ℕ
 M v d = 7 * (v * v) + 30 * (d * d) - 31 * (d * v)
 
--- what 60 × V × K has to reach
-abbrev pub kTop : ℕ → ℕ → ℕ → ℕ → ℕ
-kTop u l v d = 48 * (u * v) + 6 * (l * v) + M v d
+-- the same in ℤ
+pub m-larger : (v d : ℕ) → pos (M v d) ≡ larger (pos 0) (pos (7 * (v * v)) -ℤ pos (31 * (d * v)) +ℤ pos (30 * (d * d)))
+m-larger v d =
+    let s = 7 * (v * v) in
+    let t = 31 * (d * v) in
+    let r = 30 * (d * d) in
+    let m : M v d ≡ s + r - t = omega arith in
+    ap pos m
+    ∙ cut-larger (s + r) t
+    ∙ ap (larger (pos 0)) (sym ((λ k. less-diff s t k +ℤ as-diff r k) ∙ diff-add s t r 0 ∙ diff-eq (s + r) (t + 0) (s + r) t (omega arith)))
+
+-- K's numerator, over 60 × V: what 60 × V × K has to reach
+abbrev pub kNumerator : ℕ → ℕ → ℕ → ℕ → ℕ
+kNumerator u l v d = 48 * (u * v) + 6 * (l * v) + M v d
 
 -- K by U, LT, V and D
 unfoldable pub requirement : ℕ → ℕ → ℕ → ℕ → ℕ
-requirement u l v d = pick (eqb u 0) 0 (least (λ k. leb (kTop u l v d) (60 * (v * k))))
+requirement u l v d = pick (eqb u 0) 0 (least (λ k. leb (kNumerator u l v d) (60 * (v * k))))
 
 -- the adjusted requirement
 unfoldable pub K : List ℕ → ℕ
 K b = requirement (U b) (LT b) (Vh b) (D b)
 
+-- the five figures that are reported of a block, in this order
+unfoldable pub figuresOf : List ℕ → List ℕ
+figuresOf b = I b ∷ D b ∷ U b ∷ LT b ∷ K b ∷ []
+
 -- of each of the seven risks
-abbrev pub Each : (ℕ → Type 0) → Type 0
-Each P = P 1 × P 2 × P 3 × P 4 × P 5 × P 6 × P 7
+abbrev pub EachRisk : (ℕ → Type 0) → Type 0
+EachRisk P = P 1 × P 2 × P 3 × P 4 × P 5 × P 6 × P 7
 
 -- what rules 7, 8 and 9 leave: no amount above the limit, LT(7) zero, no LT(i) above its IR(i)
-pub record Accepted (b : List ℕ) : Type 0 where
-  pub ir-fits : Each (λ i. ir b i ≤ limit)
-  pub lt-within : Each (λ i. lt b i ≤ ir b i)
+pub record AcceptedBlock (b : List ℕ) : Type 0 where
+  pub ir-fits : EachRisk (λ i. ir b i ≤ limit)
+  pub lt-within : EachRisk (λ i. lt b i ≤ ir b i)
   pub lt-seven : lt b 7 ≡ 0
   pub pc-fits : PC b ≤ limit
-  pub credit-fits : getD b 15 0 ≤ limit
-  pub market-fits : getD b 16 0 ≤ limit
+  pub credit-fits : credit b ≤ limit
+  pub market-fits : market b ≤ limit
+
+-- in a block that is accepted V and y(i) are the differences of ℤ: neither is cut at 0
+pub v-difference : (b : List ℕ) → AcceptedBlock b → pos (Vh b) ≡ pos (2 * U b) -ℤ pos (LT b)
+unfolding Vh U LT
+v-difference b v = uncut (2 * U b) (LT b) (Vh b) (omega arith)
+
+pub y-difference : (b : List ℕ) → AcceptedBlock b → EachRisk (λ i. pos (y b i) ≡ pos (2 * ir b i) -ℤ pos (lt b i))
+unfolding y
+y-difference b v = (at 1 (omega arith), at 2 (omega arith), at 3 (omega arith), at 4 (omega arith), at 5 (omega arith), at 6 (omega arith), at 7 (omega arith))
+  where
+    at : (i : ℕ) → y b i + lt b i ≡ 2 * ir b i → pos (y b i) ≡ pos (2 * ir b i) -ℤ pos (lt b i)
+    at i e = uncut (2 * ir b i) (lt b i) (y b i) e

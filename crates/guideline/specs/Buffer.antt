@@ -1,14 +1,20 @@
 -- The base solvency buffer, section 11.3, reported and exact, after document 01, 'The buffer' and 'The exact values'. Assumes nothing.
+use mathlib.Core.Path.{_≡_, sym, _∙_}
 use mathlib.Core.List.{List, [], _∷_}
 use Prim.Native.Nat.{ℕ, _+_, _-_, _*_, _≤_}
-use native.Mathlib.Nat.{mul-pos}
 use native.Mathlib.Omega.{arith}
 use lib.Dec.{leb}
 use lib.ListN.{length, getD}
+use lib.IntN.{ℤ, pos, _+ℤ_, _-ℤ_, _*ℤ_}
+use Rattle.amount.specs.Amount.{limit}
+use Rattle.integer.proofs.Integer.{ring}
 use Rattle.search.specs.Least.{least}
-use Rattle.guideline.specs.Block.{Accepted, K}
-use Rattle.guideline.specs.Operational.{Amounts, operationalTop, RO}
-use Rattle.guideline.specs.Fraction.{Fraction, _<ᶠ_, whole}
+use Rattle.search.specs.Each.{Each}
+use Rattle.guideline.specs.Sizes.{blocks, tenThousandths, largestScalar}
+use Rattle.guideline.specs.Block.{AcceptedBlock, K}
+use Rattle.guideline.specs.Operational.{OperationalAmounts, operationalNumerator, operationalDenominator, RO}
+use Rattle.guideline.specs.Difference.{uncut, times-diff}
+use Rattle.guideline.specs.Fraction.{Fraction, numerator, _≤ᶠ_, _<ᶠ_, whole, ratio, plus, ≤ᶠ-<ᶠ-trans}
 use Rattle.guideline.specs.Exact.{Fits, kAt}
 
 -- a sheet's amounts: the blocks that exist, ascending, each its 17 numbers; the operational call's numbers; g, in ten-thousandths; the
@@ -37,25 +43,31 @@ sumK (b ∷ bs) = K b + sumK bs
 unfoldable pub available : Sheet → ℕ
 available s = sumK (s .blocks) + guarantee s + RO (s .volumes) (s .general)
 
+-- no more is ever available: ten amounts for each block, one for the guarantee requirement and four for RO
+abbrev pub mostAvailable : ℕ
+mostAvailable = 10 * limit * blocks + 5 * limit
+
 -- the bracket of the buffer
 unfoldable pub bracket : Sheet → ℕ
 bracket s = available s - s .credits
 
+-- in ℤ, where rule 13 is met: 'sum of K − group and deposit credits + guarantee requirement + RO'
+pub bracket-difference :
+    (s : Sheet) → s .credits ≤ available s →
+    pos (bracket s) ≡ pos (sumK (s .blocks)) -ℤ pos (s .credits) +ℤ pos (guarantee s) +ℤ pos (RO (s .volumes) (s .general))
+unfolding bracket available
+bracket-difference s h =
+    uncut (available s) (s .credits) (bracket s) (omega arith)
+    ∙ moved (pos (sumK (s .blocks))) (pos (s .credits)) (pos (guarantee s)) (pos (RO (s .volumes) (s .general)))
+  where
+    moved : (k c g r : ℤ) → k +ℤ g +ℤ r -ℤ c ≡ k -ℤ c +ℤ g +ℤ r
+    moved k c g r = simp ring
+
 -- 'Buffer = g × (..), rounded up to a cent. The scalar multiplies the whole bracket'
 unfoldable pub buffer : Sheet → ℕ
-buffer s = least (λ x. leb (s .g * bracket s) (10000 * x))
+buffer s = least (λ x. leb (s .g * bracket s) (tenThousandths * x))
 
 -- ---- the exact buffer
-
--- x + y
-abbrev pub plus : Fraction → Fraction → Fraction
-plus x y =
-    record {
-      up = x .up * y .under + y .up * x .under;
-      down = x .down * y .under + y .down * x .under;
-      under = x .under * y .under;
-      above = mul-pos (x .above) (y .above);
-    }
 
 -- 'some choice of a fitting d in each block'
 abbrev pub Choice : List (List ℕ) → Type 0
@@ -69,13 +81,26 @@ sumAt (b ∷ bs) c = plus (kAt b (c .0)) (sumAt bs (c .2))
 
 -- 'The exact operational figure is its fraction before rounding'
 abbrev pub operationalAt : Sheet → Fraction
-operationalAt s = record { up = operationalTop (s .volumes) (s .general); down = 0; under = 50000; above = omega arith }
+operationalAt s = ratio (pos (operationalNumerator (s .volumes) (s .general))) operationalDenominator (omega arith)
 
--- 'g times the bracket of the buffer, unrounded', at the chosen d
+-- 'the bracket of the buffer, unrounded', at the chosen d
+abbrev pub bracketAt : (s : Sheet) → Choice (s .blocks) → Fraction
+bracketAt s c = plus (sumAt (s .blocks) c) (plus (operationalAt s) (whole (guarantee s) (s .credits)))
+
+-- g times it
 abbrev pub bufferAt : (s : Sheet) → Choice (s .blocks) → Fraction
 bufferAt s c =
-    let x = plus (sumAt (s .blocks) c) (plus (operationalAt s) (whole (guarantee s) (s .credits))) in
-    record { up = s .g * x .up; down = s .g * x .down; under = 10000 * x .under; above = omega (arith, x .above) }
+    let x = bracketAt s c in
+    record {
+      numerator⁺ = s .g * x .numerator⁺;
+      numerator⁻ = s .g * x .numerator⁻;
+      denominator = tenThousandths * x .denominator;
+      positive = omega (arith, x .positive);
+    }
+
+-- its numerator in ℤ, over 10,000 times the bracket's denominator
+pub numerator-buffer : (s : Sheet) (c : Choice (s .blocks)) → numerator (bufferAt s c) ≡ pos (s .g) *ℤ numerator (bracketAt s c)
+numerator-buffer s c = sym (times-diff (s .g) (bracketAt s c .numerator⁺) (bracketAt s c .numerator⁻))
 
 -- 'A number is strictly below the exact buffer when it is below g times the bracket of the buffer, unrounded, for some choice of a
 -- fitting d in each block; otherwise it is at or above'
@@ -83,20 +108,25 @@ pub record StrictlyBelowBuffer (s : Sheet) (x : Fraction) : Type 0 where
   pub choice : Choice (s .blocks)
   pub below : x <ᶠ bufferAt s choice
 
+-- what is at most a fraction strictly below the exact buffer is strictly below it too
+pub buffer-downwards : (s : Sheet) (x y : Fraction) → x ≤ᶠ y → StrictlyBelowBuffer s y → StrictlyBelowBuffer s x
+buffer-downwards s x y h k = record { choice = k .choice; below = ≤ᶠ-<ᶠ-trans x y (bufferAt s (k .choice)) h (k .below) }
+
 -- x cents less the allowance, 'g × (2n + 1) + 1 cents'
 abbrev pub lessAllowance : Sheet → ℕ → Fraction
-lessAllowance s x = record { up = 10000 * x; down = s .g * (2 * count s + 1) + 10000; under = 10000; above = omega arith }
-
--- every block is accepted
-abbrev pub EachAccepted : List (List ℕ) → Type 0
-EachAccepted [] = Unit {0}
-EachAccepted (b ∷ bs) = Accepted b × EachAccepted bs
+lessAllowance s x =
+    record {
+      numerator⁺ = tenThousandths * x;
+      numerator⁻ = s .g * (2 * count s + 1) + tenThousandths;
+      denominator = tenThousandths;
+      positive = omega arith;
+    }
 
 -- what the rules leave of a sheet's amounts
 pub record AcceptedSheet (s : Sheet) : Type 0 where
-  pub blocks-pass : EachAccepted (s .blocks)
-  pub few : count s ≤ 16
-  pub amounts : Amounts (s .volumes) (s .general)
+  pub blocks-pass : Each AcceptedBlock (s .blocks)
+  pub few : count s ≤ blocks
+  pub amounts : OperationalAmounts (s .volumes) (s .general)
   pub g-low : 1 ≤ s .g
-  pub g-high : s .g ≤ 20000
+  pub g-high : s .g ≤ largestScalar
   pub credits-within : s .credits ≤ available s

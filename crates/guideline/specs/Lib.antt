@@ -1,7 +1,10 @@
+pub mod Sizes
 pub mod Factors
 pub mod Block
 pub mod Operational
+pub mod Difference
 pub mod Fraction
 pub mod Exact
 pub mod Buffer
+pub mod LeastNumbers
 pub mod Demand

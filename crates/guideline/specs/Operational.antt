@@ -8,6 +8,7 @@ use lib.Dec.{leb}
 use lib.ListN.{length, getD}
 use Rattle.amount.specs.Amount.{limit}
 use Rattle.search.specs.Least.{least}
+use Rattle.guideline.specs.Sizes.{volumeClasses, volumeNumbers, tenThousandths}
 
 -- 'Eight volume classes .. with factors in ten-thousandths' (8.2.1). Direct premiums: individual life, group life, other, annuities
 -- excepted; reinsurance accepted; segregated funds with guarantees; annuities in payment; universal life accounts; other accounts
@@ -15,17 +16,23 @@ use Rattle.search.specs.Least.{least}
 unfoldable pub volumeFactors : List ℕ
 volumeFactors = 250 ∷ 250 ∷ 250 ∷ 175 ∷ 40 ∷ 15 ∷ 10 ∷ 10 ∷ []
 
--- the factor, the current and the prior volume of the pair k
-abbrev pub factorOf : ℕ → ℕ
-factorOf k = getD volumeFactors (k % 8) 0
+-- the largest of them
+abbrev pub largestFactor : ℕ
+largestFactor = 250
 
+-- the factor of the pair k
+abbrev pub factorOf : ℕ → ℕ
+factorOf k = getD volumeFactors (k % volumeClasses) 0
+
+-- its current volume
 abbrev pub current : List ℕ → ℕ → ℕ
 current l k = getD l (2 * k) 0
 
+-- and its prior volume
 abbrev pub prior : List ℕ → ℕ → ℕ
 prior l k = getD l (2 * k + 1) 0
 
--- the sum of f over 0, 1, .. up to n, left out
+-- f 0 + f 1 + .. + f (n − 1)
 unfoldable pub total : (ℕ → ℕ) → ℕ → ℕ
 total f zero = 0
 total f (suc n) = total f n + f n
@@ -40,20 +47,24 @@ unfoldable pub growth : List ℕ → ℕ
 growth l = total (λ k. factorOf k * (5 * current l k - 6 * prior l k)) (length l / 2)
 
 -- 'General: 575 × gross components + 450 × the segregated fund guarantee requirement + 250 × ceded premiums' (8.2.3), over 10,000
-unfoldable pub general : List ℕ → ℕ
-general g = 575 * getD g 0 0 + 450 * getD g 1 0 + 250 * getD g 2 0
+unfoldable pub generalRequirement : List ℕ → ℕ
+generalRequirement g = 575 * getD g 0 0 + 450 * getD g 1 0 + 250 * getD g 2 0
 
--- the sum of the three, over 50,000: the exact operational figure is this over 50,000
-unfoldable pub operationalTop : List ℕ → List ℕ → ℕ
-operationalTop l g = 5 * volume l + growth l + 5 * general g
+-- what growth is over: fifths of a ten-thousandth
+abbrev pub operationalDenominator : ℕ
+operationalDenominator = 5 * tenThousandths
+
+-- the sum of the three: the exact operational figure is this over 50,000
+unfoldable pub operationalNumerator : List ℕ → List ℕ → ℕ
+operationalNumerator l g = 5 * volume l + growth l + 5 * generalRequirement g
 
 -- 'rounded up once, at the end, to RO'
 unfoldable pub RO : List ℕ → List ℕ → ℕ
-RO l g = least (λ r. leb (operationalTop l g) (50000 * r))
+RO l g = least (λ r. leb (operationalNumerator l g) (operationalDenominator * r))
 
--- what rules 15 and 7 leave: volumes of at most 16 territories, and no amount above the limit
-pub record Amounts (l g : List ℕ) : Type 0 where
-  pub short : length l ≤ 256
+-- what rules 15 and 7 leave: volumes of no more territories than there are, and no amount above the limit
+pub record OperationalAmounts (l g : List ℕ) : Type 0 where
+  pub short : length l ≤ volumeNumbers
   pub volumes : (j : ℕ) → getD l j 0 ≤ limit
   pub gross : getD g 0 0 ≤ limit
   pub guarantee : getD g 1 0 ≤ limit

@@ -2,11 +2,60 @@
 ghost use mathlib.Core.Path.{_≡_};
 ghost use Prim.Native.Nat.{_<_};
 ghost use lib.ListN.{getD};
+ghost use Rattle.guideline.specs.Sizes.{products, volumeClasses};
 ghost use Rattle.guideline.specs.Factors.{factor};
 ghost use Rattle.guideline.specs.Operational.{volumeFactors};
 
+// How many there are of each thing: specs/Sizes has the same names. Blocks 1 to this one.
+pub const BLOCKS: usize = 16;
+
+// The insurance risks of section 11.2.1.
+pub const RISKS: usize = 7;
+
+// The products of two of them.
+pub const PRODUCTS: usize = RISKS * RISKS;
+
+// The block call's numbers: seven pairs IR, LT, then PC, credit, market.
+pub const BLOCK_NUMBERS: usize = 2 * RISKS + 3;
+
+// The figures that are reported of a block: I, D, U, LT, K.
+pub const BLOCK_FIGURES: usize = 5;
+
+// A row of a table of figures: the block's number, and its figures.
+pub const ROW_NUMBERS: usize = 1 + BLOCK_FIGURES;
+
+// A row for each block.
+pub const TABLE_NUMBERS: usize = ROW_NUMBERS * BLOCKS;
+
+// Territories with volumes.
+pub const TERRITORIES: usize = 16;
+
+// The volume classes of section 8.2.1.
+pub const VOLUME_CLASSES: usize = 8;
+
+// The pairs of volumes of all territories.
+pub const VOLUME_PAIRS: usize = TERRITORIES * VOLUME_CLASSES;
+
+// Eight pairs a territory.
+pub const TERRITORY_NUMBERS: usize = 2 * VOLUME_CLASSES;
+
+// The volumes of all territories.
+pub const VOLUME_NUMBERS: usize = TERRITORIES * TERRITORY_NUMBERS;
+
+// The general figures of section 8.2.3: gross components, guarantee requirement, ceded premiums.
+pub const GENERAL_FIGURES: usize = 3;
+
+// The scalar and the factors of chapter 8 are in ten-thousandths.
+pub const TEN_THOUSANDTHS: u64 = 10000;
+
+// The largest scalar, in ten-thousandths.
+pub const LARGEST_SCALAR: u64 = 20000;
+
+// What the operational figure is over before it is rounded: fifths of a ten-thousandth.
+pub const OPERATIONAL_DENOMINATOR: u64 = 5 * TEN_THOUSANDTHS;
+
 // The correlation factors of section 11.2.1, in quarters, row by row.
-const FACTORS: [i8; 49] = [
+const FACTORS: [i8; PRODUCTS] = [
     // 1 mortality
     4,
     -1,
@@ -65,27 +114,21 @@ const FACTORS: [i8; 49] = [
     4,
 ];
 
-// The factor of the k-th of the 49 products: row k / 7, column k % 7.
+// The factor of the k-th of the 49 products: row k / RISKS, column k % RISKS.
 pub fn factor_at(k: usize) -> i64
-    requires { ⌜ k < 49 ⌝ }
+    requires { ⌜ k < products ⌝ }
     ensures { λ r. ⌜ r ≡ factor k ⌝ }
 {
     FACTORS[k] as i64
 }
 
 // The factors of the eight volume classes of section 8.2.1, in ten-thousandths.
-const VOLUME_FACTORS: [u8; 8] = [250, 250, 250, 175, 40, 15, 10, 10];
+const VOLUME_FACTORS: [u8; VOLUME_CLASSES] = [250, 250, 250, 175, 40, 15, 10, 10];
 
 // The factor of a volume class, counted from 0.
 pub fn volume_factor(class: usize) -> u64
-    requires { ⌜ class < 8 ⌝ }
+    requires { ⌜ class < volumeClasses ⌝ }
     ensures { λ r. ⌜ r ≡ getD volumeFactors class 0 ⌝ }
 {
-    wide(VOLUME_FACTORS[class])
-}
-
-fn wide(x: u8) -> u64
-    ensures { λ r. ⌜ r ≡ x ⌝ }
-{
-    x as u64
+    cast::byte(VOLUME_FACTORS[class])
 }

@@ -9,6 +9,7 @@ use native.Mathlib.Omega.{arith}
 use lib.IntN.{ℤ, pos, negsuc, negℤ, subℕ, _+ℤ_, _*ℤ_, *ℤ-comm, +ℤ-comm, +ℤ-assoc}
 use borrow.Author.Tests.{lt-ltb, le-ltb}
 
+-- a difference below 0, and one that is not
 pub below : {a b : ℕ} → a < b → subℕ a b ≡ negsuc (b - suc a)
 below {a} {b} h = ap (λ (t : Bool). cond t (negsuc (b - suc a)) (pos (a - b))) (lt-ltb a b h)
 
@@ -35,79 +36,113 @@ neg-as-diff (suc n) = ap negsuc (omega arith) ∙ sym (below {a = 0} {b = suc n}
 
 -- a difference is a natural or the negative of one
 data View : ℕ → ℕ → Type 0 where
-  over : (b x : ℕ) → View (b + x) b
-  under : (a x : ℕ) → View a (a + suc x)
+  natural : (b x : ℕ) → View (b + x) b
+  negative : (a x : ℕ) → View a (a + suc x)
 
 view : (a b : ℕ) → View a b
 view a b = either (decLe b a)
   where
     either : Dec (b ≤ a) → View a b
-    either (yes h) = subst (λ (n : ℕ). View n b) (le-dest h .1) (over b (le-dest h .0))
+    either (yes h) = subst (λ (n : ℕ). View n b) (le-dest h .1) (natural b (le-dest h .0))
     either (no n) =
         let l = le-dest (lt-of-not-le n) in
         let e : a + suc (l .0) ≡ b = omega (arith, l .1) in
-        subst (λ (m : ℕ). View a m) e (under a (l .0))
+        subst (λ (m : ℕ). View a m) e (negative a (l .0))
 
-pub over-pos : (b x : ℕ) → subℕ (b + x) b ≡ pos x
-over-pos b x = diff-eq (b + x) b x 0 (omega arith) ∙ sym (as-diff x)
+pub natural-diff : (b x : ℕ) → subℕ (b + x) b ≡ pos x
+natural-diff b x = diff-eq (b + x) b x 0 (omega arith) ∙ sym (as-diff x)
 
-under-neg : (a x : ℕ) → subℕ a (a + suc x) ≡ negsuc x
-under-neg a x = diff-eq a (a + suc x) 0 (suc x) (omega arith) ∙ sym (neg-as-diff (suc x))
+negative-diff : (a x : ℕ) → subℕ a (a + suc x) ≡ negsuc x
+negative-diff a x = diff-eq a (a + suc x) 0 (suc x) (omega arith) ∙ sym (neg-as-diff (suc x))
 
 -- the sum of two differences
 add-views : {a b c d : ℕ} → View a b → View c d → subℕ a b +ℤ subℕ c d ≡ subℕ (a + c) (b + d)
-add-views (over b x) (over d y) = (λ i. over-pos b x i +ℤ over-pos d y i) ∙ as-diff (x + y) ∙ diff-eq (x + y) 0 (b + x + (d + y)) (b + d) (omega arith)
-add-views (over b x) (under c y) = (λ i. over-pos b x i +ℤ under-neg c y i) ∙ diff-eq x (suc y) (b + x + c) (b + (c + suc y)) (omega arith)
-add-views (under a x) (over d y) = (λ i. under-neg a x i +ℤ over-pos d y i) ∙ diff-eq y (suc x) (a + (d + y)) (a + suc x + d) (omega arith)
-add-views (under a x) (under c y) = (λ i. under-neg a x i +ℤ under-neg c y i) ∙ neg-as-diff (suc (suc (x + y))) ∙ diff-eq 0 (suc (suc (x + y))) (a + c) (a + suc x + (c + suc y)) (omega arith)
+add-views (natural b x) (natural d y) =
+    (λ i. natural-diff b x i +ℤ natural-diff d y i)
+    ∙ as-diff (x + y)
+    ∙ diff-eq (x + y) 0 (b + x + (d + y)) (b + d) (omega arith)
+add-views (natural b x) (negative c y) =
+    (λ i. natural-diff b x i +ℤ negative-diff c y i)
+    ∙ diff-eq x (suc y) (b + x + c) (b + (c + suc y)) (omega arith)
+add-views (negative a x) (natural d y) =
+    (λ i. negative-diff a x i +ℤ natural-diff d y i)
+    ∙ diff-eq y (suc x) (a + (d + y)) (a + suc x + d) (omega arith)
+add-views (negative a x) (negative c y) =
+    (λ i. negative-diff a x i +ℤ negative-diff c y i)
+    ∙ neg-as-diff (suc (suc (x + y)))
+    ∙ diff-eq 0 (suc (suc (x + y))) (a + c) (a + suc x + (c + suc y)) (omega arith)
 
 pub diff-add : (a b c d : ℕ) → subℕ a b +ℤ subℕ c d ≡ subℕ (a + c) (b + d)
 diff-add a b c d = add-views (view a b) (view c d)
 
 -- the product of two differences
 mul-views : {a b c d : ℕ} → View a b → View c d → subℕ a b *ℤ subℕ c d ≡ subℕ (a * c + b * d) (a * d + b * c)
-mul-views (over b x) (over d y) = (λ i. over-pos b x i *ℤ over-pos d y i) ∙ as-diff (x * y) ∙ diff-eq (x * y) 0 ((b + x) * (d + y) + b * d) ((b + x) * d + b * (d + y)) (omega arith)
-mul-views (over b x) (under c y) = (λ i. over-pos b x i *ℤ under-neg c y i) ∙ neg-as-diff (x * suc y) ∙ diff-eq 0 (x * suc y) ((b + x) * c + b * (c + suc y)) ((b + x) * (c + suc y) + b * c) (omega arith)
-mul-views (under a x) (over d y) = (λ i. under-neg a x i *ℤ over-pos d y i) ∙ neg-as-diff (suc x * y) ∙ diff-eq 0 (suc x * y) (a * (d + y) + (a + suc x) * d) (a * d + (a + suc x) * (d + y)) (omega arith)
-mul-views (under a x) (under c y) = (λ i. under-neg a x i *ℤ under-neg c y i) ∙ as-diff (suc x * suc y) ∙ diff-eq (suc x * suc y) 0 (a * c + (a + suc x) * (c + suc y)) (a * (c + suc y) + (a + suc x) * c) (omega arith)
+mul-views (natural b x) (natural d y) =
+    (λ i. natural-diff b x i *ℤ natural-diff d y i)
+    ∙ as-diff (x * y)
+    ∙ diff-eq (x * y) 0 ((b + x) * (d + y) + b * d) ((b + x) * d + b * (d + y)) (omega arith)
+mul-views (natural b x) (negative c y) =
+    (λ i. natural-diff b x i *ℤ negative-diff c y i)
+    ∙ neg-as-diff (x * suc y)
+    ∙ diff-eq 0 (x * suc y) ((b + x) * c + b * (c + suc y)) ((b + x) * (c + suc y) + b * c) (omega arith)
+mul-views (negative a x) (natural d y) =
+    (λ i. negative-diff a x i *ℤ natural-diff d y i)
+    ∙ neg-as-diff (suc x * y)
+    ∙ diff-eq 0 (suc x * y) (a * (d + y) + (a + suc x) * d) (a * d + (a + suc x) * (d + y)) (omega arith)
+mul-views (negative a x) (negative c y) =
+    (λ i. negative-diff a x i *ℤ negative-diff c y i)
+    ∙ as-diff (suc x * suc y)
+    ∙ diff-eq (suc x * suc y) 0 (a * c + (a + suc x) * (c + suc y)) (a * (c + suc y) + (a + suc x) * c) (omega arith)
 
 pub diff-mul : (a b c d : ℕ) → subℕ a b *ℤ subℕ c d ≡ subℕ (a * c + b * d) (a * d + b * c)
 diff-mul a b c d = mul-views (view a b) (view c d)
 
 -- the parts of an integer above and below 0
-abbrev up : ℤ → ℕ
-up (pos n) = n
-up (negsuc n) = 0
+abbrev positivePart : ℤ → ℕ
+positivePart (pos n) = n
+positivePart (negsuc n) = 0
 
-abbrev down : ℤ → ℕ
-down (pos n) = 0
-down (negsuc n) = suc n
+abbrev negativePart : ℤ → ℕ
+negativePart (pos n) = 0
+negativePart (negsuc n) = suc n
 
-parts : (z : ℤ) → z ≡ subℕ (up z) (down z)
+parts : (z : ℤ) → z ≡ subℕ (positivePart z) (negativePart z)
 parts (pos n) = as-diff n
 parts (negsuc n) = neg-as-diff (suc n)
 
 pub *ℤ-+ℤ : (a b c : ℤ) → a *ℤ (b +ℤ c) ≡ a *ℤ b +ℤ a *ℤ c
 *ℤ-+ℤ a b c =
     (λ i. parts a i *ℤ (parts b i +ℤ parts c i))
-    ∙ at (up a) (down a) (up b) (down b) (up c) (down c)
+    ∙ at (positivePart a) (negativePart a) (positivePart b) (negativePart b) (positivePart c) (negativePart c)
     ∙ sym (λ i. parts a i *ℤ parts b i +ℤ parts a i *ℤ parts c i)
   where
     at : (a a′ b b′ c c′ : ℕ) → subℕ a a′ *ℤ (subℕ b b′ +ℤ subℕ c c′) ≡ subℕ a a′ *ℤ subℕ b b′ +ℤ subℕ a a′ *ℤ subℕ c c′
     at a a′ b b′ c c′ =
         ap (λ (z : ℤ). subℕ a a′ *ℤ z) (diff-add b b′ c c′) ∙ diff-mul a a′ (b + c) (b′ + c′)
-        ∙ diff-eq (a * (b + c) + a′ * (b′ + c′)) (a * (b′ + c′) + a′ * (b + c)) (a * b + a′ * b′ + (a * c + a′ * c′)) (a * b′ + a′ * b + (a * c′ + a′ * c)) (omega arith)
+        ∙ diff-eq
+        (a * (b + c) + a′ * (b′ + c′))
+        (a * (b′ + c′) + a′ * (b + c))
+        (a * b + a′ * b′ + (a * c + a′ * c′))
+        (a * b′ + a′ * b + (a * c′ + a′ * c))
+        (omega arith)
         ∙ sym (diff-add (a * b + a′ * b′) (a * b′ + a′ * b) (a * c + a′ * c′) (a * c′ + a′ * c))
         ∙ sym (λ i. diff-mul a a′ b b′ i +ℤ diff-mul a a′ c c′ i)
 
 pub *ℤ-assoc : (a b c : ℤ) → a *ℤ b *ℤ c ≡ a *ℤ (b *ℤ c)
 *ℤ-assoc a b c =
-    (λ i. parts a i *ℤ parts b i *ℤ parts c i) ∙ at (up a) (down a) (up b) (down b) (up c) (down c) ∙ sym (λ i. parts a i *ℤ (parts b i *ℤ parts c i))
+    (λ i. parts a i *ℤ parts b i *ℤ parts c i)
+    ∙ at (positivePart a) (negativePart a) (positivePart b) (negativePart b) (positivePart c) (negativePart c)
+    ∙ sym (λ i. parts a i *ℤ (parts b i *ℤ parts c i))
   where
     at : (a a′ b b′ c c′ : ℕ) → subℕ a a′ *ℤ subℕ b b′ *ℤ subℕ c c′ ≡ subℕ a a′ *ℤ (subℕ b b′ *ℤ subℕ c c′)
     at a a′ b b′ c c′ =
         ap (λ (z : ℤ). z *ℤ subℕ c c′) (diff-mul a a′ b b′) ∙ diff-mul (a * b + a′ * b′) (a * b′ + a′ * b) c c′
-        ∙ diff-eq ((a * b + a′ * b′) * c + (a * b′ + a′ * b) * c′) ((a * b + a′ * b′) * c′ + (a * b′ + a′ * b) * c) (a * (b * c + b′ * c′) + a′ * (b * c′ + b′ * c)) (a * (b * c′ + b′ * c) + a′ * (b * c + b′ * c′)) (omega arith)
+        ∙ diff-eq
+        ((a * b + a′ * b′) * c + (a * b′ + a′ * b) * c′)
+        ((a * b + a′ * b′) * c′ + (a * b′ + a′ * b) * c)
+        (a * (b * c + b′ * c′) + a′ * (b * c′ + b′ * c))
+        (a * (b * c′ + b′ * c) + a′ * (b * c + b′ * c′))
+        (omega arith)
         ∙ sym (diff-mul a a′ (b * c + b′ * c′) (b * c′ + b′ * c)) ∙ sym (ap (λ (z : ℤ). subℕ a a′ *ℤ z) (diff-mul b b′ c c′))
 
 pub +ℤ-*ℤ : (a b c : ℤ) → (a +ℤ b) *ℤ c ≡ a *ℤ c +ℤ b *ℤ c

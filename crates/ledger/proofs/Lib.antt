@@ -1,4 +1,4 @@
-pub mod Places
+pub mod Indexes
 pub mod Lines
 pub mod Numbers
 pub mod Marks

@@ -10,14 +10,17 @@ use lib.Dec.{eqb}
 use lib.ListN.{length, getD, set, replicate, getD-replicate}
 use lib.Seq.{getD-set-same, getD-set-other}
 use Rattle.search.specs.Pick.{pick}
-use Rattle.search.proofs.Picks.{if-true, if-false, if-eq, if-ne}
-use Rattle.lines.specs.Codes.{Key}
-use Rattle.lines.specs.declared.Code.{Code}
-use Rattle.lines.specs.declared.Code.the-variants.{Rsk, Oth, Vol, Gen}
-use Rattle.lines.specs.declared.Entry.{Entry}
+use Rattle.search.specs.Each.{Each}
+use Rattle.search.proofs.Picks.{if-true, if-false, if-eq, if-ne, never}
+use Rattle.guideline.specs.Sizes.{blocks}
+use Rattle.sheet_line.specs.Codes.{rangeOf, Key}
+use Rattle.sheet_line.specs.Rules.{AcceptedLine}
+use Rattle.sheet_line.specs.declared.Code.{Code}
+use Rattle.sheet_line.specs.declared.Code.the-variants.{Rsk, Oth, Vol, Gen}
+use Rattle.sheet_line.specs.declared.Entry.{Entry}
 use Rattle.ledger.specs.Entries.{markOf, ofBlock, exists}
-use Rattle.ledger.specs.Tables.{places, placeOf, placeFor, table, anyMark, blockMarked}
-use Rattle.ledger.proofs.Places.{All, place-most, length-table}
+use Rattle.ledger.specs.Tables.{places, blockPlaces, columnsBefore, indexOf, indexFor, table, anyMark, blockMarked}
+use Rattle.ledger.proofs.Indexes.{column-most, index-most, length-table}
 
 -- ---- a search of n places from `at` on, after i of them
 
@@ -64,8 +67,7 @@ module _ (m : List ℕ) (p : ℕ) where
     where
       clash : p ≡ at → getD (set m p 1) at 0 ≡ 0 → ⊥
       clash e q =
-          let z : _≡_ {A = ℕ} 1 0 = sym (getD-set-same m p 1 0 l) ∙ ap (λ (j : ℕ). getD (set m p 1) j 0) e ∙ q in
-          omega arith
+          never (sym q ∙ sym (ap (λ (j : ℕ). getD (set m p 1) j 0) e) ∙ getD-set-same m p 1 0 l)
 
   any-out : (at n : ℕ) → (at ≤ p → p < at + n → ⊥) → anyMark (set m p 1) at n ≡ anyMark m at n
   unfolding anyMark
@@ -76,39 +78,47 @@ module _ (m : List ℕ) (p : ℕ) where
 
 -- ---- the marks of entries
 
--- the ten places of a block's RSK and OTH lines
+-- the codes whose lines make a block exist have the first columns of its row; the others have later ones, or row 0
+columns-of : (k : Code)
+    → ((ofBlock k ≡ true) × (columnsBefore k + rangeOf k .classes ≤ blockPlaces))
+    ⊎ ((ofBlock k ≡ false) × ((blockPlaces ≤ columnsBefore k) ⊎ (rangeOf k .highest ≤ 0)))
+columns-of Rsk = inl (refl, omega arith)
+columns-of Oth = inl (refl, omega arith)
+columns-of Vol = inr (refl, inl (omega arith))
+columns-of Gen = inr (refl, inr (omega arith))
+
+-- the places of a block's RSK and OTH lines
 abbrev Within : ℕ → ℕ → Type 0
-Within p b = (placeOf Rsk b 1 ≤ p) × (p < placeOf Rsk b 1 + 10)
+Within p b = (indexOf Rsk b 1 ≤ p) × (p < indexOf Rsk b 1 + blockPlaces)
 
--- a line lies there where it makes the block exist; t is whether one of the others does
+-- a line has one of these places where it makes the block exist; t is whether one of the others does
 row-line : (k : Code) (b c d : ℕ) → Key k b c → 1 ≤ d → (t : Bool)
-    → (Within (placeOf k b c) d × (pick (ofBlock k) (pick (eqb b d) true t) t ≡ true))
-    ⊎ ((placeOf Rsk d 1 ≤ placeOf k b c → placeOf k b c < placeOf Rsk d 1 + 10 → ⊥) × (pick (ofBlock k) (pick (eqb b d) true t) t ≡ t))
-unfolding placeOf
-row-line Rsk b c d v h t =
-    elim (ℕ-discrete b d) [
-      | yes q ↦ inl ((omega arith, omega arith), if-true _ refl ∙ if-eq _ q)
-      | no q ↦ inr (λ l u. omega arith, if-true _ refl ∙ if-ne _ q)
+    → (Within (indexOf k b c) d × (pick (ofBlock k) (pick (eqb b d) true t) t ≡ true))
+    ⊎ ((indexOf Rsk d 1 ≤ indexOf k b c → indexOf k b c < indexOf Rsk d 1 + blockPlaces → ⊥) × (pick (ofBlock k) (pick (eqb b d) true t) t ≡ t))
+unfolding indexOf
+row-line k b c d v h t =
+    elim (columns-of k) [
+      | inl o ↦ elim (ℕ-discrete b d) [
+        | yes q ↦ inl ((omega arith, omega arith), if-true _ (o .0) ∙ if-eq _ q)
+        | no q ↦ inr (λ l u. omega (arith, column-most k), if-true _ (o .0) ∙ if-ne _ q)
+      ]
+      | inr o ↦ elim (o .1) [
+        | inl w ↦ inr (λ l u. omega (arith, column-most k), if-false _ (o .0))
+        | inr w ↦ inr (λ l u. omega (arith, column-most k), if-false _ (o .0))
+      ]
     ]
-row-line Oth b c d v h t =
-    elim (ℕ-discrete b d) [
-      | yes q ↦ inl ((omega arith, omega arith), if-true _ refl ∙ if-eq _ q)
-      | no q ↦ inr (λ l u. omega arith, if-true _ refl ∙ if-ne _ q)
-    ]
-row-line Vol b c d v h t = inr (λ l u. omega arith, if-false _ refl)
-row-line Gen b c d v h t = inr (λ l u. omega arith, if-false _ refl)
 
-pub row-most : (b : ℕ) → b ≤ 16 → placeOf Rsk b 1 + 10 ≤ places
-unfolding placeOf
+pub row-most : (b : ℕ) → b ≤ blocks → indexOf Rsk b 1 + blockPlaces ≤ places
+unfolding indexOf
 row-most b h = omega arith
 
-pub exists-table : (es : List Entry) (b : ℕ) → All es → (1 ≤ b) × (b ≤ 16) → blockMarked (table markOf es) b ≡ exists es b
+pub exists-table : (es : List Entry) (b : ℕ) → Each AcceptedLine es → (1 ≤ b) × (b ≤ blocks) → blockMarked (table markOf es) b ≡ exists es b
 unfolding table exists
-exists-table [] b all h = any-zeros (placeOf Rsk b 1) 10 (row-most b (h .1))
+exists-table [] b all h = any-zeros (indexOf Rsk b 1) blockPlaces (row-most b (h .1))
 exists-table (e ∷ es) b all h =
     let v = all .0 .key in
-    let l : placeFor e < length (table markOf es) = rw length-table (place-most (e .code) (e .block) (e .class) v) in
+    let l : indexFor e < length (table markOf es) = rw length-table (index-most (e .code) (e .block) (e .class) v) in
     elim (row-line (e .code) (e .block) (e .class) b v (h .0) (exists es b)) [
-      | inl w ↦ any-in (table markOf es) (placeFor e) (placeOf Rsk b 1) 10 l (w .0 .0) (w .0 .1) ∙ sym (w .1)
-      | inr w ↦ any-out (table markOf es) (placeFor e) (placeOf Rsk b 1) 10 (w .0) ∙ exists-table es b (all .1) h ∙ sym (w .1)
+      | inl w ↦ any-in (table markOf es) (indexFor e) (indexOf Rsk b 1) blockPlaces l (w .0 .0) (w .0 .1) ∙ sym (w .1)
+      | inr w ↦ any-out (table markOf es) (indexFor e) (indexOf Rsk b 1) blockPlaces (w .0) ∙ exists-table es b (all .1) h ∙ sym (w .1)
     ]

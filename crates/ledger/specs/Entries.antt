@@ -5,9 +5,11 @@ use mathlib.Core.List.{List, [], _∷_, _++_}
 use mathlib.Core.Bool.{Bool, true, false}
 use lib.Dec.{ltb, eqb}
 use Rattle.search.specs.Pick.{pick}
-use Rattle.lines.specs.declared.Code.{Code}
-use Rattle.lines.specs.declared.Code.the-variants.{Rsk, Oth, Vol, Gen}
-use Rattle.lines.specs.declared.Entry.{Entry}
+use Rattle.guideline.specs.Sizes.{volumeClasses, volumePairs}
+use Rattle.sheet_line.specs.Codes.{riskClasses}
+use Rattle.sheet_line.specs.declared.Code.{Code}
+use Rattle.sheet_line.specs.declared.Code.the-variants.{Rsk, Oth, Vol, Gen}
+use Rattle.sheet_line.specs.declared.Entry.{Entry}
 
 -- a code's row in document 01's table of codes
 abbrev pub rank : Code → ℕ
@@ -17,13 +19,13 @@ rank Vol = 2
 rank Gen = 3
 
 -- whether an entry has this code, block and class
-unfoldable pub same : Code → ℕ → ℕ → Entry → Bool
-same k b c e = pick (eqb (rank k) (rank (e .code))) (pick (eqb b (e .block)) (eqb c (e .class)) false) false
+unfoldable pub hasKey : Code → ℕ → ℕ → Entry → Bool
+hasKey k b c e = pick (eqb (rank k) (rank (e .code))) (pick (eqb b (e .block)) (eqb c (e .class)) false) false
 
 -- what f says of the line with this code, block and class, and 0 where there is none: 'An absent line means zeros'
 unfoldable pub lookup : (Entry → ℕ) → List Entry → Code → ℕ → ℕ → ℕ
 lookup f [] k b c = 0
-lookup f (e ∷ es) k b c = pick (same k b c e) (f e) (lookup f es k b c)
+lookup f (e ∷ es) k b c = pick (hasKey k b c e) (f e) (lookup f es k b c)
 
 -- the first amount of a line
 abbrev pub firstOf : Entry → ℕ
@@ -37,9 +39,9 @@ secondOf e = e .second
 abbrev pub markOf : Entry → ℕ
 markOf e = 1
 
--- 'code, block and class stood before'
-abbrev pub stood : List Entry → Code → ℕ → ℕ → Bool
-stood es k b c = ltb 0 (lookup markOf es k b c)
+-- whether one of the lines has this code, block and class
+abbrev pub hasLine : List Entry → Code → ℕ → ℕ → Bool
+hasLine es k b c = ltb 0 (lookup markOf es k b c)
 
 -- the codes whose lines make a block exist
 abbrev pub ofBlock : Code → Bool
@@ -61,11 +63,13 @@ pairs f g (suc n) = pairs f g n ++ (f n ∷ []) ++ (g n ∷ [])
 -- 'The block call takes 17 numbers: seven pairs IR, LT, then PC, credit, market', by the first and the second amounts of lines
 unfoldable pub blockBy : (Code → ℕ → ℕ → ℕ) → (Code → ℕ → ℕ → ℕ) → ℕ → List ℕ
 blockBy first second b =
-    pairs (λ i. first Rsk b (i + 1)) (λ i. second Rsk b (i + 1)) 7 ++ (first Oth b 1 ∷ first Oth b 2 ∷ first Oth b 3 ∷ [])
+    pairs (λ i. first Rsk b (i + 1)) (λ i. second Rsk b (i + 1)) riskClasses ++ (first Oth b 1 ∷ first Oth b 2 ∷ first Oth b 3 ∷ [])
 
 -- 'a list of 16 numbers per territory (eight pairs)', current and prior of classes 1 to 8, for territories 1 to 16
 unfoldable pub volumesBy : (Code → ℕ → ℕ → ℕ) → (Code → ℕ → ℕ → ℕ) → List ℕ
-volumesBy first second = pairs (λ i. first Vol (i / 8 + 1) (i % 8 + 1)) (λ i. second Vol (i / 8 + 1) (i % 8 + 1)) 128
+volumesBy first second =
+    pairs (λ i. first Vol (i / volumeClasses + 1) (i % volumeClasses + 1)) (λ i. second Vol (i / volumeClasses + 1) (i % volumeClasses + 1))
+    volumePairs
 
 -- the 17 numbers of a block
 abbrev pub blockOf : List Entry → ℕ → List ℕ
@@ -76,5 +80,5 @@ abbrev pub volumesOf : List Entry → List ℕ
 volumesOf es = volumesBy (lookup firstOf es) (lookup secondOf es)
 
 -- 'GEN: 1 gross components, 2 guarantee requirement, 3 ceded premiums, 4 g, 5 credits'
-abbrev pub general : List Entry → ℕ → ℕ
-general es c = lookup firstOf es Gen 0 c
+abbrev pub generalAmount : List Entry → ℕ → ℕ
+generalAmount es c = lookup firstOf es Gen 0 c

@@ -1,25 +1,43 @@
 // The lines of a sheet read into tables that the caller lends, and the figures that are taken off them.
 //
-// A table has 306 places: a row of 18 for each block, with a column for each class that RSK, OTH and VOL have, and row 0 for GEN.
-// The marks of what stood before are a table of their own, so that lines can be tested with it alone.
+// A table has a row for each block, with a column for each class that RSK, OTH and VOL have, and row 0 for GEN. The marks of the lines
+// that stood before are a table of their own.
 ghost use mathlib.Core.Path.{_≡_};
-ghost use mathlib.Core.List.{[]};
 ghost use Prim.Native.Nat.{_+_, _≤_, _<_};
-ghost use lib.Dec.{ltb};
-ghost use lib.ListN.{length};
-ghost use Rattle.lines.specs.Codes.{Key};
-ghost use Rattle.ledger.specs.Entries.{firstOf, secondOf, markOf, blockBy, volumesBy};
+ghost use Rattle.sheet_line.specs.Codes.{generalClasses, scalarClass, Key};
+ghost use Rattle.guideline.specs.Sizes.{blocks};
+ghost use Rattle.ledger.specs.Entries.{blockBy, volumesBy};
 ghost use Rattle.ledger.specs.Reading.{reading};
-ghost use Rattle.ledger.specs.Tables.{places, columnsBefore, placeOf, table, Filled, Marked, Entered, tabled, blockMarked};
-use lines::Code;
-use lines::Entry;
-use lines::Line;
+ghost use Rattle.ledger.specs.Tables.{places, columnsBefore, indexOf, Empty, Filled, Entered, tabled, hasMark, blockMarked};
+use guideline::BLOCK_NUMBERS;
+use guideline::BLOCKS;
+use guideline::VOLUME_CLASSES;
+use guideline::VOLUME_NUMBERS;
+use guideline::VOLUME_PAIRS;
 use refusal::Place;
+use sheet_line::Code;
+use sheet_line::Entry;
+use sheet_line::Line;
+use sheet_line::SHEET_LINE_BYTES;
+use sheet_line::codes::GENERAL_CLASSES;
+use sheet_line::codes::OTHER_CLASSES;
+use sheet_line::codes::RISK_CLASSES;
+use sheet_line::codes::SCALAR_CLASS;
 
-const LINE_BYTES: usize = 40;
+// The places of a block's RSK and OTH lines, which begin its row.
+const BLOCK_PLACES: usize = RISK_CLASSES + OTHER_CLASSES;
+
+// The lines that a sheet can have, one for each code, block and class.
+pub const MOST_LINES: usize = BLOCKS * BLOCK_PLACES + VOLUME_PAIRS + GENERAL_CLASSES;
+
+// The bytes of that many lines.
+pub const LONGEST_SHEET: usize = SHEET_LINE_BYTES * MOST_LINES;
 
 // The places of a row.
-const ROW: usize = 18;
+const ROW_PLACES: usize = BLOCK_PLACES + VOLUME_CLASSES;
+
+// The places of a table.
+pub const PLACES: usize = ROW_PLACES * (BLOCKS + 1);
 
 // A sheet's lines are all good, and this is how many there are; or the first bad one is refused.
 pub enum Answer {
@@ -27,24 +45,28 @@ pub enum Answer {
     Refused(u8, Place),
 }
 
-// Reads the whole lines of a sheet, one after the other, up to the first bad one.
-pub fn read_lines(sheet: &[u8], firsts: &mut [u64], seconds: &mut [u64], marks: &mut [u8]) -> Answer
-    requires { ⌜ now firsts ≡ table firstOf [] ⌝ }
-    requires { ⌜ now seconds ≡ table secondOf [] ⌝ }
-    requires { ⌜ now marks ≡ table markOf [] ⌝ }
+// Reads the lines of a sheet one after the other, up to the first bad one.
+pub fn read_lines(
+    sheet: &[u8],
+    firsts: &mut [u64; PLACES],
+    seconds: &mut [u64; PLACES],
+    marks: &mut [u8; PLACES],
+) -> Answer
+    requires { ⌜ Empty (now firsts) (now seconds) (now marks) ⌝ }
     ensures { λ r. ⌜ Filled (reading (now (sheet .entry))) r (now (firsts .exit)) (now (seconds .exit)) (now (marks .exit)) ⌝ }
 {
-    let n = sheet.len() / LINE_BYTES;
+    let n = sheet.len() / SHEET_LINE_BYTES;
     let mut i = 0;
     while i < n {
-        let from = LINE_BYTES * i;
-        let line = lines::read_line(&sheet[from..from + LINE_BYTES]);
+        let from = SHEET_LINE_BYTES * i;
+        let line = sheet_line::read_line(&sheet[from..from + SHEET_LINE_BYTES]);
         match line {
             Line::Refused(rule) => return Answer::Refused(rule, Place::Line(i + 1)),
             Line::Good(e) => {
-                if !enter(e, firsts, seconds, marks) {
+                if stood_before(e, marks) {
                     return Answer::Refused(11, Place::Line(i + 1));
                 }
+                enter(e, firsts, seconds, marks);
             }
         }
         i += 1;
@@ -52,48 +74,46 @@ pub fn read_lines(sheet: &[u8], firsts: &mut [u64], seconds: &mut [u64], marks: 
     Answer::Accepted(n)
 }
 
-// Puts an entry into the tables where its place is free.
-fn enter(e: Entry, firsts: &mut [u64], seconds: &mut [u64], marks: &mut [u8]) -> bool
+// Rule 11: a line with this entry's code, block and class stood before.
+fn stood_before(e: Entry, marks: &[u8; PLACES]) -> bool
     requires { ⌜ Key (e .code) (e .block) (e .class) ⌝ }
-    requires { ⌜ length (now firsts) ≡ places ⌝ }
-    requires { ⌜ length (now seconds) ≡ places ⌝ }
-    requires { ⌜ length (now marks) ≡ places ⌝ }
-    ensures { λ r. ⌜ Entered e (now (firsts .entry)) (now (seconds .entry)) (now (marks .entry)) r (now (firsts .exit)) (now (seconds .exit)) (now (marks .exit)) ⌝ }
+    ensures { λ r. ⌜ r ≡ hasMark (now (marks .entry)) (e .code) (e .block) (e .class) ⌝ }
 {
     let code = e.code;
-    let at = place_of(code, narrow(e.block), narrow(e.class));
-    if !mark(marks, at) {
-        return false;
-    }
+    has_mark(marks, code, cast::size(e.block), cast::size(e.class))
+}
+
+// Puts an entry into the tables.
+fn enter(
+    e: Entry,
+    firsts: &mut [u64; PLACES],
+    seconds: &mut [u64; PLACES],
+    marks: &mut [u8; PLACES],
+)
+    requires { ⌜ Key (e .code) (e .block) (e .class) ⌝ }
+    ensures { λ _. ⌜ Entered e (now (firsts .entry)) (now (seconds .entry)) (now (marks .entry)) (now (firsts .exit)) (now (seconds .exit)) (now (marks .exit)) ⌝ }
+{
+    let code = e.code;
+    let at = index_of(code, cast::size(e.block), cast::size(e.class));
     firsts[at] = e.first;
     seconds[at] = e.second;
-    true
-}
-
-// Rule 11: marks a place, where it has no mark yet.
-fn mark(marks: &mut [u8], at: usize) -> bool
-    requires { ⌜ at < length (now marks) ⌝ }
-    ensures { λ r. ⌜ Marked (now (marks .entry)) at r (now (marks .exit)) ⌝ }
-{
-    if marks[at] != 0 {
-        return false;
-    }
     marks[at] = 1;
-    true
 }
 
-fn narrow(x: u64) -> usize
-    ensures { λ r. ⌜ r ≡ x ⌝ }
-{
-    x as usize
-}
-
-// The place of a code, block and class in each table.
-fn place_of(code: Code, block: usize, class: usize) -> usize
+// Whether a code, block and class has a mark.
+fn has_mark(marks: &[u8; PLACES], code: Code, block: usize, class: usize) -> bool
     requires { ⌜ Key code block class ⌝ }
-    ensures { λ r. ⌜ (r ≡ placeOf code block class) × (r < places) ⌝ }
+    ensures { λ r. ⌜ r ≡ hasMark (now (marks .entry)) code block class ⌝ }
 {
-    ROW * block + columns_before(code) + class - 1
+    0 < marks[index_of(code, block, class)]
+}
+
+// The index of a code, block and class in each table.
+fn index_of(code: Code, block: usize, class: usize) -> usize
+    requires { ⌜ Key code block class ⌝ }
+    ensures { λ r. ⌜ (r ≡ indexOf code block class) × (r < places) ⌝ }
+{
+    ROW_PLACES * block + columns_before(code) + class - 1
 }
 
 // The columns of a row before those of a code.
@@ -102,43 +122,43 @@ fn columns_before(code: Code) -> usize
 {
     match code {
         Code::Rsk => 0,
-        Code::Oth => 7,
-        Code::Vol => 10,
+        Code::Oth => RISK_CLASSES,
+        Code::Vol => BLOCK_PLACES,
         Code::Gen => 0,
     }
 }
 
-// The 17 numbers of a block, in the order of the block call: seven pairs IR, LT, then PC, credit, market.
-pub fn block_numbers(firsts: &[u64], seconds: &[u64], block: usize) -> [u64; 17]
-    requires { ⌜ (1 ≤ block) × (block ≤ 16) ⌝ }
-    requires { ⌜ length (now firsts) ≡ places ⌝ }
-    requires { ⌜ length (now seconds) ≡ places ⌝ }
+// The numbers of a block, in the order of the block call: seven pairs IR, LT, then PC, credit, market.
+pub fn block_numbers(
+    firsts: &[u64; PLACES],
+    seconds: &[u64; PLACES],
+    block: usize,
+) -> [u64; BLOCK_NUMBERS]
+    requires { ⌜ (1 ≤ block) × (block ≤ blocks) ⌝ }
     ensures { λ r. ⌜ r ≡ blockBy (tabled (now (firsts .entry))) (tabled (now (seconds .entry))) block ⌝ }
 {
-    let mut numbers = [0u64; 17];
+    let mut numbers = [0u64; BLOCK_NUMBERS];
     let mut i = 0;
-    while i < 7 {
-        let at = place_of(Code::Rsk, block, i + 1);
+    while i < RISK_CLASSES {
+        let at = index_of(Code::Rsk, block, i + 1);
         numbers[2 * i] = firsts[at];
         numbers[2 * i + 1] = seconds[at];
         i += 1;
     }
-    numbers[14] = firsts[place_of(Code::Oth, block, 1)];
-    numbers[15] = firsts[place_of(Code::Oth, block, 2)];
-    numbers[16] = firsts[place_of(Code::Oth, block, 3)];
+    numbers[14] = firsts[index_of(Code::Oth, block, 1)];
+    numbers[15] = firsts[index_of(Code::Oth, block, 2)];
+    numbers[16] = firsts[index_of(Code::Oth, block, 3)];
     numbers
 }
 
 // The volumes of all territories, eight pairs current, prior each.
-pub fn volume_numbers(firsts: &[u64], seconds: &[u64]) -> [u64; 256]
-    requires { ⌜ length (now firsts) ≡ places ⌝ }
-    requires { ⌜ length (now seconds) ≡ places ⌝ }
+pub fn volume_numbers(firsts: &[u64; PLACES], seconds: &[u64; PLACES]) -> [u64; VOLUME_NUMBERS]
     ensures { λ r. ⌜ r ≡ volumesBy (tabled (now (firsts .entry))) (tabled (now (seconds .entry))) ⌝ }
 {
-    let mut numbers = [0u64; 256];
+    let mut numbers = [0u64; VOLUME_NUMBERS];
     let mut i = 0;
-    while i < 128 {
-        let at = place_of(Code::Vol, i / 8 + 1, i % 8 + 1);
+    while i < VOLUME_PAIRS {
+        let at = index_of(Code::Vol, i / VOLUME_CLASSES + 1, i % VOLUME_CLASSES + 1);
         numbers[2 * i] = firsts[at];
         numbers[2 * i + 1] = seconds[at];
         i += 1;
@@ -146,15 +166,14 @@ pub fn volume_numbers(firsts: &[u64], seconds: &[u64]) -> [u64; 256]
     numbers
 }
 
-// Whether a block has an RSK or OTH line: their ten columns begin its row.
-pub fn block_exists(marks: &[u8], block: usize) -> bool
-    requires { ⌜ (1 ≤ block) × (block ≤ 16) ⌝ }
-    requires { ⌜ length (now marks) ≡ places ⌝ }
+// Whether a block has an RSK or OTH line: their columns begin its row.
+pub fn block_exists(marks: &[u8; PLACES], block: usize) -> bool
+    requires { ⌜ (1 ≤ block) × (block ≤ blocks) ⌝ }
     ensures { λ r. ⌜ r ≡ blockMarked (now (marks .entry)) block ⌝ }
 {
-    let row = place_of(Code::Rsk, block, 1);
+    let row = index_of(Code::Rsk, block, 1);
     let mut i = 0;
-    while i < 10 {
+    while i < BLOCK_PLACES {
         if marks[row + i] != 0 {
             return true;
         }
@@ -164,18 +183,16 @@ pub fn block_exists(marks: &[u8], block: usize) -> bool
 }
 
 // The amount of a GEN line.
-pub fn general_amount(firsts: &[u64], class: usize) -> u64
-    requires { ⌜ (1 ≤ class) × (class ≤ 5) ⌝ }
-    requires { ⌜ length (now firsts) ≡ places ⌝ }
+pub fn general_amount(firsts: &[u64; PLACES], class: usize) -> u64
+    requires { ⌜ (1 ≤ class) × (class ≤ generalClasses) ⌝ }
     ensures { λ r. ⌜ r ≡ tabled (now (firsts .entry)) Code.Gen 0 class ⌝ }
 {
-    firsts[place_of(Code::Gen, 0, class)]
+    firsts[index_of(Code::Gen, 0, class)]
 }
 
-// Whether the scalar's line, GEN class 4, is there.
-pub fn scalar_stands(marks: &[u8]) -> bool
-    requires { ⌜ length (now marks) ≡ places ⌝ }
-    ensures { λ r. ⌜ r ≡ ltb 0 (tabled (now (marks .entry)) Code.Gen 0 4) ⌝ }
+// Whether the sheet has the scalar's line.
+pub fn has_scalar(marks: &[u8; PLACES]) -> bool
+    ensures { λ r. ⌜ r ≡ hasMark (now (marks .entry)) Code.Gen 0 scalarClass ⌝ }
 {
-    0 < marks[place_of(Code::Gen, 0, 4)]
+    has_mark(marks, Code::Gen, 0, SCALAR_CLASS)
 }

@@ -1,4 +1,4 @@
--- Rules 15 and 7, by what the call's tests find. Assumes nothing.
+-- Rules 15 and 7 of the operational call, by what its tests find; the general figures' positions follow the volumes'. Assumes nothing.
 use mathlib.Core.Path.{_≡_, sym, ap, _∙_}
 use mathlib.Core.List.{List, [], _∷_, _++_}
 use Prim.Native.Nat.{ℕ, _+_, _%_, _≤_, _<_}
@@ -9,14 +9,15 @@ use Rattle.refusal.specs.Outcome.Outcome.{accepted, refused}
 use Rattle.refusal.specs.declared.Place.the-variants.{Position}
 use Rattle.amount.specs.Amount.{firstAbove}
 use Rattle.amount.proofs.Amounts.{none-above, first-in, first-after}
-use Rattle.guideline.specs.Operational.{Amounts, RO}
+use Rattle.guideline.specs.Sizes.{territoryNumbers, volumeNumbers}
+use Rattle.guideline.specs.Operational.{OperationalAmounts, RO}
 use Rattle.operational.specs.Call.{rule7, operationalCall}
 
 module _ (l g : List ℕ) where
   -- rule 15 passes
-  pub whole : length l ≤ 256 → length l % 16 ≡ 0 → operationalCall l g ≡ rule7 l g
+  pub passed-15 : length l ≤ volumeNumbers → length l % territoryNumbers ≡ 0 → operationalCall l g ≡ rule7 l g
   unfolding operationalCall
-  whole h e = if-ge _ h ∙ if-eq _ e
+  passed-15 h e = if-ge _ h ∙ if-eq _ e
 
   -- rule 7 at a position of the volumes
   pub in-volumes : {r : ℕ} → r ≡ firstAbove l → r < length l → rule7 l g ≡ refused 7 (Position r)
@@ -39,13 +40,13 @@ module _ (l g : List ℕ) where
         if-lt _ i ∙ ap (λ (x : ℕ). refused 7 (Position x)) last
 
     -- at none
-    pub passed : length g ≤ s → rule7 l g ≡ accepted (RO l g ∷ [])
+    pub passed-7 : length g ≤ s → rule7 l g ≡ accepted (RO l g ∷ [])
     unfolding rule7
-    passed k =
+    passed-7 k =
         let i : length (l ++ g) ≤ firstAbove (l ++ g) = omega (arith, last, length-append l g) in
         if-ge _ i
 
-    pub amounts : length l ≤ 256 → length g ≤ s → Amounts l g
+    pub amounts : length l ≤ volumeNumbers → length g ≤ s → OperationalAmounts l g
     amounts n k =
         let v = none-above l (omega arith) in
         let w = none-above g (omega arith) in

@@ -9,6 +9,7 @@ use Rattle.amount.specs.Amount.{firstAbove}
 use Rattle.refusal.specs.Outcome.{Outcome}
 use Rattle.refusal.specs.Outcome.Outcome.{accepted, refused}
 use Rattle.refusal.specs.declared.Place.the-variants.{Position, Nowhere}
+use Rattle.guideline.specs.Sizes.{territoryNumbers, volumeNumbers}
 use Rattle.guideline.specs.Operational.{RO}
 use Rattle.operational.specs.declared.OperationalAnswer.{OperationalAnswer}
 use Rattle.operational.specs.declared.OperationalAnswer.the-variants.{Accepted, Refused}
@@ -26,4 +27,4 @@ rule7 l g =
 -- rule 15, 'longer than 256 numbers or not a multiple of 16', and then rule 7
 unfoldable pub operationalCall : List ℕ → List ℕ → Outcome
 operationalCall l g =
-    pick (ltb 256 (length l)) (refused 15 Nowhere) (pick (eqb (length l % 16) 0) (rule7 l g) (refused 15 Nowhere))
+    pick (ltb volumeNumbers (length l)) (refused 15 Nowhere) (pick (eqb (length l % territoryNumbers) 0) (rule7 l g) (refused 15 Nowhere))

@@ -1,4 +1,3 @@
-pub mod Listed
-pub mod Filled
-pub mod Stretches
-pub mod ReadBack
+pub mod Items
+pub mod Tables
+pub mod Reread

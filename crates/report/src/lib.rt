@@ -1,22 +1,113 @@
-// A line of the report.
+// A report, each line written into its own stretch of a lent slice; and the line of a refusal.
 ghost use mathlib.Core.Path.{_≡_};
-ghost use lib.ListN.{length};
-ghost use Rattle.report.specs.Line.{reportLine};
-use field::write_field;
+ghost use mathlib.Core.List.{_++_};
+ghost use Prim.Native.Nat.{_*_, _≤_};
+ghost use lib.ListN.{length, drop};
+ghost use Rattle.refusal.specs.Outcome.{printed};
+ghost use Rattle.guideline.specs.Sizes.{blocks, blockFigures, rowNumbers};
+ghost use Rattle.report_line.specs.Line.{reportLineBytes, printRows};
+ghost use Rattle.report.specs.Rows.{itemsFrom, tableRows, reportBytes, reportLength, refusalLine};
+use guideline::BLOCK_FIGURES;
+use guideline::BLOCKS;
+use guideline::ROW_NUMBERS;
+use guideline::TABLE_NUMBERS;
+use refusal::Place;
+use report_line::REPORT_LINE_BYTES;
 
-// Writes a line into its own stretch of the report: the three numbers, then the code and what stands between them.
-pub fn write_line(out: &mut [u8], code: [u8; 3], block: u64, item: u64, number: u64)
-    requires { ⌜ length (now out) ≡ 29 ⌝ }
-    ensures { λ _. ⌜ now (out .exit) ≡ reportLine code block item number ⌝ }
+// Three lines close a report.
+const TOTALS: usize = 3;
+
+// The bytes of a block's lines.
+const BLOCK_BYTES: usize = REPORT_LINE_BYTES * BLOCK_FIGURES;
+
+// All blocks and the totals.
+pub const LONGEST_REPORT: usize = REPORT_LINE_BYTES * (BLOCK_FIGURES * BLOCKS + TOTALS);
+
+// The length of the report of so many blocks.
+pub fn length_for(count: usize) -> usize
+    requires { ⌜ count ≤ blocks ⌝ }
+    ensures { λ r. ⌜ r ≡ reportLength count ⌝ }
 {
-    write_field(&mut out[4..6], block);
-    write_field(&mut out[7..9], item);
-    write_field(&mut out[10..28], number);
-    out[0] = code[0];
-    out[1] = code[1];
-    out[2] = code[2];
-    out[3] = b' ';
-    out[6] = b' ';
-    out[9] = b' ';
-    out[28] = b'\n';
+    REPORT_LINE_BYTES * (BLOCK_FIGURES * count + TOTALS)
+}
+
+// A whole report: the blocks in the first rows of a table, a block's number and its five figures each, and then the totals.
+pub fn write_report(
+    rows: &[u64; TABLE_NUMBERS],
+    count: usize,
+    sum: u64,
+    ro: u64,
+    buffer: u64,
+    report: &mut [u8],
+)
+    requires { ⌜ (count ≤ blocks) × (reportLength count ≤ length (now report)) ⌝ }
+    ensures { λ _. ⌜ now (report .exit) ≡ reportBytes (now (rows .entry)) count sum ro buffer ++ drop (reportLength count) (now (report .entry)) ⌝ }
+{
+    write_blocks(rows, count, report);
+    let at = BLOCK_BYTES * count;
+    let totals = [sum, ro, buffer];
+    write_items(
+        &mut report[at..at + REPORT_LINE_BYTES * TOTALS],
+        *b"TOT",
+        0,
+        &totals,
+    );
+}
+
+// The blocks, five lines each.
+fn write_blocks(rows: &[u64], count: usize, report: &mut [u8])
+    requires { ⌜ (rowNumbers * count ≤ length (now rows)) × (reportLineBytes * (blockFigures * count) ≤ length (now report)) ⌝ }
+    ensures { λ _. ⌜ now (report .exit) ≡ printRows (tableRows (now (rows .entry)) count) ++ drop (reportLineBytes * (blockFigures * count)) (now (report .entry)) ⌝ }
+{
+    let mut i = 0;
+    while i < count {
+        let at = BLOCK_BYTES * i;
+        let from = ROW_NUMBERS * i;
+        write_items(
+            &mut report[at..at + BLOCK_BYTES],
+            *b"BLK",
+            rows[from],
+            &rows[from + 1..from + ROW_NUMBERS],
+        );
+        i += 1;
+    }
+}
+
+// Lines of one code and block, items 1 and up, each into its own stretch.
+fn write_items(out: &mut [u8], code: [u8; 3], block: u64, numbers: &[u64])
+    requires { ⌜ length (now out) ≡ reportLineBytes * length (now numbers) ⌝ }
+    ensures { λ _. ⌜ now (out .exit) ≡ printRows (itemsFrom 1 code block (now (numbers .entry))) ⌝ }
+{
+    let mut k = 0;
+    while k < numbers.len() {
+        let at = REPORT_LINE_BYTES * k;
+        let item = cast::word(k + 1);
+        report_line::write_line(
+            &mut out[at..at + REPORT_LINE_BYTES],
+            code,
+            block,
+            item,
+            numbers[k],
+        );
+        k += 1;
+    }
+}
+
+// The line of a refusal.
+pub fn write_refusal(out: &mut [u8], number: u8, place: Place)
+    requires { ⌜ length (now out) ≡ reportLineBytes ⌝ }
+    ensures { λ _. ⌜ now (out .exit) ≡ refusalLine number place ⌝ }
+{
+    report_line::write_line(out, *b"REF", cast::byte(number), 0, place_number(place));
+}
+
+// What is printed of a place.
+fn place_number(place: Place) -> u64
+    ensures { λ r. ⌜ r ≡ printed place ⌝ }
+{
+    match place {
+        Place::Line(n) => cast::word(n),
+        Place::Position(n) => cast::word(n),
+        Place::Nowhere => 0,
+    }
 }

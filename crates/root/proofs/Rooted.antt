@@ -1,16 +1,13 @@
 -- A root found one binary digit at a time: what holds between two steps, and the root rounded up. Assumes nothing.
 use mathlib.Core.Path.{_≡_, sym, ap, _∙_}
 use Prim.Native.Nat.{ℕ, suc, _+_, _-_, _*_, _/_, _%_, _^_, _≤_, _<_}
-use native.Mathlib.Nat.{lt-of-not-le, not-le-of-lt, mul-le-mul, pow-succ', div-le-self, div-div-eq-div-mul, div-eq-of-lt, mul-comm}
+use native.Mathlib.Nat.{pow-succ', div-le-self, div-div-eq-div-mul, div-eq-of-lt, mul-comm}
 use native.Mathlib.Omega.{arith}
 use lib.Dec.{leb}
 use Rattle.search.specs.Least.{least}
 use Rattle.search.proofs.LeastOf.{root-eq}
-use Rattle.root.specs.Pairs.{pairs, pairs-of}
-
--- of two squares the smaller has the smaller root
-square-lt : (a b : ℕ) → a * a < b * b → a < b
-square-lt a b h = lt-of-not-le (λ k. not-le-of-lt h (mul-le-mul k k))
+use Rattle.search.proofs.Roots.{lt-of-squares}
+use Rattle.root.specs.BaseFour.{digitCount, has-digits}
 
 -- with `left` steps to go, r is the rounded-down root of n's digits above the last `left` in base 4, and s what its
 -- square leaves of them
@@ -18,13 +15,8 @@ pub record Between (n r s left : ℕ) : Type 0 where
   pub square : r * r + s ≡ n / 4 ^ left
   pub small : s ≤ 2 * r
 
-pub at-start : (n k : ℕ) → k ≡ pairs n → Between n 0 0 k
-at-start n k e = record { square = rw e (sym (div-eq-of-lt (pairs-of n .under))); small = omega arith }
-
-pub counted : (n r s k : ℕ) → 0 < k → Between n r s k → Between n r s (suc (k - 1))
-counted n r s k h w =
-    let e : suc (k - 1) ≡ k = omega arith in
-    rw e w
+pub at-start : (n k : ℕ) → k ≡ digitCount n → Between n 0 0 k
+at-start n k e = record { square = rw e (sym (div-eq-of-lt (has-digits n .no-more))); small = omega arith }
 
 -- the digits above the last m, from those above the last m + 1
 one-more : (n m : ℕ) → n / 4 ^ m ≡ 4 * (n / 4 ^ suc m) + n / 4 ^ m % 4
@@ -32,7 +24,9 @@ one-more n m =
     let e : n / 4 ^ m / 4 ≡ n / 4 ^ suc m = div-div-eq-div-mul n (4 ^ m) 4 ∙ ap (λ (x : ℕ). n / x) (mul-comm (4 ^ m) 4 ∙ sym (pow-succ' 4 m)) in
     omega arith
 
-pub step : (n r s m d r′ s′ : ℕ) → Between n r s (suc m) → d ≡ n / 4 ^ m % 4 → r′ * r′ + s′ ≡ 4 * (r * r + s) + d → s′ ≤ 2 * r′ → Between n r′ s′ m
+pub step :
+    (n r s m d r′ s′ : ℕ) → Between n r s (suc m) → d ≡ n / 4 ^ m % 4 → r′ * r′ + s′ ≡ 4 * (r * r + s) + d → s′ ≤ 2 * r′ →
+    Between n r′ s′ m
 step n r s m d r′ s′ w f e h = record { square = omega (arith, one-more n m, w .square); small = h }
 
 -- with a step to go, the root so far of a number below 2 ^ 124 has 61 binary digits
@@ -40,9 +34,9 @@ pub root-small : (n r s m : ℕ) → n < 2 ^ 124 → Between n r s (suc m) → r
 root-small n r s m h w =
     let e : n / 4 ^ suc m ≡ n / 4 / 4 ^ m = ap (λ (x : ℕ). n / x) (pow-succ' 4 m) ∙ sym (div-div-eq-div-mul n 4 (4 ^ m)) in
     let l : n / 4 / 4 ^ m ≤ n / 4 = div-le-self (n / 4) (4 ^ m) in
-    square-lt r (2 ^ 61) (omega (arith, w .square))
+    lt-of-squares r (2 ^ 61) (omega (arith, w .square))
 
--- the root rounded up, from the root and the rest of the whole
+-- the root rounded up, from the root and the rest of all digits
 module _ (n r s m : ℕ) (ends : m ≤ 0) (w : Between n r s m) (fits : n < 2 ^ 124) where
   ended : n ≡ r * r + s
   ended =
@@ -50,10 +44,10 @@ module _ (n r s m : ℕ) (ends : m ≤ 0) (w : Between n r s m) (fits : n < 2 ^ 
       omega (arith, rw e at (w .square))
 
   pub root-room : r < 2 ^ 62
-  root-room = square-lt r (2 ^ 62) (omega (arith, ended))
+  root-room = lt-of-squares r (2 ^ 62) (omega (arith, ended))
 
-  pub whole-root : s ≤ 0 → r ≡ least (λ x. leb n (x * x))
-  whole-root h =
+  pub exact-root : s ≤ 0 → r ≡ least (λ x. leb n (x * x))
+  exact-root h =
       sym
       (root-eq n r (omega (arith, root-room)) (omega (arith, ended))
       (λ p.

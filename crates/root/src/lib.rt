@@ -4,7 +4,7 @@ ghost use Prim.Native.Nat.{_+_, _*_, _/_, _%_, _^_, _<_, _≤_};
 ghost use lib.Dec.{leb};
 ghost use Rattle.search.specs.Least.{least};
 ghost use Rattle.wide.specs.Value.{value};
-ghost use Rattle.root.specs.Pairs.{pairs};
+ghost use Rattle.root.specs.BaseFour.{digitCount};
 use wide::Wide;
 
 // The least whole number whose square is at least n. Below 2^124 the root and what its square leaves fit a word at each step.
@@ -12,12 +12,12 @@ pub fn root_up(n: Wide) -> u64
     requires { ⌜ value n < 2 ^ 124 ⌝ }
     ensures { λ r. ⌜ r ≡ least (λ x. leb (value n) (x * x)) ⌝ }
 {
-    let mut left = pairs_of(n);
+    let mut left = count_digits(n);
     let mut root = 0u64;
     let mut rest = 0u64;
     while 0 < left {
         left -= 1;
-        let s = root_step(root, rest, pair_at(n, left));
+        let s = root_step(root, rest, digit_at(n, left));
         root = s.root;
         rest = s.rest;
     }
@@ -25,25 +25,25 @@ pub fn root_up(n: Wide) -> u64
 }
 
 // What is held between two steps: the root so far, and what its square leaves.
-struct Held {
+struct PartialRoot {
     root: u64,
     rest: u64,
 }
 
 // One binary digit of the root: two binary digits of the radicand are brought down.
-fn root_step(root: u64, rest: u64, digits: u64) -> Held
+fn root_step(root: u64, rest: u64, digits: u64) -> PartialRoot
     requires { ⌜ (rest ≤ 2 * root) × (root < 2 ^ 61) × (digits < 4) ⌝ }
     ensures { λ r. ⌜ (r .root * r .root + r .rest ≡ 4 * (root * root + rest) + digits) × (r .rest ≤ 2 * r .root) ⌝ }
 {
     let next = 4 * rest + digits;
     let odd = 4 * root + 1;
     if odd <= next {
-        Held {
+        PartialRoot {
             root: 2 * root + 1,
             rest: next - odd,
         }
     } else {
-        Held {
+        PartialRoot {
             root: 2 * root,
             rest: next,
         }
@@ -51,7 +51,7 @@ fn root_step(root: u64, rest: u64, digits: u64) -> Held
 }
 
 // The digit of n in base 4 above its last m: two binary digits, which stand in one word.
-fn pair_at(n: Wide, m: u32) -> u64
+fn digit_at(n: Wide, m: u32) -> u64
     requires { ⌜ m < 64 ⌝ }
     ensures { λ r. ⌜ r ≡ value n / 4 ^ m % 4 ⌝ }
 {
@@ -65,8 +65,8 @@ fn pair_at(n: Wide, m: u32) -> u64
 }
 
 // How many digits n has in base 4: half its binary length, padded to an even number.
-fn pairs_of(n: Wide) -> u32
-    ensures { λ r. ⌜ r ≡ pairs (value n) ⌝ }
+fn count_digits(n: Wide) -> u32
+    ensures { λ r. ⌜ r ≡ digitCount (value n) ⌝ }
 {
     let high = n.high;
     let low = n.low;

@@ -2,4 +2,9 @@ pub mod Picks
 pub mod LeastOf
 pub mod Firsts
 pub mod Values
-pub mod AtMost
+pub mod Eaches
+pub mod Ascents
+pub mod Stretches
+pub mod Roots
+pub mod Tests
+pub mod Counts

@@ -2,6 +2,7 @@
 use mathlib.Core.Path.{_≡_, refl}
 use mathlib.Core.Bool.{Bool, true, false}
 use Prim.Native.Nat.{ℕ, _≤_, _<_}
+use native.Mathlib.Omega.{arith}
 use lib.Dec.{ltb, eqb}
 use borrow.Author.Tests.{lt-ltb, le-ltb, eq-eqb, ne-eqb}
 use Rattle.search.specs.Pick.{pick}
@@ -32,3 +33,7 @@ module _ {ℓ} {A : Type ℓ} where
   unfolding pick
   by-test P true a b h k = h refl
   by-test P false a b h k = k refl
+
+-- what follows where two constructors would be equal: `cc` makes the premise of that
+pub never {ℓ} : {A : Type ℓ} → _≡_ {A = ℕ} 0 1 → A
+never e = absurd (let z : ⊥ = omega arith in z)

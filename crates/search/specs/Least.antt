@@ -26,6 +26,11 @@ pub record Least (P : ℕ → Bool) (n : ℕ) : Type 0 where
   pub passes : T (P n)
   pub first : (m : ℕ) → T (P m) → n ≤ m
 
+-- `n` is the least of all whole numbers with the property `P`
+pub record LeastWith (P : ℕ → Type 0) (n : ℕ) : Type 0 where
+  pub reaches : P n
+  pub first : (m : ℕ) → P m → n ≤ m
+
 -- what passes goes on to pass
 abbrev pub Upwards : (ℕ → Bool) → Type 0
 Upwards P = (m n : ℕ) → m ≤ n → T (P m) → T (P n)

@@ -1,3 +1,5 @@
 pub mod Pick
 pub mod Least
 pub mod First
+pub mod Each
+pub mod Ascending

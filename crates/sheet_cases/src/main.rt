@@ -3,35 +3,49 @@
 // with '#' before the call, and written whole after it.
 ghost use Prim.Native.Nat.{_<_};
 use aggregate::SheetAnswer;
+use ledger::LONGEST_SHEET;
 use libc::STDIN_FILENO;
 use libc::STDOUT_FILENO;
 use refusal::Place;
+use report::LONGEST_REPORT;
+use report_line::REPORT_LINE_BYTES;
+
+// The bytes of a case's header.
+const HEADER: usize = 12;
+
+// A byte more than the longest sheet.
+const SHEET_ROOM: usize = LONGEST_SHEET + 1;
+
+// Room for the longest report and more.
+const REPORT_ROOM: usize = LONGEST_REPORT + 93;
 
 // What a case's header says.
 struct Header {
-    there: bool,
+    found: bool,
     length: usize,
     lent: usize,
 }
 
+// Runs case after case.
 fn main() {
     // more cases than this would be cut off, and the comparison would show it
     let mut left = 1000usize;
     while 0 < left {
         left -= 1;
         let h = next_case();
-        if !h.there {
+        if !h.found {
             return;
         }
         one(h.length, h.lent);
     }
 }
 
+// The header of the next case.
 fn next_case() -> Header {
-    let mut text = [0u8; 12];
+    let mut text = [0u8; HEADER];
     let got = io::read_full(STDIN_FILENO, &mut text);
     Header {
-        there: got == 12,
+        found: got == HEADER,
         length: number(&text, 0),
         lent: number(&text, 6),
     }
@@ -49,27 +63,29 @@ fn number(text: &[u8], from: usize) -> usize {
         + digit(text, from + 4)
 }
 
+// The digit at a place; 0 past the end.
 fn digit(text: &[u8], at: usize) -> usize
     ensures { λ r. ⌜ r < 10 ⌝ }
 {
     if text.len() <= at {
         return 0;
     }
-    wide(text[at]) % 10
+    decimal(text[at]) % 10
 }
 
 // A digit's byte, so that its remainder by 10 is the digit.
-fn wide(b: u8) -> usize {
+fn decimal(b: u8) -> usize {
     if b < 48 { 0 } else { (b - 48) as usize }
 }
 
-// One case: the longest sheet and a byte more, and room for the longest report and more.
+// One case.
 fn one(length: usize, lent: usize) {
-    let mut sheet = [0u8; 11721];
-    let mut room = [b'#'; 2500];
+    let mut sheet = [0u8; SHEET_ROOM];
+    let mut room = [b'#'; REPORT_ROOM];
     run(&mut sheet, length, &mut room, lent);
 }
 
+// Reads the sheet, calls, and writes answer and room.
 fn run(sheet: &mut [u8], length: usize, room: &mut [u8], lent: usize) {
     if sheet.len() < length {
         return;
@@ -90,36 +106,30 @@ fn run(sheet: &mut [u8], length: usize, room: &mut [u8], lent: usize) {
 fn tell(answer: SheetAnswer) {
     match answer {
         SheetAnswer::Accepted(n) => {
-            line(*b"ACC", 0, 0, size(n));
+            line(*b"ACC", 0, 0, cast::word(n));
         }
         SheetAnswer::Refused(n, p) => match p {
             Place::Line(at) => {
-                line(*b"REF", rule(n), 1, size(at));
+                line(*b"REF", cast::byte(n), 1, cast::word(at));
             }
             Place::Position(at) => {
-                line(*b"REF", rule(n), 2, size(at));
+                line(*b"REF", cast::byte(n), 2, cast::word(at));
             }
             Place::Nowhere => {
-                line(*b"REF", rule(n), 0, 0);
+                line(*b"REF", cast::byte(n), 0, 0);
             }
         },
     }
 }
 
-fn size(n: usize) -> u64 {
-    n as u64
-}
-
-fn rule(n: u8) -> u64 {
-    n as u64
-}
-
+// One line of an answer.
 fn line(code: [u8; 3], block: u64, item: u64, number: u64) {
-    let mut text = [0u8; 29];
-    report::write_line(&mut text, code, block, item, number);
-    show(&text, 29);
+    let mut text = [0u8; REPORT_LINE_BYTES];
+    report_line::write_line(&mut text, code, block, item, number);
+    show(&text, REPORT_LINE_BYTES);
 }
 
+// The first n bytes of a text.
 fn show(text: &[u8], n: usize) {
     if n <= text.len() {
         io::write_all(STDOUT_FILENO, &text[0..n]);

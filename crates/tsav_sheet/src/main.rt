@@ -1,9 +1,13 @@
 // tsav-sheet: reads a sheet from standard input and writes its report, or the line of its refusal. A read or a write that fails is
 // said on standard error; a sheet that could not be read gets neither a report nor a refusal.
-use aggregate::SheetAnswer;
+use ledger::LONGEST_SHEET;
 use libc::STDERR_FILENO;
 use libc::STDIN_FILENO;
 use libc::STDOUT_FILENO;
+use report::LONGEST_REPORT;
+
+// One byte more than the longest sheet, so that a sheet that is too long is seen to be.
+const SHEET_ROOM: usize = LONGEST_SHEET + 1;
 
 // How many bytes were read, to the end of the input or until the room was full.
 enum Got {
@@ -11,9 +15,9 @@ enum Got {
     Failed,
 }
 
-// One byte more than the longest sheet, so that a sheet that is too long is seen to be.
+// Reads, has it answered, and writes.
 fn main() {
-    let mut sheet = [0u8; 11721];
+    let mut sheet = [0u8; SHEET_ROOM];
     let got = read_sheet(&mut sheet);
     match got {
         Got::Bytes(n) => {
@@ -23,10 +27,12 @@ fn main() {
     }
 }
 
+// Said where a sheet could not be read.
 fn say_unread() {
     io::write_all(STDERR_FILENO, b"tsav-sheet: the sheet cannot be read\n");
 }
 
+// Reads to the end of the input, or until the room is full.
 fn read_sheet(sheet: &mut [u8]) -> Got {
     let mut at = 0usize;
     while at < sheet.len() {
@@ -43,23 +49,19 @@ fn read_sheet(sheet: &mut [u8]) -> Got {
     Got::Bytes(at)
 }
 
-// The first n bytes are the sheet. The longest report has 83 lines of 29 bytes.
+// The first n bytes are the sheet; what is printed of it is fixed by `print_sheet`.
 fn answer(bytes: &[u8], n: usize) {
     if bytes.len() < n {
         return say_unread();
     }
-    let mut report = [0u8; 2407];
-    let given = aggregate::sheet_call(&bytes[0..n], &mut report);
-    match given {
-        SheetAnswer::Accepted(length) => {
-            put(&report, length);
-        }
-        SheetAnswer::Refused(number, place) => {
-            let mut line = [0u8; 29];
-            writing::write_refusal(&mut line, number, place);
-            put(&line, 29);
-        }
-    }
+    let mut room = [0u8; LONGEST_REPORT];
+    let length = aggregate::print_sheet(&bytes[0..n], &mut room);
+    put_room(&room, length);
+}
+
+// The first n bytes of the room.
+fn put_room(room: &[u8; LONGEST_REPORT], n: usize) {
+    put(room, n);
 }
 
 // The first n bytes of a text, to standard output: a path that does not write them says so.

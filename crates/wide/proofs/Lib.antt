@@ -1,4 +1,1 @@
-pub mod Words
-pub mod Long
-pub mod Sign
-pub mod Size
+-- Each module's laws stand in its folder.

@@ -63,8 +63,8 @@ fn sound_block(random: &mut Random) -> [u64; BLOCK_NUMBERS] {
 /// The volumes and the general figures of operational call `index` of `seed`: sound, with faults, or of any size.
 pub fn operational_numbers(seed: u64, index: u64) -> (Vec<u64>, [u64; GENERAL_NUMBERS]) {
     let mut random = Random::new(seed, index);
-    let any = random.at(MOST_BLOCKS + 1);
-    let territories = random.pick(&[0, 1, 1, 2, MOST_BLOCKS, any, any]);
+    let any = random.at(MOST_TERRITORIES + 1);
+    let territories = random.pick(&[0, 1, 1, 2, MOST_TERRITORIES, any, any]);
     let (style, density) = (random.below(STYLES + 1), random.from(1, 8));
     let mut list = Vec::new();
     for _ in 0..VOLUME_CLASSES * territories {

@@ -23,8 +23,11 @@ pub use sheet::{all_lines, report_length, report_line, sheet_call, sheet_line};
 /// "What the calculator holds": all amounts are whole cents, 0 to 99,999,999,999,999.
 pub const LARGEST_AMOUNT: u64 = 99_999_999_999_999;
 
-/// Blocks, and territories, are numbered 1 to 16.
+/// Blocks are numbered 1 to 16.
 pub const MOST_BLOCKS: usize = 16;
+
+/// Territories with volumes.
+pub const MOST_TERRITORIES: usize = 16;
 
 /// "A block": the risks. The last is expenses, whose LT is 0.
 pub const RISKS: usize = 7;
@@ -41,7 +44,7 @@ pub const VOLUME_CLASSES: usize = 8;
 pub const TERRITORY_NUMBERS: usize = 2 * VOLUME_CLASSES;
 
 /// "Operational risk": the volumes of all territories.
-pub const MOST_VOLUMES: usize = MOST_BLOCKS * TERRITORY_NUMBERS;
+pub const MOST_VOLUMES: usize = MOST_TERRITORIES * TERRITORY_NUMBERS;
 
 /// "Operational risk": gross components, guarantee requirement, ceded premiums.
 pub const GENERAL_NUMBERS: usize = 3;

@@ -178,7 +178,7 @@ pub(crate) fn ranges(code: &[u8]) -> Option<(RangeInclusive<u64>, RangeInclusive
     match code {
         b"RSK" => Some((blocks, 1..=RISKS as u64)),
         b"OTH" => Some((blocks, 1..=3)),
-        b"VOL" => Some((blocks, 1..=VOLUME_CLASSES as u64)),
+        b"VOL" => Some((1..=MOST_TERRITORIES as u64, 1..=VOLUME_CLASSES as u64)),
         b"GEN" => Some((0..=0, 1..=GENERAL_CLASSES as u64)),
         _ => None,
     }

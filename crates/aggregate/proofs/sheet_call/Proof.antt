@@ -1,50 +1,60 @@
--- `aggregate::sheet_call` meets its contract, demand 3 with it. Assumes nothing.
-use mathlib.Core.Path.{refl}
+-- What judging tells is what the judgement has to tell, so each arm is the call's: a refusal, rule 14, or the report. Assumes nothing.
+use mathlib.Core.Path.{_≡_, refl, sym, ap, _∙_}
+use mathlib.Core.List.{List, []}
+use Prim.Native.Nat.{ℕ}
 use borrow.Author.Needs.{needs}
-use borrow.Author.Tests.{not-true, not-false}
 use Rattle.ledger.specs.Tables.{table}
-use Rattle.aggregate.proofs.Steps.{promised, too-long, not-whole, bad-line, no-scalar, tables, concluded}
+use Rattle.judgement.specs.Judgement.{judgement, findings, stated}
+use Rattle.judgement.specs.declared.Verdict.{Verdict}
+use Rattle.aggregate.proofs.Rules.{promised, turned, few, too-short, reported}
 use Rattle.aggregate.proofs.sheet_call.Statement.{statement}
 use Rattle.aggregate.proofs.sheet_call.Tie as tie
 
-returns : tie.Need-returns
-returns c = promised _ _ _ (too-long _ _ (c .if1 .taken))
+judge-requires : tie.Need-judge-requires
+unfolding table
+judge-requires c κs = record { first = refl; second = refl; mark = refl }
+
+-- the table of rows after judging, and what it tells
+abbrev rows : tie.After-judge → List ℕ
+rows c = c .judge .last .1 .1 .1 .1 .0
+
+tells : (c : tie.After-judge) (a : Verdict) → c .judge .result ≡ a → stated a (rows c) ≡ findings (judgement (c .before .before .before .before .before .before .before .args .sheet .now))
+tells c a e = sym (ap (λ (r : Verdict). stated r (rows c)) e) ∙ c .judge .ensures .0
 
 returns-2 : tie.Need-returns-2
-returns-2 c = promised _ _ _ (not-whole _ _ (c .before .if1 .left) (c .if2 .taken))
+returns-2 c = promised _ _ _ (turned _ _ _ _ (tells (c .before .before .before) _ (c .before .verdict .given .1)))
 
-read-lines-requires : tie.Need-read-lines-requires
-unfolding table
-read-lines-requires c κs = (refl, (refl, refl))
+length-for-requires : tie.Need-length-for-requires
+length-for-requires c κs = let m = c .before in few _ [] _ (rows (m .before .before)) _ _ _ (tells (m .before .before) _ (m .verdict2 .given .1))
+
+returns : tie.Need-returns
+returns c =
+    let n = c .before in
+    let m = n .before .before in
+    let j = m .before .before in
+    let e = tells j _ (m .verdict2 .given .1) in
+    promised _ _ _ (too-short _ _ _ (rows j) _ _ _ e (rw (n .length-for .ensures) at (c .if1 .taken)))
+
+write-report-requires : tie.Need-write-report-requires
+write-report-requires c κs =
+    let i = c .before .before in
+    let n = i .before in
+    let m = n .before .before in
+    let j = m .before .before in
+    (few _ [] _ (rows j) _ _ _ (tells j _ (m .verdict2 .given .1)), rw (n .length-for .ensures) at (i .if1 .left))
 
 returns-3 : tie.Need-returns-3
 returns-3 c =
-    let l = c .before .before .before .before .before .before in
-    let q = c .before .before .before .before .before .before .before .before .before .before in
-    promised _ _ _ (bad-line _ _ (q .before .if1 .left) (q .if2 .left) _ _ _ _ (l .read-lines .ensures) _ _ (c .before .read .given .1))
-
-returns-4 : tie.Need-returns-4
-returns-4 c =
-    let l = c .before .before .before .before .before .before .before .before in
-    let q = c .before .before .before .before .before .before .before .before .before .before .before .before in
-    promised _ _ _ (no-scalar _ _ (q .before .if1 .left) (q .if2 .left) _ _ _ _ (l .read-lines .ensures) _ (c .before .before .before .enum-told .given .1) _ (c .before .scalar-stands .ensures) (not-true _ (c .if3 .taken)))
-
-conclude-requires : tie.Need-conclude-requires
-conclude-requires c κs =
-    let l = c .before .before .before .before .before .before .before .before .before .before .before .before in
-    let q = c .before .before .before .before .before .before .before .before .before .before .before .before .before .before .before .before in
-    let a = c .before .before .before .before .before .before .before .before .before .before .before .before .before .before .before .before .before .before .before .before .args in
-    tables (a .sheet .now) (a .report .now) (q .before .if1 .left) (q .if2 .left) _ _ _ _ (l .read-lines .ensures) _ (c .before .before .before .before .before .before .before .enum-told .given .1) _ (c .before .before .before .before .before .scalar-stands .ensures) (not-false _ (c .before .before .before .before .if3 .left))
-
-returns-5 : tie.Need-returns-5
-returns-5 c =
-    let l = c .before .before .before .before .before .before .before .before .before .before .before .before .before .before .before in
-    let q = c .before .before .before .before .before .before .before .before .before .before .before .before .before .before .before .before .before .before .before in
-    promised _ _ _ (concluded _ _ (q .before .if1 .left) (q .if2 .left) _ _ _ _ (l .read-lines .ensures) _ (c .before .before .before .before .before .before .before .before .before .before .enum-told .given .1) _ (c .before .before .before .before .before .before .before .before .scalar-stands .ensures) (not-false _ (c .before .before .before .before .before .before .before .if3 .left)) _ (c .before .before .conclude .ensures))
+    let w = c .before .before in
+    let i = w .before .before .before in
+    let n = i .before in
+    let m = n .before .before in
+    let j = m .before .before in
+    let e = tells j _ (m .verdict2 .given .1) in
+    promised _ _ _ (rw (n .length-for .ensures) (reported _ _ _ (rows j) _ _ _ e (rw (n .length-for .ensures) at (i .if1 .left)) (w .write-report .ensures)))
 
 pub sheet-call-spec : {M : Type 1} → statement M
 sheet-call-spec =
     tie.close
     (tie.spec
-    returns returns-2 (λ c. search needs) (λ c. search needs) (λ c. search needs) read-lines-requires (λ c. search needs) returns-3 (λ c. search needs) (λ c. search needs) (λ c κs. search needs) returns-4
-    (λ c. search needs) (λ c. search needs) (λ c. search needs) conclude-requires (λ c. search needs) returns-5)
+    judge-requires (λ c. search needs) (λ c. search needs) length-for-requires returns write-report-requires returns-2 (λ c. search needs) returns-3)

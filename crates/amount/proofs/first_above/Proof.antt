@@ -1,4 +1,4 @@
--- `amount::first_above` meets its contract: a loop that stands at i has yet to look at the rest. Assumes nothing.
+-- A loop that stands at i has found none before it; the first that passes ends it, and the end where none does. Assumes nothing.
 use mathlib.Core.Path.{sym}
 use Prim.Native.Nat.{_-_}
 use borrow.Author.Needs.{needs}
@@ -20,10 +20,14 @@ loop-holds c = sought-start _ _
 
 returns : tie.Need-returns Inv-loop μ-loop
 unfolding firstAbove
-returns c = sym (sought-found _ _ _ (c .before .before .loop-test .taken) (lt-ltb _ _ (c .if1 .taken)) (c .before .before .before .loop .inv))
+returns c =
+    let t = c .before .before in
+    sym (sought-found _ _ _ (t .loop-test .taken) (lt-ltb _ _ (c .if1 .taken)) (t .before .loop .inv))
 
 loop-again : tie.Need-loop-again Inv-loop μ-loop
-loop-again c = sought-more _ _ _ (c .before .before .loop-test .taken) (le-ltb _ _ (c .if1 .left)) (c .before .before .before .loop .inv)
+loop-again c =
+    let t = c .before .before in
+    sought-more _ _ _ (t .loop-test .taken) (le-ltb _ _ (c .if1 .left)) (t .before .loop .inv)
 
 returns-2 : tie.Need-returns-2 Inv-loop μ-loop
 unfolding firstAbove
@@ -32,5 +36,4 @@ returns-2 c = sym (sought-none _ _ _ (c .loop-test .left) (c .before .loop .inv)
 pub first-above-spec : {M : Type 1} → statement M
 first-above-spec =
     tie.close
-    (tie.spec
-    Inv-loop μ-loop loop-holds (λ c. search needs) (λ c. search needs) returns (λ c. search needs) (λ c. search needs) loop-again returns-2)
+    (tie.spec Inv-loop μ-loop loop-holds (λ c. search needs) (λ c. search needs) returns (λ c. search needs) (λ c. search needs) loop-again returns-2)

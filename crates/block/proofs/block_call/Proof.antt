@@ -1,48 +1,48 @@
--- `block::block_call` meets its contract. Assumes nothing.
-use mathlib.Core.Path.{_≡_, sym, _∙_}
-use mathlib.Core.List.{[], _∷_}
+-- Each return is the chain of the tests that led to it: rules 7, 8 and 9 in order, and past the last one the block is accepted. Assumes nothing.
+use mathlib.Core.Path.{_≡_, sym, ap, _∙_}
 use native.Mathlib.Omega.{arith}
 use borrow.Author.Needs.{needs}
 use lib.ListN.{length}
 use Rattle.refusal.specs.Outcome.Outcome.{accepted}
-use Rattle.block.proofs.Rules.{seven, eight, nine, figures-given, acceptable}
+use Rattle.guideline.specs.Sizes.{blockNumbers}
+use Rattle.block.specs.Call.{rule8, rule9, blockCall}
+use Rattle.block.proofs.Rules.{refused-7, passed-7, within-limit, refused-8, passed-8, refused-9, passed-9, acceptable}
 use Rattle.block.proofs.block_call.Statement.{statement}
 use Rattle.block.proofs.block_call.Tie as tie
 
-long : (s : tie.After-first-above-arg) → length (s .before .args .b .now) ≡ 17
-long s = omega arith
+long : (c : tie.After-first-above-arg) → length (c .before .args .b .now) ≡ blockNumbers
+long c = omega arith
+
+-- past rule 7, and past rule 8
+after-7 : (c : tie.Else1) → let b = c .before .before .before .args .b .now in blockCall b ≡ rule8 b
+after-7 c = passed-7 _ (long (c .before .before)) (c .before .first-above .ensures) (c .if1 .left)
+
+after-8 : (c : tie.Else2) → let b = c .before .before .before .before .before .args .b .now in blockCall b ≡ rule9 b
+after-8 c = after-7 (c .before .before) ∙ passed-8 _ (c .if2 .left)
 
 returns : tie.Need-returns
-returns c = sym (seven _ (long (c .before .before)) (c .before .first-above .ensures) (c .if1 .taken))
+returns c = sym (refused-7 _ (long (c .before .before)) (c .before .first-above .ensures) (c .if1 .taken))
 
 returns-2 : tie.Need-returns-2
-returns-2 c =
-    let f = c .before .before in
-    sym (eight _ (long (f .before .before)) (f .before .first-above .ensures) (f .if1 .left) (c .if2 .taken))
+returns-2 c = sym (after-7 (c .before .before) ∙ refused-8 _ (c .if2 .taken))
 
 returns-3 : tie.Need-returns-3
-returns-3 c =
-    let r = c .before in
-    let f = r .before .before .before in
-    sym (nine _ (long (f .before .before)) (f .before .first-above .ensures) (f .if1 .left) (r .before .if2 .left) (r .first-lt-above .ensures) (c .if3 .taken))
+returns-3 c = sym (after-8 (c .before .before) ∙ refused-9 _ (c .before .first-lt-above .ensures) (c .if3 .taken))
 
 figures-of-requires : tie.Need-figures-of-requires
 figures-of-requires c κs =
-    let r = c .before in
-    let f = r .before .before .before in
-    acceptable _ (long (f .before .before)) (f .before .first-above .ensures) (f .if1 .left) (r .before .if2 .left) (r .first-lt-above .ensures) (c .if3 .left)
+    let e = c .before .before in
+    let a = e .before .before in
+    let amounts = within-limit _ (long (a .before .before)) (a .before .first-above .ensures) (a .if1 .left) in
+    acceptable _ (c .before .first-lt-above .ensures) amounts (e .if2 .left) (c .if3 .left)
 
 returns-4 : tie.Need-returns-4
 returns-4 c =
     let o = c .before in
-    let r = o .before in
-    let f = r .before .before .before in
-    let e = c .figures-of .ensures in
-    (λ i. accepted (e .0 i ∷ e .1 i ∷ e .2 i ∷ e .3 i ∷ e .4 i ∷ []))
-    ∙ sym (figures-given _ (long (f .before .before)) (f .before .first-above .ensures) (f .if1 .left) (r .before .if2 .left) (r .first-lt-above .ensures) (o .if3 .left))
+    ap accepted (c .figures-of .ensures) ∙ sym (after-8 (o .before .before) ∙ passed-9 _ (o .before .first-lt-above .ensures) (o .if3 .left))
 
 pub block-call-spec : {M : Type 1} → statement M
 block-call-spec =
     tie.close
-    (tie.spec
-    (λ c κs. search needs) returns (λ c. search needs) returns-2 (λ c κs. search needs) (λ c. search needs) (λ c. search needs) returns-3 figures-of-requires returns-4)
+    (tie.spec (λ c κs. search needs) returns (λ c. search needs) returns-2 (λ c κs. search needs) (λ c. search needs) (λ c. search needs) returns-3
+    figures-of-requires returns-4)

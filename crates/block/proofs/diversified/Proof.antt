@@ -1,22 +1,23 @@
--- `block::diversified` meets its contract. Assumes nothing.
+-- The two products come to a² + a × i + i², which a root of two words has room for. Assumes nothing.
 use mathlib.Core.Path.{_≡_, _∙_}
 use Prim.Native.Nat.{_+_, _*_, _≤_}
 use native.Mathlib.Omega.{arith}
 use borrow.Author.Needs.{needs}
 use lib.Dec.{leb}
 use Rattle.search.specs.Least.{least}
+use Rattle.guideline.specs.Block.{radicand}
 use Rattle.wide.specs.Value.{value}
-use Rattle.block.proofs.Radicands.{joint, joint-small, in-root, in-words}
+use Rattle.block.proofs.Radicands.{largestRadicand, joint, joint-small, in-root, in-words}
 use Rattle.block.proofs.diversified.Statement.{statement}
 use Rattle.block.proofs.diversified.Tie as tie
 
 -- the two products come to the radicand
 both : (c : tie.After-product2) →
     let s = c .before .before .args in
-    value (c .before .product .result) + value (c .product2 .result) ≡ s .a * s .a + s .a * s .i + s .i * s .i
+    value (c .before .product .result) + value (c .product2 .result) ≡ radicand (s .a) (s .i)
 both c = joint _ _ _ _ (c .before .product .ensures) (c .product2 .ensures)
 
-small : (c : tie.After-product2) → value (c .before .product .result) + value (c .product2 .result) ≤ 16000000000000000000000000000003
+small : (c : tie.After-product2) → value (c .before .product .result) + value (c .product2 .result) ≤ largestRadicand
 small c =
     let s = c .before .before in
     omega (arith, both c, joint-small (s .args .a) (s .args .i) (s .pre))
@@ -26,7 +27,7 @@ add-requires c κs = in-words _ (small c)
 
 root-up-requires : tie.Need-root-up-requires
 root-up-requires c κs =
-    let h : value (c .add .result) ≤ 16000000000000000000000000000003 = omega (arith, c .add .ensures, small (c .before)) in
+    let h : value (c .add .result) ≤ largestRadicand = omega (arith, c .add .ensures, small (c .before)) in
     in-root _ h
 
 returns : tie.Need-returns

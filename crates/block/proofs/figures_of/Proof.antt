@@ -1,10 +1,12 @@
--- `block::figures_of` meets its contract. Assumes nothing.
+-- Each figure is found from those before it: U, LT and I from the block, D from A and I, K from U, LT and D, whose bounds hold of every accepted
+-- block. Assumes nothing.
 use mathlib.Core.Path.{_≡_}
+use mathlib.Core.List.{[], _∷_}
 use native.Mathlib.Omega.{arith}
 use borrow.Author.Needs.{needs}
-use Rattle.guideline.specs.Block.{D}
+use Rattle.guideline.specs.Block.{D, figuresOf}
 use Rattle.block.proofs.Radicands.{joint-fits, joint-found}
-use Rattle.block.proofs.Numerator.{settled, adjusted-found}
+use Rattle.block.proofs.Numerator.{bounded, adjusted-found}
 use Rattle.block.proofs.figures_of.Statement.{statement}
 use Rattle.block.proofs.figures_of.Tie as tie
 
@@ -13,33 +15,30 @@ diversified-requires c κs =
     let i = c .before .before in
     omega (arith, i .insurance .ensures, joint-fits _ (i .before .before .before .pre))
 
-joined : (c : tie.After-diversified) → c .diversified .result ≡ D (c .before .before .before .before .before .before .args .b .now)
-joined c = joint-found _ (c .before .before .before .before .before .before .pre) _ _ (c .before .before .before .insurance .ensures) (c .diversified .ensures)
+-- D, from what was found of I
+joined : (c : tie.After-diversified) → let s = c .before .before .before .before .before .before in c .diversified .result ≡ D (s .args .b .now)
+joined c =
+    let i = c .before .before .before in
+    joint-found _ (i .before .before .before .pre) _ _ (i .insurance .ensures) (c .diversified .ensures)
 
 adjusted-requires : tie.Need-adjusted-requires
 adjusted-requires c κs =
     let l = c .before .before .before .before in
-    settled _ (l .before .before .pre) _ _ _ (l .before .undiversified .ensures) (l .level-and-trend .ensures) (joined c)
+    bounded _ (l .before .before .pre) _ _ _ (l .before .undiversified .ensures) (l .level-and-trend .ensures) (joined c)
 
 returns : tie.Need-returns
+unfolding figuresOf
 returns c =
     let d = c .before in
-    let l = d .before .before .before .before in
+    let i = d .before .before .before in
+    let l = i .before in
     let u = l .before .undiversified .ensures in
     let t = l .level-and-trend .ensures in
-    (d .before .before .before .insurance .ensures, joined d, u, t, adjusted-found _ _ _ _ _ u t (joined d) (c .adjusted .ensures))
+    let k = adjusted-found _ _ _ _ _ u t (joined d) (c .adjusted .ensures) in
+    λ j. i .insurance .ensures j ∷ joined d j ∷ u j ∷ t j ∷ k j ∷ []
 
 pub figures-of-spec : {M : Type 1} → statement M
 figures-of-spec =
     tie.close
-    (tie.spec
-    (λ c κs. search needs)
-    (λ c κs. search needs)
-    (λ c κs. search needs)
-    (λ c. search needs)
-    (λ c. search needs)
-    (λ c. search needs)
-    (λ c. search needs)
-    diversified-requires
-    adjusted-requires
-    returns)
+    (tie.spec (λ c κs. search needs) (λ c κs. search needs) (λ c κs. search needs) (λ c. search needs) (λ c. search needs) (λ c. search needs)
+    (λ c. search needs) diversified-requires adjusted-requires returns)

@@ -1,4 +1,4 @@
--- `block::half_cents` meets its contract. Assumes nothing.
+-- Each y(i) is the definition's, and no difference falls below 0, since LT(i) is at most IR(i). Assumes nothing.
 use borrow.Author.Needs.{needs}
 use Rattle.guideline.specs.Block.{ys, y}
 use Rattle.block.proofs.half_cents.Statement.{statement}

@@ -1,4 +1,4 @@
--- `block::level_and_trend` meets its contract. Assumes nothing.
+-- The sum is the definition's, and seven amounts fit a word. Assumes nothing.
 use borrow.Author.Needs.{needs}
 use Rattle.guideline.specs.Block.{LT}
 use Rattle.block.proofs.level_and_trend.Statement.{statement}

@@ -1,4 +1,4 @@
--- `block::undiversified` meets its contract. Assumes nothing.
+-- The sum is the definition's, and ten amounts fit a word. Assumes nothing.
 use borrow.Author.Needs.{needs}
 use Rattle.guideline.specs.Block.{U, A}
 use Rattle.block.proofs.undiversified.Statement.{statement}

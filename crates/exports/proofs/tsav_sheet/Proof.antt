@@ -1,27 +1,32 @@
--- `exports::tsav_sheet` meets its contract, demand 3 with it. Assumes nothing.
-use mathlib.Core.Path.{sym, _∙_}
+-- Each arm leaves what the outcome that it states does; a refusal is not 0, and an accepted report meets demand 3 as the call promises.
+-- Assumes nothing.
+use mathlib.Core.Path.{refl, sym, ap, _∙_}
 use borrow.Author.Needs.{needs}
-use Rattle.aggregate.specs.Call.{stated}
-use Rattle.exports.proofs.Answered.{sheet-answered, demanded, not-0}
+use Rattle.aggregate.specs.Call.{Done, stated}
+use Rattle.exports.proofs.Answered.{answered, demanded, not-0}
 use Rattle.exports.proofs.tsav_sheet.Statement.{statement}
 use Rattle.exports.proofs.tsav_sheet.Tie as tie
 
 returns : tie.Need-returns
 returns c =
-    let given = c .before .before .answer .given .1 in
-    let call = c .before .before .before .before .before .before .sheet-call .ensures in
-    (sheet-answered stated _ _ given (call .0), λ z. demanded _ _ given (call .1))
+    let a = c .before .before .before in
+    let s = a .before .before .before .before .sheet-call .ensures in (
+      answered stated (a .answer .given .1) (ap (λ (d : Done). d .outcome) (s .0)) (record { number-is = refl; values-are = rw (c .before .word .ensures); place-is = refl }),
+      (ap (λ (d : Done). d .report) (s .0), λ z. demanded _ _ (a .answer .given .1) (s .1)),
+    )
 
 returns-2 : tie.Need-returns-2
 returns-2 c =
-    let given = c .before .before .before .answer2 .given .1 in
-    let call = c .before .before .before .before .before .before .before .sheet-call .ensures in (
-      rw (c .refuse .ensures .0, c .refuse .ensures .1) (sheet-answered stated _ _ given (call .0)),
-      λ z. absurd (not-0 _ _ given (call .0) (sym (c .refuse .ensures .0) ∙ z)),
+    let a = c .before .before .before in
+    let s = a .before .before .before .before .sheet-call .ensures in
+    let r = c .refuse .ensures in
+    let o = ap (λ (d : Done). d .outcome) (s .0) in (
+      answered stated (a .answer2 .given .1) o (record { number-is = r .0; values-are = refl; place-is = r .1 }),
+      (ap (λ (d : Done). d .report) (s .0), λ z. absurd (not-0 _ _ (a .answer2 .given .1) o (sym (r .0) ∙ z))),
     )
 
 pub tsav-sheet-spec : {M : Type 1} → statement M
 tsav-sheet-spec =
     tie.close
     (tie.spec
-    (λ c κs. search needs) (λ c. search needs) (λ c. search needs) (λ c κs. search needs) (λ c. search needs) returns (λ c. search needs) returns-2)
+    (λ c κs. search needs) (λ c. search needs) (λ c κs. search needs) (λ c. search needs) (λ c κs. search needs) (λ c. search needs) returns (λ c. search needs) returns-2)

@@ -1,3 +1,5 @@
+-- Whenever the loop's test is reached, v is what the columns before i spell, below 10 ^ i, and with v the columns from i on spell what all of
+-- them do; a byte that is no digit ends it. Assumes nothing.
 use mathlib.Core.Path.{_≡_, refl, sym, _∙_}
 use Prim.Native.Nat.{_≤_, _<_, _-_, _^_}
 use native.Mathlib.Omega.{arith}
@@ -5,7 +7,7 @@ use native.Mathlib.Nat.{one-le-pow}
 use borrow.Author.Needs.{needs}
 use lib.ListN.{length, drop}
 use Rattle.field.specs.Field.{digits}
-use Rattle.field.proofs.Reading.{digits-low, digits-high, digits-more, digits-end, grows, narrow}
+use Rattle.field.proofs.Reading.{digits-low, digits-high, digits-more, digits-end, grows, columns-fit}
 use Rattle.field.proofs.digits_from.Statement.{statement}
 use Rattle.field.proofs.digits_from.Tie as tie
 
@@ -19,25 +21,32 @@ loop-holds : tie.Need-loop-holds Inv-loop μ-loop
 loop-holds c = (search needs, (one-le-pow (c .before .args .from) 10 (omega arith), refl))
 
 returns : tie.Need-returns Inv-loop μ-loop
-returns c = sym (digits-low _ _ (c .before .before .loop-test .taken) _ (c .if1 .taken)) ∙ c .before .before .before .loop .inv .1 .1
+returns c =
+    let t = c .before .before in
+    sym (digits-low _ _ (t .loop-test .taken) _ (c .if1 .taken)) ∙ t .before .loop .inv .1 .1
 
 returns-2 : tie.Need-returns-2 Inv-loop μ-loop
-returns-2 c = sym (digits-high _ _ (c .before .before .before .loop-test .taken) _ (c .before .if1 .left) (c .if2 .taken)) ∙ c .before .before .before .before .loop .inv .1 .1
+returns-2 c =
+    let t = c .before .before .before in
+    sym (digits-high _ _ (t .loop-test .taken) _ (c .before .if1 .left) (c .if2 .taken)) ∙ t .before .loop .inv .1 .1
 
 mul-v : tie.Need-mul-v Inv-loop μ-loop
-mul-v c = omega (arith, narrow (c .before .before .before .before .loop .i) (omega arith))
+mul-v c = omega (arith, columns-fit (c .before .before .before .before .loop .i) (omega arith))
 
 add-v : tie.Need-add-v Inv-loop μ-loop
-add-v c = omega (arith, narrow (c .before .before .before .before .before .loop .i) (omega arith))
+add-v c = omega (arith, columns-fit (c .before .before .before .before .before .loop .i) (omega arith))
 
 loop-again : tie.Need-loop-again Inv-loop μ-loop
 loop-again c =
-    let l = c .before .before .before .before .before .loop in
-    let d = c .before .if2 .left in (
+    let h = c .before in
+    let t = h .before .before .before in
+    let l = t .before .loop in
+    let low = h .before .if1 .left in
+    let high = h .if2 .left in (
       search needs,
       (
-        rw (c .wide .ensures) (grows _ _ _ (l .inv .1 .0) d),
-        rw (c .wide .ensures) (sym (digits-more _ _ (c .before .before .before .before .loop-test .taken) _ (c .before .before .if1 .left) d) ∙ l .inv .1 .1),
+        rw (c .byte .ensures) (grows _ _ _ (l .inv .1 .0) high),
+        rw (c .byte .ensures) (sym (digits-more _ _ (t .loop-test .taken) _ low high) ∙ l .inv .1 .1),
       ),
     )
 

@@ -1,3 +1,5 @@
+-- Whenever the loop's test is reached, the columns from i on are written, and what is left of the number belongs into the i before them.
+-- Assumes nothing.
 use mathlib.Core.Path.{_∙_}
 use borrow.Author.Needs.{needs}
 use lib.ListN.{length, length-set}
@@ -15,7 +17,7 @@ loop-holds : tie.Need-loop-holds Inv-loop μ-loop
 loop-holds c = rw (c .digit .ensures) (last-written (c .before .before .args .out .now) _ (c .before .before .pre))
 
 loop-again : tie.Need-loop-again Inv-loop μ-loop
-loop-again c = rw (c .glyph-of .ensures) (next-written (c .before .before .loop .inv) (c .before .loop-test .taken))
+loop-again c = rw (c .digit-or-space .ensures) (next-written (c .before .before .loop .inv) (c .before .loop-test .taken))
 
 same-length : tie.Need-same-length Inv-loop μ-loop
 same-length c = c .before .loop .inv .long ∙ simp length-set

@@ -1,4 +1,5 @@
--- `guideline::factor_at` meets its contract: the constant, computed against the table. Assumes nothing.
+-- The constant is the list of the table's factors, row by row, as it computes; each is at most 4 in size, so that its byte and its word read back
+-- as it is. Assumes nothing.
 use mathlib.Core.Path.{_≡_, sym, ap, subst, _∙_}
 use Prim.Native.Nat.{ℕ, _<_}
 use borrow.Author.Needs.{needs}
@@ -8,14 +9,16 @@ use mir.Syntax.{w8, w64}
 use mir.Val.{SFits, toZ, ofZ}
 use mir.ValLaws.{toZ-ofZ}
 use Rattle.search.proofs.Values.{values, values-at}
+use Rattle.guideline.specs.Sizes.{products}
 use Rattle.guideline.specs.Factors.{factors, factor}
 use Rattle.guideline.proofs.Table.{factor-small, small-fits}
 use Rattle.guideline.proofs.factor_at.Statement.{statement}
 use Rattle.guideline.proofs.factor_at.Tie as tie
 
 -- an entry as the machine reads it back from its byte
-entry : (k : ℕ) → k < 49 → toZ w8 (ofZ w8 (getD (values factor 49) k (pos 0))) ≡ factor k
-entry k h = ap (λ (z : ℤ). toZ w8 (ofZ w8 z)) (values-at factor (pos 0) 49 k h) ∙ toZ-ofZ w8 (factor k) (small-fits (factor k) (factor-small k) .0)
+entry : (k : ℕ) → k < products → toZ w8 (ofZ w8 (getD (values factor products) k (pos 0))) ≡ factor k
+entry k h =
+    ap (λ (z : ℤ). toZ w8 (ofZ w8 z)) (values-at factor (pos 0) products k h) ∙ toZ-ofZ w8 (factor k) (small-fits (factor k) (factor-small k) .0)
 
 cast-result : tie.Need-cast-result
 unfolding factor factors values

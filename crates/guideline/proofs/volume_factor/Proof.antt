@@ -1,4 +1,4 @@
--- `guideline::volume_factor` meets its contract: the constant is the definition's table. Assumes nothing.
+-- The constant and the definition's table are the same eight numbers. Assumes nothing.
 use borrow.Author.Needs.{needs}
 use Rattle.guideline.specs.Operational.{volumeFactors}
 use Rattle.guideline.proofs.volume_factor.Statement.{statement}

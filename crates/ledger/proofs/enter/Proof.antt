@@ -1,19 +1,19 @@
-use mathlib.Core.Path.{_∙_}
-use borrow.Author.Tests.{not-true, not-false}
-use Rattle.ledger.proofs.Lines.{kept-out, put-in}
+-- The three tables are written at the entry's index. Assumes nothing.
+use mathlib.Core.Path.{_≡_, _∙_}
 use borrow.Author.Needs.{needs}
+use Rattle.ledger.specs.Tables.{indexFor}
 use Rattle.ledger.proofs.enter.Statement.{statement}
 use Rattle.ledger.proofs.enter.Tie as tie
 
-returns : tie.Need-returns
-returns c = kept-out _ _ _ _ _ _ (c .before .before .before .before .before .place-of .ensures .0 ∙ rw (c .before .before .before .before .before .before .before .narrow .ensures, c .before .before .before .before .before .before .narrow2 .ensures)) (c .before .before .before .mark .ensures) (not-true _ (c .if1 .taken))
+at-entry : (c : tie.After-index-of) → c .index-of .result ≡ indexFor (c .before .before .before .args .e)
+at-entry c = c .index-of .ensures .0 ∙ rw (c .before .before .size .ensures, c .before .size2 .ensures)
 
-returns-2 : tie.Need-returns-2
-returns-2 c = put-in _ _ _ _ _ _ (c .before .before .before .before .before .place-of .ensures .0 ∙ rw (c .before .before .before .before .before .before .before .narrow .ensures, c .before .before .before .before .before .before .narrow2 .ensures)) (c .before .before .before .mark .ensures) (not-false _ (c .if1 .left))
+returns : tie.Need-returns
+returns c = record { first = rw (at-entry c); second = rw (at-entry c); mark = rw (at-entry c) }
 
 pub enter-spec : {M : Type 1} → statement M
 enter-spec =
     tie.close
     (tie.spec
-    (λ c κs. search needs) (λ c κs. search needs) (λ c κs. search needs) (λ c κs. search needs) (λ c. search needs) returns (λ c. search needs) (λ c.
-    search needs) (λ c. search needs) (λ c. search needs) (λ c. search needs) (λ c. search needs) (λ c. search needs) returns-2)
+    (λ c κs. search needs) (λ c κs. search needs) (λ c κs. search needs) (λ c. search needs) (λ c. search needs) (λ c. search needs) (λ c. search needs)
+    (λ c. search needs) returns)

@@ -1,9 +1,10 @@
+-- The table is read at the index of the class. Assumes nothing.
 use borrow.Author.Needs.{needs}
 use Rattle.ledger.proofs.general_amount.Statement.{statement}
 use Rattle.ledger.proofs.general_amount.Tie as tie
 
 returns : tie.Need-returns
-returns c = rw (c .before .place-of .ensures .0)
+returns c = rw (c .before .index-of .ensures .0)
 
 pub general-amount-spec : {M : Type 1} → statement M
 general-amount-spec =

@@ -1,9 +1,10 @@
--- `operational::business` meets its contract: after k pairs the sum is what they are charged. Assumes nothing.
+-- After k pairs the sum is what they are charged, and the pairs of all territories are charged less than a word. Assumes nothing.
 use mathlib.Core.Path.{_≡_, sym, ap, _∙_}
 use Prim.Native.Nat.{ℕ, _+_, _-_, _*_, _/_, _≤_}
 use native.Mathlib.Omega.{arith}
 use borrow.Author.Needs.{needs}
 use lib.ListN.{length}
+use Rattle.guideline.specs.Sizes.{volumePairs}
 use Rattle.guideline.specs.Operational.{current, prior}
 use Rattle.guideline.proofs.Charges.{charged, charged-none, charged-all, charged-more, charged-fits, factor-most}
 use Rattle.operational.proofs.business.Statement.{statement}
@@ -20,25 +21,29 @@ loop-holds c = (omega arith, sym (charged-none _))
 
 charge-requires : tie.Need-charge-requires Inv-loop μ-loop
 charge-requires c κs =
-    let s = c .before .before .before .before .before .before in
-    let k = c .before .before .before .before .loop .k in
-    (rw (c .before .before .volume-factor .ensures) (factor-most k), s .pre .1 (2 * k), s .pre .1 (2 * k + 1))
+    let f = c .before .before in
+    let l = f .before .before in
+    let most = l .before .before .pre .1 in
+    (rw (f .volume-factor .ensures) (factor-most (l .loop .k)), most (2 * l .loop .k), most (2 * l .loop .k + 1))
 
 -- the sum with this pair's charge is that of one pair more
 grown : (c : tie.After-charge Inv-loop μ-loop) →
-    let l = c .before .before .before .before .before .loop in
-    l .sum + c .charge .result ≡ charged (c .before .before .before .before .before .before .before .args .volumes .now) (l .k + 1)
+    let l = c .before .before .before .before .before in
+    l .loop .sum + c .charge .result ≡ charged (l .before .before .args .volumes .now) (l .loop .k + 1)
 grown c =
-    let l = c .before .before .before .before .before .loop in
-    let v = c .before .before .before .before .before .before .before .args .volumes .now in
-    let e = c .charge .ensures ∙ ap (λ (f : ℕ). f * (5 * current v (l .k) + (5 * current v (l .k) - 6 * prior v (l .k)))) (c .before .before .before .volume-factor .ensures) in
-    omega (arith, l .inv .1, e, charged-more v (l .k))
+    let f = c .before .before .before in
+    let l = f .before .before in
+    let v = l .before .before .args .volumes .now in
+    let k = l .loop .k in
+    let e = c .charge .ensures ∙ ap (λ (x : ℕ). x * (5 * current v k + (5 * current v k - 6 * prior v k))) (f .volume-factor .ensures) in
+    omega (arith, l .loop .inv .1, e, charged-more v k)
 
 add-sum : tie.Need-add-sum Inv-loop μ-loop
 add-sum c =
-    let s = c .before .before .before .before .before .before .before in
-    let l = c .before .before .before .before .before .loop in
-    let k : l .k + 1 ≤ 128 = omega (arith, s .pre .0, c .before .before .before .before .loop-test .taken) in
+    let t = c .before .before .before .before in
+    let l = t .before .loop in
+    let s = t .before .before .before in
+    let k : l .k + 1 ≤ volumePairs = omega (arith, s .pre .0, t .loop-test .taken) in
     omega (arith, grown c, charged-fits (s .args .volumes .now) (s .pre .1) (l .k + 1) k)
 
 loop-again : tie.Need-loop-again Inv-loop μ-loop
@@ -54,14 +59,5 @@ returns c =
 pub business-spec : {M : Type 1} → statement M
 business-spec =
     tie.close
-    (tie.spec
-    Inv-loop
-    μ-loop
-    loop-holds
-    (λ c κs. search needs) (λ c. search needs) (λ c. search needs) (λ c. search needs) (λ c. search needs) (λ c. search needs) (λ c. search needs) (λ c. search needs)
-    charge-requires
-    add-sum
-    (λ c. search needs)
-    (λ c. search needs)
-    loop-again
-    returns)
+    (tie.spec Inv-loop μ-loop loop-holds (λ c κs. search needs) (λ c. search needs) (λ c. search needs) (λ c. search needs) (λ c. search needs)
+    (λ c. search needs) (λ c. search needs) (λ c. search needs) charge-requires add-sum (λ c. search needs) (λ c. search needs) loop-again returns)

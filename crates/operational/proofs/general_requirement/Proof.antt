@@ -1,11 +1,11 @@
--- `operational::general_requirement` meets its contract. Assumes nothing.
+-- The sum is the definition's, and three amounts times their factors fit a word. Assumes nothing.
 use borrow.Author.Needs.{needs}
-use Rattle.guideline.specs.Operational.{general}
+use Rattle.guideline.specs.Operational.{generalRequirement}
 use Rattle.operational.proofs.general_requirement.Statement.{statement}
 use Rattle.operational.proofs.general_requirement.Tie as tie
 
 returns : tie.Need-returns
-unfolding general
+unfolding generalRequirement
 returns c = search needs
 
 pub general-requirement-spec : {M : Type 1} → statement M

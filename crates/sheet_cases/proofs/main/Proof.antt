@@ -1,4 +1,4 @@
--- `sheet_cases::main` is safe and ends. Assumes nothing.
+-- The loop counts down, so it ends. Assumes nothing.
 use Prim.Native.Nat.{_≤_}
 use borrow.Author.Needs.{needs}
 use Rattle.sheet_cases.proofs.main.Statement.{statement}

@@ -1,4 +1,4 @@
--- `tsav_sheet::read_sheet` is safe and ends: each read that goes on moves a byte. Assumes nothing.
+-- Each read that goes on takes a byte at least, so the loop ends, and what is read stays within the room. Assumes nothing.
 use mathlib.Core.Path.{_≡_}
 use Prim.Native.Nat.{_-_, _≤_}
 use lib.ListN.{length}

@@ -1,0 +1,55 @@
+-- The sheet call by what is findings of the judgement, and by the room. Assumes nothing.
+use mathlib.Core.Path.{_≡_, sym, _∙_, subst⁻¹}
+use mathlib.Core.List.{List, [], _∷_, _++_}
+use Prim.Native.Nat.{ℕ, _*_, _≤_, _<_}
+use native.Mathlib.Omega.{arith}
+use lib.ListN.{length, take, drop}
+use Rattle.search.proofs.Picks.{if-lt, if-ge}
+use Rattle.refusal.specs.Outcome.Outcome.{accepted}
+use Rattle.refusal.specs.declared.Place.{Place}
+use Rattle.refusal.specs.declared.Place.the-variants.{Nowhere}
+use Rattle.guideline.specs.Sizes.{blocks, rowNumbers}
+use Rattle.guideline.specs.Buffer.{count}
+use Rattle.report_line.specs.Line.{printRows}
+use Rattle.report.specs.Rows.{totalRows, reportBytes, reportLength}
+use Rattle.judgement.specs.Sheet.{sheetOf}
+use Rattle.judgement.specs.Judgement.{judgement, findings}
+use Rattle.judgement.specs.Judgement.Findings.{refusal, figures}
+use Rattle.judgement.proofs.Accepted.{few-blocks}
+use Rattle.judgement.proofs.Rules.{findings-refusal, findings-figures}
+use Rattle.aggregate.specs.Call.{Done, untouched, rule14, afterJudgement, sheetCall}
+use Rattle.aggregate.specs.Demand.{Demand3}
+use Rattle.aggregate.proofs.Rows.{table-lines}
+use Rattle.aggregate.proofs.Accuracy.{call-demand}
+
+module _ (s r : List ℕ) where
+  -- what the call gives meets demand 3 too
+  pub promised : (d : Done) → d ≡ sheetCall s r → (d ≡ sheetCall s r) × Demand3 s (d .outcome) (d .report)
+  promised d e = (e, subst⁻¹ (λ (x : Done). Demand3 s (x .outcome) (x .report)) e (call-demand s r))
+
+  pub turned : (n : ℕ) (p : Place) → refusal n p ≡ findings (judgement s) → untouched n p r ≡ sheetCall s r
+  unfolding sheetCall afterJudgement
+  turned n p e = rw (findings-refusal (judgement s) e)
+
+  module _ (n : ℕ) (rows : List ℕ) (sum ro x : ℕ) (e : figures n (take (rowNumbers * n) rows) sum ro x ≡ findings (judgement s)) where
+    pub few : n ≤ blocks
+    unfolding sheetOf
+    few = let f = findings-figures (judgement s) e in omega (arith, f .2 .count-is, few-blocks (f .0) blocks)
+
+    pub too-short : length r < reportLength n → untouched 14 Nowhere r ≡ sheetCall s r
+    unfolding sheetCall afterJudgement rule14
+    too-short h =
+        let f = findings-figures (judgement s) e in
+        let k : length r < reportLength (count (sheetOf (f .0))) = omega (arith, h, f .2 .count-is) in
+        rw (f .1) (sym (if-lt _ k))
+
+    pub reported : {r′ : List ℕ} → reportLength n ≤ length r → r′ ≡ reportBytes rows n sum ro x ++ drop (reportLength n) r
+        → _≡_ {A = Done} (record { outcome = accepted (reportLength n ∷ []); report = r′ }) (sheetCall s r)
+    unfolding sheetCall afterJudgement rule14 reportBytes
+    reported h q =
+        let f = findings-figures (judgement s) e in
+        let F = f .2 in
+        let k : reportLength (count (sheetOf (f .0))) ≤ length r = omega (arith, h, F .count-is) in
+        let t = table-lines (f .0) rows n (F .count-is) (F .rows-are) in
+        let w = q ∙ (λ i. printRows (t i ++ totalRows (F .sum-is i) (F .ro-is i) (F .buffer-is i)) ++ drop (reportLength (F .count-is i)) r) in
+        rw (f .1) ((λ i. record { outcome = accepted (reportLength (F .count-is i) ∷ []); report = w i }) ∙ sym (if-ge _ k))

@@ -1,0 +1,175 @@
+-- The report of the program that fills in the first block. Its sheet with the first block in place of each is an accepted one, so that its
+-- totals have their columns; it is as long as the program says; every line of a K has the first block's, so that no other K is read of it.
+-- Assumes nothing.
+use mathlib.Core.Path.{_≡_, refl, sym, ap, subst, _∙_}
+use mathlib.Core.Bool.{Bool, true, false, false≢true}
+use mathlib.Core.List.{List, [], _∷_, _++_, map, append-nil}
+use Prim.Native.Nat.{ℕ, zero, suc, _+_, _*_, _≤_, _<_}
+use native.Mathlib.Omega.{arith}
+use lib.ListN.{length, getD, take, drop, length-append, length-map}
+use lib.Seq.{take-append-seam}
+use Rattle.search.specs.Pick.{pick}
+use Rattle.search.specs.Each.{Each}
+use Rattle.search.specs.Ascending.{ascending}
+use Rattle.search.proofs.Picks.{never, by-test}
+use Rattle.search.proofs.Eaches.{each-append, each-at}
+use Rattle.search.proofs.Ascents.{each-ascending}
+use Rattle.refusal.specs.Outcome.Outcome.{accepted}
+use Rattle.refusal.specs.declared.Place.{Place}
+use Rattle.field.specs.declared.Field.the-variants.{Value, Bad}
+use Rattle.guideline.specs.Sizes.{blocks, blockFigures}
+use Rattle.guideline.specs.Block.{AcceptedBlock, K, figuresOf}
+use Rattle.guideline.specs.Buffer.{Sheet, count, available, buffer, AcceptedSheet}
+use Rattle.guideline.proofs.Figures.{figures-fit}
+use Rattle.guideline.proofs.Totals.{totals-fit}
+use Rattle.report_line.specs.Line.{reportLineBytes, Row, printRows, equalBytes, numberIn, numberAt}
+use Rattle.report_line.proofs.ReadBack.{Printable, rowIs, numberAmong, rows-read, rows-append}
+use Rattle.sheet_line.specs.declared.Entry.{Entry}
+use Rattle.ledger.specs.Entries.{exists, blockOf}
+use Rattle.report.specs.Rows.{BLK, TOT, row, itemsFrom, blockRows, reportLength}
+use Rattle.report.proofs.Items.{items-long}
+use Rattle.report.proofs.Reread.{FitsColumns, buffer-read, items-printable}
+use Rattle.judgement.specs.Sheet.{blocksTo, sheetOf}
+use Rattle.aggregate.specs.Call.{Done, untouched}
+use Rattle.dummies.specs.Dummies.{claimedReport, firstForAll, filledIn}
+use Rattle.dummies.specs.Programs.{firstFigures, filledTotals, filledRows, filledReport}
+
+-- ---- the sheet with its first block in place of each
+
+each-same : (b : List ℕ) (bs : List (List ℕ)) → AcceptedBlock b → Each AcceptedBlock (map (λ c. b) bs)
+each-same b [] v = tt
+each-same b (c ∷ bs) v = (v, each-same b bs v)
+
+first-accepted : (bs : List (List ℕ)) → Each AcceptedBlock bs → Each AcceptedBlock (firstForAll bs)
+first-accepted [] v = tt
+first-accepted (b ∷ bs) v = (v .0, each-same b bs (v .0))
+
+first-long : (bs : List (List ℕ)) → length (firstForAll bs) ≡ length bs
+first-long [] = refl
+first-long (b ∷ bs) = ap suc (length-map bs _)
+
+filled-accepted : (s : Sheet) → AcceptedSheet s → s .credits ≤ available (filledIn s) → AcceptedSheet (filledIn s)
+filled-accepted s v h =
+    record {
+      blocks-pass = first-accepted (s .blocks) (v .blocks-pass);
+      few = omega (arith, v .few, first-long (s .blocks));
+      amounts = v .amounts;
+      g-low = v .g-low;
+      g-high = v .g-high;
+      credits-within = h;
+    }
+
+zeros-accepted : AcceptedBlock []
+zeros-accepted =
+    record { ir-fits = omega arith; lt-within = omega arith; lt-seven = refl; pc-fits = omega arith; credit-fits = omega arith; market-fits = omega arith }
+
+-- ---- its lines
+
+-- five lines for each block that exists
+lines-long :
+    (passes : ℕ → Bool) (x : ℕ → List ℕ) (f : List ℕ) → length f ≡ blockFigures → (n : ℕ) →
+    length (printRows (ascending passes (λ b. blockRows b f) n)) ≡ reportLineBytes * (blockFigures * length (ascending passes (λ b. x b ∷ []) n))
+unfolding ascending printRows pick
+lines-long passes x f h zero = refl
+lines-long passes x f h (suc n) = go (lines-long passes x f h n) (passes (suc n))
+  where
+    rows : List Row
+    rows = ascending passes (λ b. blockRows b f) n
+
+    xs : List (List ℕ)
+    xs = ascending passes (λ b. x b ∷ []) n
+
+    go :
+        length (printRows rows) ≡ reportLineBytes * (blockFigures * length xs) → (t : Bool) →
+        length (printRows (rows ++ pick t (blockRows (suc n) f) [])) ≡ reportLineBytes * (blockFigures * length (xs ++ pick t (x (suc n) ∷ []) []))
+    go e true =
+        rw (rows-append rows (blockRows (suc n) f), length-append (printRows rows) (printRows (blockRows (suc n) f)), length-append xs (x (suc n) ∷ []))
+        (omega (arith, e, h, items-long BLK (suc n) refl 1 f))
+    go e false = rw (append-nil rows, append-nil xs) e
+
+-- a row that is K of block b has the number k
+unfoldable OfK : ℕ → ℕ → Row → Type 0
+OfK k b r = rowIs r BLK b 5 ≡ true → r .number ≡ k
+
+other : {A : Type 0} → false ≡ true → A
+other e = absurd (false≢true e)
+
+-- among such rows no other number is found
+k-among : (k b x : ℕ) (rs : List Row) → Each (OfK k b) rs → numberAmong rs BLK b 5 Bad ≡ Value x → x ≡ k
+unfolding OfK numberAmong
+k-among k b x [] p e = never (cc)
+k-among k b x (r ∷ rs) p e =
+    by-test (λ f. f ≡ Value x → x ≡ k) (rowIs r BLK b 5) _ _ (λ t q. cc (p .0 t)) (λ t q. k-among k b x rs (p .1) q) e
+
+-- ---- what is read of its report
+
+-- both K that can be read are equal
+unfoldable pub Same : Done → Type 0
+Same d = (k₁ k₂ : ℕ) → numberAt (claimedReport d) BLK 1 5 ≡ Value k₁ → numberAt (claimedReport d) BLK 2 5 ≡ Value k₂ → k₁ ≡ k₂
+
+-- the buffer that is read where it accepts is x
+unfoldable pub Reads : ℕ → Done → Type 0
+Reads x d = (vs : List ℕ) → d .outcome ≡ accepted vs → numberAt (d .report) TOT 0 3 ≡ Value x
+
+-- of a refusal nothing is read
+pub none-read : (n : ℕ) (p : Place) (r : List ℕ) → Same (untouched n p r)
+unfolding Same numberAt numberIn
+none-read n p r k₁ k₂ e f = never (cc)
+
+pub none-accepted : (x n : ℕ) (p : Place) (r : List ℕ) → Reads x (untouched n p r)
+unfolding Reads
+none-accepted x n p r vs e = never (cc)
+
+module _ (es : List Entry) (v : AcceptedSheet (sheetOf es)) (h : sheetOf es .credits ≤ available (filledIn (sheetOf es))) where
+  -- every figure has its columns
+  five : (length (firstFigures es) ≡ blockFigures) × Each FitsColumns (firstFigures es)
+  unfolding figuresOf
+  five =
+      let f = figures-fit _ (each-at AcceptedBlock [] zeros-accepted (sheetOf es .blocks) (v .blocks-pass) 0) in
+      (refl, (f .0, (f .1, (f .2, (f .3, (f .4, tt))))))
+
+  -- and so has every total
+  totals : Each FitsColumns (filledTotals es)
+  totals = let t = totals-fit (filledIn (sheetOf es)) (filled-accepted (sheetOf es) v h) in (t .0, (t .1, (t .2, tt)))
+
+  report-long : length (printRows (filledRows es)) ≡ reportLength (count (sheetOf es))
+  unfolding sheetOf blocksTo
+  report-long =
+      rw (rows-append, length-append)
+      (omega (arith, lines-long (exists es) (blockOf es) (firstFigures es) (five .0) blocks, items-long TOT 0 refl 1 (filledTotals es)))
+
+  all-printable : Each Printable (filledRows es)
+  all-printable =
+      each-append Printable (ascending (exists es) (λ b. blockRows b (firstFigures es)) blocks) _
+      (each-ascending (exists es) (λ b. blockRows b (firstFigures es)) Printable blocks
+      (λ b l k u. items-printable BLK b 1 (firstFigures es) refl (omega arith) (omega (arith, five .0)) (five .1)))
+      (items-printable TOT 0 1 (filledTotals es) refl (omega arith) (omega arith) totals)
+
+  -- every line of a K has the first block's
+  ks : (b : ℕ) → Each (OfK (K (getD (sheetOf es .blocks) 0 [])) b) (filledRows es)
+  unfolding OfK itemsFrom figuresOf rowIs equalBytes pick
+  ks b =
+      each-append (OfK _ b) (ascending (exists es) (λ b. blockRows b (firstFigures es)) blocks) _
+      (each-ascending (exists es) (λ b. blockRows b (firstFigures es)) (OfK _ b) blocks (λ c l k u. (other, (other, (other, (other, ((λ t. refl), tt)))))))
+      (other, (other, (other, tt)))
+
+  -- so that is what is read, if anything
+  k-read : (b k : ℕ) → b < 100 → numberAt (printRows (filledRows es)) BLK b 5 ≡ Value k → k ≡ K (getD (sheetOf es .blocks) 0 [])
+  unfolding numberAt numberIn
+  k-read b k l e =
+      let c = rows-read (filledRows es) (row BLK b 5 0) [] all-printable (record { code = refl; block = l; item = omega arith; number = omega arith }) in
+      k-among _ b k (filledRows es) (ks b) (sym c ∙ rw append-nil e)
+
+  pub k-same : (r : List ℕ) → Same (filledReport es r)
+  unfolding Same
+  k-same r k₁ k₂ e f =
+      let n = reportLength (count (sheetOf es)) in
+      let bytes = printRows (filledRows es) in
+      let t : take n (bytes ++ drop n r) ≡ bytes = subst (λ (m : ℕ). take m (bytes ++ drop n r) ≡ bytes) report-long (take-append-seam bytes (drop n r)) in
+      let at : (b k : ℕ) → b < 100 → numberAt (take n (bytes ++ drop n r)) BLK b 5 ≡ Value k → k ≡ K (getD (sheetOf es .blocks) 0 []) =
+      λ b k l e. k-read b k l (ap (λ (m : List ℕ). numberAt m BLK b 5) (sym t) ∙ e) in
+      at 1 k₁ (omega arith) e ∙ sym (at 2 k₂ (omega arith) f)
+
+  pub reads-filled : (r : List ℕ) → Reads (buffer (filledIn (sheetOf es))) (filledReport es r)
+  unfolding Reads
+  reads-filled r vs e = buffer-read (exists es) (λ b. firstFigures es) _ _ _ (drop (reportLength (count (sheetOf es))) r) (λ b l k t. five) totals

@@ -1,0 +1,70 @@
+-- The plainest program of each kind of dummy meets the premise of its kind: four by what they give. The one that fills in the first block
+-- refuses by rule 13 of its own sum of K and else as the sheet call does, and what is read of its report is in FilledIn.
+-- Assumes nothing.
+use mathlib.Core.Path.{_≡_, refl, _∙_}
+use mathlib.Core.Bool.{Bool, true, false}
+use mathlib.Core.List.{List}
+use Prim.Native.Nat.{ℕ, _≤_}
+use borrow.Author.Tests.{ltb-false}
+use Rattle.search.specs.Pick.{pick}
+use Rattle.search.proofs.Picks.{by-test, if-ge}
+use Rattle.refusal.specs.declared.Place.the-variants.{Nowhere}
+use Rattle.guideline.specs.Buffer.{available, buffer}
+use Rattle.sheet_line.specs.declared.Entry.{Entry}
+use Rattle.judgement.specs.Sheet.{sheetOf}
+use Rattle.judgement.specs.Judgement.{Judgement, judgement}
+use Rattle.judgement.specs.Judgement.Judgement.{turnedAway, sound}
+use Rattle.judgement.proofs.Accepted.{sound-accepted}
+use Rattle.aggregate.specs.Call.{Done, rule14, afterJudgement, sheetCall}
+use Rattle.dummies.specs.Dummies.{TurnsAllAway, ConstantReport, WritesNothing, TooShortAtOnce, FirstFilledIn, filledIn, BufferOfFirst}
+use Rattle.dummies.specs.Programs.{turnsAway, writesConstant, claimsSuccess, saysTooShort}
+use Rattle.dummies.specs.Programs.{filled14, filled13, afterFilling, fillsIn}
+use Rattle.dummies.proofs.FilledIn.{Same, Reads, none-read, none-accepted, k-same, reads-filled}
+
+pub turns-away-met : TurnsAllAway turnsAway
+turns-away-met s r l = (12, Nowhere, refl)
+
+pub constant-met : (bytes : List ℕ) → ConstantReport (writesConstant bytes)
+constant-met bytes s t r vs ws l m e f = refl
+
+pub nothing-met : WritesNothing claimsSuccess
+nothing-met s r vs l e = refl
+
+pub too-short-met : TooShortAtOnce saysTooShort
+too-short-met s r l = (Nowhere, refl)
+
+-- ---- the one that fills in, whatever the judgement
+
+picked-outcome : (t : Bool) (a b c : Done) → b .outcome ≡ c .outcome → pick t a b .outcome ≡ pick t a c .outcome
+unfolding pick
+picked-outcome true a b c e = refl
+picked-outcome false a b c e = e
+
+module _ (s r : List ℕ) where
+  same : (j : Judgement) → judgement s ≡ j → Same (afterFilling j r)
+  unfolding afterFilling filled13 filled14
+  same (turnedAway n p) e = none-read n p r
+  same (sound es) e =
+      by-test Same _ _ _ (λ t. none-read _ _ r) (λ t. by-test Same _ _ _ (λ u. none-read _ _ r) (λ u. k-same es (sound-accepted s es e) (ltb-false _ _ t) r))
+
+  reads : (es : List Entry) → judgement s ≡ sound es → Reads (buffer (filledIn (sheetOf es))) (fillsIn s r)
+  unfolding fillsIn afterFilling filled13 filled14
+  reads es e =
+      let x = buffer (filledIn (sheetOf es)) in
+      rw e
+      (by-test (Reads x) _ _ _ (λ t. none-accepted x _ _ r)
+      (λ t. by-test (Reads x) _ _ _ (λ u. none-accepted x _ _ r) (λ u. reads-filled es (sound-accepted s es e) (ltb-false _ _ t) r)))
+
+  -- it tests rule 14 as the sheet call does
+  outcome-same : (es : List Entry) → judgement s ≡ sound es → sheetOf es .credits ≤ available (filledIn (sheetOf es)) → fillsIn s r .outcome ≡ sheetCall s r .outcome
+  unfolding fillsIn afterFilling filled13 filled14 sheetCall afterJudgement rule14
+  outcome-same es e h = rw (e, if-ge _ h) (picked-outcome _ _ _ _ refl)
+
+pub first-filled-in-met : FirstFilledIn fillsIn
+unfolding Same fillsIn
+first-filled-in-met s r k₁ k₂ l e f = same s r (judgement s) refl k₁ k₂ e f
+
+pub buffer-of-first-met : BufferOfFirst fillsIn
+unfolding Reads
+buffer-of-first-met =
+    record { accepts = λ s r vs es l j h e. outcome-same s r es j h ∙ e; reads-buffer = λ s r vs es l j e. reads s r es j vs e }

@@ -1,0 +1,3 @@
+pub mod Dummies
+pub mod Programs
+pub mod Answers

@@ -1,0 +1,63 @@
+-- How many there are of each thing, and how large a scalar can be, after document 01. A number stands here or at the thing that it counts,
+-- once. Assumes nothing.
+use Prim.Native.Nat.{ℕ, _+_, _*_}
+
+-- blocks 1 to this one
+abbrev pub blocks : ℕ
+blocks = 16
+
+-- the insurance risks of section 11.2.1
+abbrev pub risks : ℕ
+risks = 7
+
+-- the products of two of them, one for each correlation factor: 49
+abbrev pub products : ℕ
+products = risks * risks
+
+-- the block call's numbers: seven pairs IR, LT, then PC, credit, market: 17
+abbrev pub blockNumbers : ℕ
+blockNumbers = 2 * risks + 3
+
+-- the figures that are reported of a block: I, D, U, LT, K
+abbrev pub blockFigures : ℕ
+blockFigures = 5
+
+-- a row of a table of figures: the block's number, and its figures
+abbrev pub rowNumbers : ℕ
+rowNumbers = 1 + blockFigures
+
+-- a row for each block
+abbrev pub tableNumbers : ℕ
+tableNumbers = rowNumbers * blocks
+
+-- territories with volumes
+abbrev pub territories : ℕ
+territories = 16
+
+-- the volume classes of section 8.2.1
+abbrev pub volumeClasses : ℕ
+volumeClasses = 8
+
+-- the pairs of volumes of all territories: 128
+abbrev pub volumePairs : ℕ
+volumePairs = territories * volumeClasses
+
+-- 'a list of 16 numbers per territory (eight pairs)'
+abbrev pub territoryNumbers : ℕ
+territoryNumbers = 2 * volumeClasses
+
+-- the volumes of all territories: 256 numbers
+abbrev pub volumeNumbers : ℕ
+volumeNumbers = territories * territoryNumbers
+
+-- the general figures of section 8.2.3: gross components, guarantee requirement, ceded premiums
+abbrev pub generalFigures : ℕ
+generalFigures = 3
+
+-- the scalar and the factors of chapter 8 are in ten-thousandths
+abbrev pub tenThousandths : ℕ
+tenThousandths = 10000
+
+-- the scalar, 'entered in ten-thousandths from 1 to 20,000'
+abbrev pub largestScalar : ℕ
+largestScalar = 20000

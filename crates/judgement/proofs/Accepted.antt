@@ -1,0 +1,156 @@
+-- What the rules leave of a sheet: its blocks and amounts are accepted, its totals fit; so the sheet of a sound judgement is an accepted sheet,
+-- and a refusal's number and place are as they must be. The rules are walked once, by `by-rules`. Assumes nothing.
+use mathlib.Core.Path.{_≡_, refl, sym, _∙_, subst}
+use mathlib.Core.Bool.{Bool, true, false, true≢false}
+use mathlib.Core.List.{List, [], _∷_}
+use Prim.Native.Nat.{ℕ, _^_, _≤_, _<_}
+use native.Mathlib.Omega.{arith}
+use lib.Dec.{eqb, ltb}
+use lib.ListN.{length}
+use borrow.Author.Tests.{ltb-true, ltb-false, eqb-true, eqb-false}
+use Rattle.search.specs.Pick.{pick}
+use Rattle.search.specs.Each.{Each}
+use Rattle.search.proofs.Picks.{by-test, never, if-true, if-false}
+use Rattle.search.proofs.Ascents.{few, each-ascending}
+use Rattle.refusal.specs.Outcome.{printed, Judging}
+use Rattle.refusal.specs.declared.Place.{Place}
+use Rattle.refusal.specs.declared.Place.the-variants.{Line, Nowhere}
+use Rattle.guideline.specs.Sizes.{blocks, largestScalar}
+use Rattle.guideline.specs.Block.{AcceptedBlock}
+use Rattle.guideline.specs.Operational.{OperationalAmounts}
+use Rattle.guideline.specs.Buffer.{available, AcceptedSheet, mostAvailable}
+use Rattle.guideline.proofs.Figures.{accepted-of}
+use Rattle.guideline.proofs.Totals.{available-fits}
+use Rattle.sheet_line.specs.Codes.{Key, scalarClass}
+use Rattle.sheet_line.specs.declared.Code.{Code}
+use Rattle.sheet_line.specs.declared.Code.the-variants.{Rsk, Oth, Vol, Gen}
+use Rattle.sheet_line.specs.declared.Entry.{Entry}
+use Rattle.sheet_line.specs.Rules.{AcceptedLine}
+use Rattle.ledger.specs.Entries.{ofBlock, exists, hasLine, blockOf}
+use Rattle.ledger.specs.Reading.{Reading, reading}
+use Rattle.ledger.specs.Reading.Reading.{complete, stopped}
+use Rattle.ledger.proofs.Bounds.{block-sound, length-volumes, volumes-most, general-most, scalar-within}
+use Rattle.ledger.specs.Tables.{mostLines, longestSheet}
+use Rattle.ledger.proofs.Lines.{all-read, reading-stopped}
+use Rattle.judgement.specs.Sheet.{blocksTo, sheetOf}
+use Rattle.judgement.specs.Judgement.{Judgement, rule13, rule12, ruleLines, rule2, judgement}
+use Rattle.judgement.specs.Judgement.Judgement.{turnedAway, sound}
+
+-- of n blocks at most n exist
+pub few-blocks : (es : List Entry) (n : ℕ) → length (blocksTo es n) ≤ n
+unfolding blocksTo
+few-blocks es n = few (exists es) (blockOf es) n
+
+module _ (es : List Entry) (all : Each AcceptedLine es) where
+  pub block-accepted : (b : ℕ) → AcceptedBlock (blockOf es b)
+  block-accepted b = let s = block-sound es all b in accepted-of (blockOf es b) (s .amounts) (s .last) (s .trend)
+
+  pub blocks-accepted : (n : ℕ) → Each AcceptedBlock (blocksTo es n)
+  unfolding blocksTo
+  blocks-accepted n = each-ascending (exists es) (λ b. blockOf es b ∷ []) AcceptedBlock n (λ b l h t. (block-accepted b, tt))
+
+  pub amounts-within : OperationalAmounts (sheetOf es .volumes) (sheetOf es .general)
+  unfolding sheetOf
+  amounts-within =
+      record {
+        short = omega (arith, length-volumes es all);
+        volumes = volumes-most es all;
+        gross = general-most es all 1;
+        guarantee = general-most es all 2;
+        ceded = general-most es all 3;
+      }
+
+  pub available-small : available (sheetOf es) ≤ mostAvailable
+  unfolding sheetOf
+  available-small = available-fits (sheetOf es) (blocks-accepted blocks) (few-blocks es blocks) amounts-within
+
+  pub scalar-ranged : hasLine es Gen 0 scalarClass ≡ true → (1 ≤ sheetOf es .g) × (sheetOf es .g ≤ largestScalar)
+  unfolding sheetOf
+  scalar-ranged h = scalar-within es all (ltb-true _ _ h)
+
+-- ---- a block that exists is one that there can be
+
+block-within : (k : Code) (b c : ℕ) → ofBlock k ≡ true → Key k b c → (1 ≤ b) × (b ≤ blocks)
+block-within Rsk b c e v = (v .low, v .high)
+block-within Oth b c e v = (v .low, v .high)
+block-within Vol b c e v = absurd (true≢false (sym e))
+block-within Gen b c e v = absurd (true≢false (sym e))
+
+pub exists-within : (es : List Entry) → Each AcceptedLine es → (b : ℕ) → exists es b ≡ true → (1 ≤ b) × (b ≤ blocks)
+unfolding exists
+exists-within [] all b e = absurd (true≢false (sym e))
+exists-within (l ∷ es) all b e = go (exists-within es (all .1) b) (ofBlock (l .code)) refl (eqb (l .block) b) refl e
+  where
+    go : (exists es b ≡ true → (1 ≤ b) × (b ≤ blocks)) → (t : Bool) → ofBlock (l .code) ≡ t → (u : Bool) → eqb (l .block) b ≡ u
+        → pick t (pick u true (exists es b)) (exists es b) ≡ true → (1 ≤ b) × (b ≤ blocks)
+    go rest false p u q h = rest (sym (if-false _ refl) ∙ h)
+    go rest true p false q h = rest (sym (if-true _ refl ∙ if-false _ refl) ∙ h)
+    go rest true p true q h = rw (← eqb-true (l .block) b q) (block-within (l .code) (l .block) (l .class) p (all .0 .key))
+
+-- ---- the rules in their order, walked once
+
+-- what every rule leaves
+pub record Passed (s : List ℕ) (es : List Entry) : Type 0 where
+  pub read : reading s ≡ complete es
+  pub lines : Each AcceptedLine es
+  pub scalar : hasLine es Gen 0 scalarClass ≡ true
+  pub credits : sheetOf es .credits ≤ available (sheetOf es)
+
+module _ (s : List ℕ) (P : Judgement → Type 0) (refused : (n : ℕ) (p : Place) → Judging n → printed p ≤ mostLines → P (turnedAway n p))
+    (passed : (es : List Entry) → Passed s es → P (sound es)) where
+  -- a rule that has no place
+  nowhere : (n : ℕ) → eqb n 0 ≡ false → eqb n 14 ≡ false → ltb n 100 ≡ true → P (turnedAway n Nowhere)
+  nowhere n z w h = refused n Nowhere (record { not-0 = eqb-false n 0 z; not-14 = eqb-false n 14 w; two-columns = ltb-true n 100 h }) (omega arith)
+
+  after-12 : (es : List Entry) → reading s ≡ complete es → Each AcceptedLine es → P (rule12 es)
+  unfolding rule12 rule13
+  after-12 es r all =
+      by-test P _ _ _
+      (λ t. by-test P _ _ _ (λ u. nowhere 13 refl refl refl) (λ u. passed es (record { read = r; lines = all; scalar = t; credits = ltb-false _ _ u })))
+      (λ t. nowhere 12 refl refl refl)
+
+  after-lines : length s ≤ longestSheet → (o : Reading) → reading s ≡ o → P (ruleLines o)
+  unfolding ruleLines
+  after-lines h (stopped es n i) e = let w = reading-stopped s es n i e in refused n (Line i) (w .0) (omega (arith, w .1))
+  after-lines h (complete es) e = after-12 es e (rw e at (all-read s))
+
+  -- what holds of each refusal by a rule and of each sheet that every rule lets pass holds of the judgement
+  pub by-rules : P (judgement s)
+  unfolding judgement rule2
+  by-rules =
+      by-test P _ _ _ (λ t. nowhere 1 refl refl refl) λ t.
+      by-test P _ _ _ (λ u. after-lines (ltb-false _ _ t) (reading s) refl) (λ u. nowhere 2 refl refl refl)
+
+module _ (s : List ℕ) where
+  unfoldable Gives : Judgement → Type 0
+  Gives j = (es : List Entry) → j ≡ sound es → Passed s es
+
+  pub sound-passed : (es : List Entry) → judgement s ≡ sound es → Passed s es
+  unfolding Gives
+  sound-passed = by-rules s Gives (λ n p g l es e. never (cc)) (λ es h es′ e. let q : es ≡ es′ = cc in subst (Passed s) q h)
+
+  -- the rule and the place of a judgement that turns a sheet away
+  unfoldable Numbered : Judgement → Type 0
+  Numbered j = (n : ℕ) (p : Place) → j ≡ turnedAway n p → Judging n × (printed p ≤ mostLines)
+
+  -- never 0, never 14, and number and place fit the columns of a REF line
+  pub numbered : (n : ℕ) (p : Place) → judgement s ≡ turnedAway n p → Judging n × (printed p ≤ mostLines)
+  unfolding Numbered
+  numbered =
+      by-rules s Numbered
+      (λ n p g l n′ p′ e. let a : n ≡ n′ = cc in let b : p ≡ p′ = cc in (subst Judging a g, subst (λ (q : Place). printed q ≤ mostLines) b l))
+      (λ es h n p e. never (cc))
+
+-- a sound judgement's sheet is an accepted sheet
+pub sound-accepted : (s : List ℕ) (es : List Entry) → judgement s ≡ sound es → AcceptedSheet (sheetOf es)
+unfolding sheetOf
+sound-accepted s es e =
+    let p = sound-passed s es e in
+    record {
+      blocks-pass = blocks-accepted es (p .lines) blocks;
+      few = few-blocks es blocks;
+      amounts = amounts-within es (p .lines);
+      g-low = scalar-ranged es (p .lines) (p .scalar) .0;
+      g-high = scalar-ranged es (p .lines) (p .scalar) .1;
+      credits-within = p .credits;
+    }

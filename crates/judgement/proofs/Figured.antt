@@ -1,0 +1,86 @@
+-- The blocks worked out one after the other: none yet, one that doesn't exist, one that does; and that the sums fit. Assumes nothing.
+use borrow.Rule.Slice.PartMut.{putMid}
+use mathlib.Core.Path.{_≡_, refl, sym, ap, _∙_}
+use mathlib.Core.Bool.{true, false}
+use mathlib.Core.List.{List, [], _∷_, append-assoc}
+use Prim.Native.Nat.{ℕ, suc, _+_, _-_, _*_, _≤_, _<_}
+use native.Mathlib.Omega.{arith}
+use lib.ListN.{length, set, length-append}
+use lib.Seq.{sets-eq, drop-drop}
+use Rattle.search.specs.Each.{Each}
+use Rattle.search.specs.Ascending.{ascending}
+use Rattle.search.proofs.Ascents.{one-more, none-more}
+use Rattle.search.proofs.Stretches.{front, part, from-front}
+use Rattle.amount.specs.Amount.{limit}
+use Rattle.guideline.specs.Sizes.{blocks, rowNumbers, tableNumbers}
+use Rattle.guideline.specs.Block.{K, figuresOf}
+use Rattle.guideline.specs.Buffer.{sumK}
+use Rattle.guideline.proofs.Figures.{u-fits, k-high, figures-long}
+use Rattle.guideline.proofs.Totals.{sum-more, sum-fits}
+use Rattle.sheet_line.specs.declared.Entry.{Entry}
+use Rattle.sheet_line.specs.Rules.{AcceptedLine}
+use Rattle.ledger.specs.Entries.{exists, blockOf}
+use Rattle.judgement.specs.Sheet.{blocksTo, rowsTo}
+use Rattle.judgement.specs.Steps.{WorkedOut}
+use Rattle.judgement.specs.declared.Worked.{Worked}
+use Rattle.judgement.proofs.Accepted.{few-blocks, block-accepted, blocks-accepted}
+
+-- a row stored number by number is a row put
+pub row-put : (l : List ℕ) (at b i d u lt k : ℕ) → at + rowNumbers ≤ length l
+    → set (set (set (set (set (set l at b) (at + 1) i) (at + 2) d) (at + 3) u) (at + 4) lt) (at + 5) k ≡ putMid at rowNumbers l (b ∷ i ∷ d ∷ u ∷ lt ∷ k ∷ [])
+row-put l at b i d u lt k room =
+    let e₁ : at + 1 ≡ suc at = omega arith in
+    let e₂ : at + 2 ≡ suc (suc at) = omega arith in
+    let e₃ : at + 3 ≡ suc (suc (suc at)) = omega arith in
+    let e₄ : at + 4 ≡ suc (suc (suc (suc at))) = omega arith in
+    let e₅ : at + 5 ≡ suc (suc (suc (suc (suc at)))) = omega arith in
+    rw (e₁, e₂, e₃, e₄, e₅, drop-drop rowNumbers at l) (sets-eq (b ∷ i ∷ d ∷ u ∷ lt ∷ k ∷ []) l at room ∙ simp append-assoc)
+
+pub none : (es : List Entry) (rows : List ℕ) → length rows ≡ tableNumbers → WorkedOut es 0 (record { count = 0; sum = 0 }) rows
+unfolding blocksTo rowsTo ascending sumK
+none es rows h = record { count = refl; sum = refl; front = refl; long = h }
+
+-- block n, after those before it
+module _ (es : List Entry) {n : ℕ} {w : Worked} {rows : List ℕ} (from : 1 ≤ n) (before : WorkedOut es (n - 1) w rows) where
+  pub absent : exists es n ≡ false → WorkedOut es n w rows
+  unfolding blocksTo rowsTo
+  absent e =
+      let m = sym (none-more (exists es) (λ b. blockOf es b ∷ []) n from e) in
+      record {
+        count = before .count ∙ ap length m;
+        sum = before .sum ∙ ap sumK m;
+        front = before .front ∙ sym (none-more (exists es) (λ b. b ∷ figuresOf (blockOf es b)) n from e);
+        long = before .long;
+      }
+
+  -- what is counted and summed with block n fits
+  pub fits : n ≤ blocks → Each AcceptedLine es → (w .count < blocks) × (w .sum + K (blockOf es n) ≤ 10 * limit * blocks)
+  fits to all =
+      omega (
+        arith,
+        before .count,
+        before .sum,
+        few-blocks es (n - 1),
+        sum-fits (blocksTo es (n - 1)) (blocks-accepted es all (n - 1)),
+        k-high (blockOf es n) (block-accepted es all n),
+        u-fits (blockOf es n) (block-accepted es all n),
+      )
+
+  -- its row is put behind those before
+  pub present : w .count < blocks → exists es n ≡ true → (f : List ℕ) (k : ℕ) → f ≡ figuresOf (blockOf es n) → k ≡ K (blockOf es n)
+      → WorkedOut es n (record { count = w .count + 1; sum = w .sum + k }) (putMid (rowNumbers * w .count) rowNumbers rows (n ∷ f))
+  unfolding blocksTo rowsTo
+  present few e f k p q =
+      let m = one-more (exists es) (λ b. blockOf es b ∷ []) n from e in
+      let r = one-more (exists es) (λ b. b ∷ figuresOf (blockOf es b)) n from e in
+      let bs = ascending (exists es) (λ b. blockOf es b ∷ []) (n - 1) in
+      let a : rowNumbers * w .count + rowNumbers ≡ rowNumbers * (w .count + 1) = omega arith in
+      let room : rowNumbers * w .count + rowNumbers ≤ length rows = omega (arith, before .long) in
+      let long : length (n ∷ f) ≡ rowNumbers = ap (λ (l : List ℕ). length (n ∷ l)) p ∙ rw (figures-long (blockOf es n)) in
+      let done = part (from-front (before .front) (omega arith)) rowNumbers (n ∷ f) room long in
+      record {
+        count = rw m (omega (arith, before .count, length-append bs (blockOf es n ∷ [])));
+        sum = rw m (omega (arith, before .sum, sum-more bs (blockOf es n), q));
+        front = rw (← a) (front done ∙ rw (r, p));
+        long = done .long ∙ before .long;
+      }

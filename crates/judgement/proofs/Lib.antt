@@ -1,0 +1,5 @@
+pub mod Tables
+pub mod Accepted
+pub mod Figured
+pub mod Available
+pub mod Rules

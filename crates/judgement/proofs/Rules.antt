@@ -1,0 +1,130 @@
+-- The rules of a judgement by what the tests find, in the order in which they are tested; and what a judgement tells. Assumes nothing.
+use mathlib.Core.Path.{_≡_, refl, sym, ap, _∙_, subst}
+use mathlib.Core.Bool.{true, false}
+use mathlib.Core.List.{List}
+use Prim.Native.Nat.{ℕ, _%_, _≤_, _<_}
+use lib.ListN.{length}
+use Rattle.search.proofs.Picks.{if-true, if-false, if-lt, if-ge, if-eq, if-ne, never}
+use Rattle.refusal.specs.declared.Place.{Place}
+use Rattle.refusal.specs.declared.Place.the-variants as place
+use Rattle.guideline.specs.Sizes.{blocks}
+use Rattle.guideline.specs.Operational.{RO}
+use Rattle.guideline.specs.Buffer.{count, sumK, available, buffer}
+use Rattle.sheet_line.specs.Line.{sheetLineBytes}
+use Rattle.sheet_line.specs.Codes.{scalarClass}
+use Rattle.sheet_line.specs.declared.Code.the-variants.{Gen}
+use Rattle.sheet_line.specs.declared.Entry.{Entry}
+use Rattle.ledger.specs.Entries.{hasLine}
+use Rattle.ledger.specs.Reading.{Reading, reading, entriesOf, outcomeOf}
+use Rattle.ledger.specs.Reading as ledger
+use Rattle.ledger.specs.Reading.Reading.{complete, stopped}
+use Rattle.ledger.specs.Tables.{longestSheet, Filled}
+use Rattle.ledger.specs.declared.Answer.{Answer}
+use Rattle.ledger.specs.declared.Answer.the-variants as answer
+use Rattle.ledger.proofs.Lines.{all-read}
+use Rattle.judgement.specs.Sheet.{sheetOf, rowsTo}
+use Rattle.judgement.specs.Judgement.{Judgement, rule13, rule12, ruleLines, rule2, judgement, findings}
+use Rattle.judgement.specs.Judgement.Judgement.{turnedAway, sound}
+use Rattle.judgement.specs.Judgement.Findings.{refusal, figures}
+use Rattle.judgement.specs.Steps.{Holds, LinesOf}
+use Rattle.judgement.proofs.Accepted.{sound-passed}
+
+-- ---- rules 1 and 2, and the lines
+
+module _ (s : List ℕ) where
+  pub too-long : longestSheet < length s → refusal 1 place.Nowhere ≡ findings (judgement s)
+  unfolding judgement findings
+  too-long h = sym (ap findings (if-lt _ h))
+
+  module _ (h : length s ≤ longestSheet) where
+    pub no-multiple : (length s % sheetLineBytes ≡ 0 → ⊥) → refusal 2 place.Nowhere ≡ findings (judgement s)
+    unfolding judgement rule2 findings
+    no-multiple n = sym (ap findings (if-ge _ h ∙ if-ne _ n))
+
+    module _ (z : length s % sheetLineBytes ≡ 0) where
+      lined : judgement s ≡ ruleLines (reading s)
+      unfolding judgement rule2
+      lined = if-ge _ h ∙ if-eq _ z
+
+      module _ (a : Answer) (f g m : List ℕ) (F : Filled (reading s) a f g m) where
+        pub bad-line : (n : ℕ) (p : Place) → a ≡ answer.Refused n p → refusal n p ≡ findings (judgement s)
+        unfolding ruleLines findings
+        bad-line n p e = go (reading s) refl (sym (F .answer) ∙ ap ledger.stated e)
+          where
+            go : (o : Reading) → reading s ≡ o → outcomeOf (reading s) ≡ ledger.stated (answer.Refused n p) → refusal n p ≡ findings (judgement s)
+            go (complete es) q c = let d : outcomeOf (complete es) ≡ ledger.stated (answer.Refused n p) = rw q at c in never (cc)
+            go (stopped es k i) q c =
+                let d : outcomeOf (stopped es k i) ≡ ledger.stated (answer.Refused n p) = rw q at c in
+                let u : n ≡ k = cc in
+                let v : p ≡ place.Line i = cc in
+                rw (lined, q, u, v)
+
+        -- all lines are good
+        module _ (k : ℕ) (e : a ≡ answer.Accepted k) where
+          read : reading s ≡ complete (entriesOf (reading s))
+          read = go (reading s) (sym (F .answer) ∙ ap ledger.stated e)
+            where
+              go : (o : Reading) → outcomeOf o ≡ ledger.stated (answer.Accepted k) → o ≡ complete (entriesOf o)
+              go (complete es) c = refl
+              go (stopped es n i) c = never (cc)
+
+          pub holds : Holds (entriesOf (reading s)) f g m
+          holds = record { first = F .first; second = F .second; mark = F .mark; lines = all-read s }
+
+          pub good-lines : findings (rule12 (entriesOf (reading s))) ≡ findings (judgement s)
+          unfolding ruleLines
+          good-lines = ap findings (sym (lined ∙ ap ruleLines read))
+
+-- ---- rules 12 and 13
+
+module _ (es : List Entry) where
+  pub no-scalar : hasLine es Gen 0 scalarClass ≡ false → refusal 12 place.Nowhere ≡ findings (rule12 es)
+  unfolding rule12 findings
+  no-scalar h = sym (ap findings (if-false _ h))
+
+  module _ (h : hasLine es Gen 0 scalarClass ≡ true) where
+    pub credits-above : available (sheetOf es) < sheetOf es .credits → refusal 13 place.Nowhere ≡ findings (rule12 es)
+    unfolding rule12 rule13 findings
+    credits-above k = sym (ap findings (if-true _ h ∙ if-lt _ k))
+
+    pub passes : sheetOf es .credits ≤ available (sheetOf es) → findings (sound es) ≡ findings (rule12 es)
+    unfolding rule12 rule13
+    passes k = sym (ap findings (if-true _ h ∙ if-ge _ k))
+
+-- ---- what is findings
+
+-- figures that are those of these lines
+pub record Figured (es : List Entry) (n : ℕ) (rows : List ℕ) (sum ro x : ℕ) : Type 0 where
+  pub count-is : n ≡ count (sheetOf es)
+  pub rows-are : rows ≡ rowsTo es blocks
+  pub sum-is : sum ≡ sumK (sheetOf es .blocks)
+  pub ro-is : ro ≡ RO (sheetOf es .volumes) (sheetOf es .general)
+  pub buffer-is : x ≡ buffer (sheetOf es)
+
+pub figured : (es : List Entry) {n : ℕ} {rows : List ℕ} {sum ro x : ℕ} → Figured es n rows sum ro x → figures n rows sum ro x ≡ findings (sound es)
+unfolding findings
+figured es F = rw (F .count-is, F .rows-are, F .sum-is, F .ro-is, F .buffer-is)
+
+-- a judgement that tells a refusal, and one that tells figures
+pub findings-refusal : (j : Judgement) {n : ℕ} {p : Place} → refusal n p ≡ findings j → j ≡ turnedAway n p
+unfolding findings
+findings-refusal (turnedAway k q) e = cc
+findings-refusal (sound es) e = never (cc)
+
+pub findings-figures : (j : Judgement) {n : ℕ} {rows : List ℕ} {sum ro x : ℕ} → figures n rows sum ro x ≡ findings j
+    → (es : List Entry) × (j ≡ sound es) × Figured es n rows sum ro x
+unfolding findings
+findings-figures (turnedAway k q) e = never (cc)
+findings-figures (sound es) e = (es, refl, record { count-is = cc; rows-are = cc; sum-is = cc; ro-is = cc; buffer-is = cc })
+
+-- ---- the tables afterwards
+
+-- a refusal promises nothing of them
+pub no-lines : (j : Judgement) {n : ℕ} {p : Place} (f g m : List ℕ) → refusal n p ≡ findings j → (refusal n p ≡ findings j) × LinesOf j f g m
+no-lines j f g m e = (e, λ es q. let t = findings-refusal j e in never (cc))
+
+-- those of good lines hold them
+pub lines-held : (s f g m : List ℕ) → Holds (entriesOf (reading s)) f g m → LinesOf (judgement s) f g m
+lines-held s f g m H es q =
+    let e : entriesOf (reading s) ≡ es = ap entriesOf (sound-passed s es q .read) in
+    subst (λ (x : List Entry). Holds x f g m) e H

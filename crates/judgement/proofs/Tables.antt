@@ -1,0 +1,29 @@
+-- What is read off the tables that hold a sheet's lines is what the lines say. Assumes nothing.
+use mathlib.Core.Path.{_≡_}
+use mathlib.Core.List.{List}
+use Prim.Native.Nat.{ℕ, _≤_}
+use Rattle.guideline.specs.Sizes.{blocks}
+use Rattle.sheet_line.specs.Codes.{generalClasses, scalarClass}
+use Rattle.sheet_line.specs.declared.Code.the-variants.{Gen}
+use Rattle.sheet_line.specs.declared.Entry.{Entry}
+use Rattle.ledger.specs.Entries.{exists, hasLine, blockBy, volumesBy, blockOf, volumesOf, generalAmount}
+use Rattle.ledger.specs.Tables.{tabled, hasMark, blockMarked}
+use Rattle.ledger.proofs.Marks.{exists-table}
+use Rattle.ledger.proofs.Numbers.{block-table, volumes-table, general-table, scalar-table}
+use Rattle.judgement.specs.Steps.{Holds}
+
+module _ {es : List Entry} {f s m : List ℕ} (H : Holds es f s m) where
+  pub exists-is : (b : ℕ) → 1 ≤ b → b ≤ blocks → blockMarked m b ≡ exists es b
+  exists-is b l h = rw (H .mark) (exists-table es b (H .lines) (l, h))
+
+  pub numbers-are : (b : ℕ) → 1 ≤ b → b ≤ blocks → blockBy (tabled f) (tabled s) b ≡ blockOf es b
+  numbers-are b l h = rw (H .first, H .second) (block-table es (H .lines) b (l, h))
+
+  pub volumes-are : volumesBy (tabled f) (tabled s) ≡ volumesOf es
+  volumes-are = rw (H .first, H .second) (volumes-table es (H .lines))
+
+  pub general-is : (c : ℕ) → (1 ≤ c) × (c ≤ generalClasses) → tabled f Gen 0 c ≡ generalAmount es c
+  general-is c h = rw (H .first) (general-table es (H .lines) c h)
+
+  pub scalar-is : hasMark m Gen 0 scalarClass ≡ hasLine es Gen 0 scalarClass
+  scalar-is = rw (H .mark) (scalar-table es (H .lines))

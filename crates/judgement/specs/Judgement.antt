@@ -1,0 +1,70 @@
+-- A sheet verdict, every rule but 14, after document 01, 'What is turned away': 'Order: 1, 2; then the first bad line, in it 3, 4, 5, 6, 8, 9,
+-- 10, 11; then 12, 13'. Each rule ends in the next one. Assumes nothing.
+use mathlib.Core.List.{List}
+use Prim.Native.Nat.{ℕ, _*_, _%_}
+use lib.Dec.{ltb, eqb}
+use lib.ListN.{length, take}
+use Rattle.search.specs.Pick.{pick}
+use Rattle.refusal.specs.declared.Place.{Place}
+use Rattle.refusal.specs.declared.Place.the-variants as place
+use Rattle.guideline.specs.Sizes.{blocks, rowNumbers}
+use Rattle.guideline.specs.Operational.{RO}
+use Rattle.guideline.specs.Buffer.{count, sumK, available, buffer}
+use Rattle.sheet_line.specs.Line.{sheetLineBytes}
+use Rattle.sheet_line.specs.Codes.{scalarClass}
+use Rattle.sheet_line.specs.declared.Code.the-variants.{Gen}
+use Rattle.sheet_line.specs.declared.Entry.{Entry}
+use Rattle.ledger.specs.Entries.{hasLine}
+use Rattle.ledger.specs.Reading.{Reading, reading}
+use Rattle.ledger.specs.Reading.Reading.{complete, stopped}
+use Rattle.ledger.specs.Tables.{longestSheet}
+use Rattle.judgement.specs.Sheet.{sheetOf, rowsTo}
+use Rattle.judgement.specs.declared.Verdict.{Verdict}
+use Rattle.judgement.specs.declared.Verdict.the-variants.{Sound, TurnedAway}
+
+-- what a sheet is judged to be
+pub data Judgement : Type 0 where
+  -- under a rule, with its place
+  turnedAway : ℕ → Place → Judgement
+  -- the lines of a sheet that no rule turns away
+  sound : List Entry → Judgement
+
+-- rule 13: 'credits above sum of K + guarantee requirement + RO, as reported'
+unfoldable pub rule13 : List Entry → Judgement
+rule13 es = pick (ltb (available (sheetOf es)) (sheetOf es .credits)) (turnedAway 13 place.Nowhere) (sound es)
+
+-- rule 12: 'no g line'
+unfoldable pub rule12 : List Entry → Judgement
+rule12 es = pick (hasLine es Gen 0 scalarClass) (rule13 es) (turnedAway 12 place.Nowhere)
+
+-- 'then the first bad line'
+unfoldable pub ruleLines : Reading → Judgement
+ruleLines (stopped es n i) = turnedAway n (place.Line i)
+ruleLines (complete es) = rule12 es
+
+-- rule 2: 'length isn't a multiple of 40'
+unfoldable pub rule2 : List ℕ → Judgement
+rule2 s = pick (eqb (length s % sheetLineBytes) 0) (ruleLines (reading s)) (turnedAway 2 place.Nowhere)
+
+-- rule 1, 'sheet above 11,720 bytes', and then the others
+unfoldable pub judgement : List ℕ → Judgement
+judgement s = pick (ltb longestSheet (length s)) (turnedAway 1 place.Nowhere) (rule2 s)
+
+-- ---- what is findings of a judgement
+
+-- a refusal; or how many blocks exist, the rows of their figures, the sum of K, RO and the buffer
+pub data Findings : Type 0 where
+  refusal : ℕ → Place → Findings
+  figures : ℕ → List ℕ → ℕ → ℕ → ℕ → Findings
+
+-- what a judgement has to tell
+unfoldable pub findings : Judgement → Findings
+findings (turnedAway n p) = refusal n p
+findings (sound es) =
+    let s = sheetOf es in
+    figures (count s) (rowsTo es blocks) (sumK (s .blocks)) (RO (s .volumes) (s .general)) (buffer s)
+
+-- what the enum's cases say in document 01's numbers, with the table of figures
+abbrev pub stated : Verdict → List ℕ → Findings
+stated (TurnedAway n p) rows = refusal n p
+stated (Sound t) rows = figures (t .count) (take (rowNumbers * t .count) rows) (t .sum) (t .ro) (t .buffer)

@@ -1,0 +1,29 @@
+-- A sheet's amounts and its blocks' figures off its lines: 'An absent line means zeros', and 'Blocks ascend'. Assumes nothing.
+use mathlib.Core.List.{List, [], _∷_}
+use Prim.Native.Nat.{ℕ}
+use Rattle.sheet_line.specs.Codes.{guaranteeClass, scalarClass, creditsClass}
+use Rattle.search.specs.Ascending.{ascending}
+use Rattle.guideline.specs.Sizes.{blocks}
+use Rattle.guideline.specs.Block.{figuresOf}
+use Rattle.guideline.specs.Buffer.{Sheet}
+use Rattle.sheet_line.specs.declared.Entry.{Entry}
+use Rattle.ledger.specs.Entries.{exists, blockOf, volumesOf, generalAmount}
+
+-- the 17 numbers of each of the blocks 1 to n that exist, ascending
+unfoldable pub blocksTo : List Entry → ℕ → List (List ℕ)
+blocksTo es n = ascending (exists es) (λ b. blockOf es b ∷ []) n
+
+-- 'GEN: 1 gross components, 2 guarantee requirement, 3 ceded premiums, 4 g, 5 credits'
+unfoldable pub sheetOf : List Entry → Sheet
+sheetOf es =
+    record {
+      blocks = blocksTo es blocks;
+      volumes = volumesOf es;
+      general = generalAmount es 1 ∷ generalAmount es guaranteeClass ∷ generalAmount es 3 ∷ [];
+      g = generalAmount es scalarClass;
+      credits = generalAmount es creditsClass;
+    }
+
+-- a row for each of the blocks 1 to n that exist, ascending: the block's number, and its five figures
+unfoldable pub rowsTo : List Entry → ℕ → List ℕ
+rowsTo es n = ascending (exists es) (λ b. b ∷ figuresOf (blockOf es b)) n

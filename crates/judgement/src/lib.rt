@@ -1,0 +1,191 @@
+// A sheet verdict: every rule but 14, and what its report is to say.
+ghost use mathlib.Core.Path.{_≡_};
+ghost use mathlib.Core.List.{_∷_};
+ghost use Prim.Native.Nat.{_+_, _-_, _*_, _^_, _≤_, _<_};
+ghost use lib.Dec.{leb};
+ghost use lib.ListN.{length};
+ghost use borrow.Rule.Slice.PartMut.{putMid};
+ghost use Rattle.guideline.specs.Buffer.{mostAvailable};
+ghost use Rattle.search.specs.Least.{least};
+ghost use Rattle.guideline.specs.Sizes.{blocks, rowNumbers, tenThousandths, largestScalar, tableNumbers};
+ghost use Rattle.guideline.specs.Operational.{RO};
+ghost use Rattle.ledger.specs.Tables.{Empty};
+ghost use Rattle.block.specs.Parts.{figureList};
+ghost use Rattle.judgement.specs.Judgement.{judgement, rule12, findings, stated};
+ghost use Rattle.judgement.specs.Sheet.{sheetOf};
+ghost use Rattle.judgement.specs.Steps.{Ledger, OfLines, LinesOf, WorkedOut};
+use block::Figures;
+use guideline::BLOCKS;
+use guideline::ROW_NUMBERS;
+use guideline::TABLE_NUMBERS;
+use guideline::TEN_THOUSANDTHS;
+use ledger::Answer;
+use ledger::LONGEST_SHEET;
+use ledger::PLACES;
+use refusal::Place;
+use sheet_line::SHEET_LINE_BYTES;
+use sheet_line::codes::CREDITS_CLASS;
+use sheet_line::codes::GUARANTEE_CLASS;
+use sheet_line::codes::SCALAR_CLASS;
+
+// What a sheet comes to: how many blocks exist, the sum of their K, RO and the buffer.
+pub struct Totals {
+    pub count: usize,
+    pub sum: u64,
+    pub ro: u64,
+    pub buffer: u64,
+}
+
+// A sheet that no rule turns away, or the rule that does, with its place.
+pub enum Verdict {
+    Sound(Totals),
+    TurnedAway(u8, Place),
+}
+
+// Judges a sheet of any bytes. Where it is sound, the rows of its blocks' figures stand in front of the lent table of rows, and the other
+// tables hold its lines. What the tables hold of a sheet that is turned away is left free, as is the table of rows behind the rows.
+pub fn judge(
+    sheet: &[u8],
+    firsts: &mut [u64; PLACES],
+    seconds: &mut [u64; PLACES],
+    marks: &mut [u8; PLACES],
+    rows: &mut [u64; TABLE_NUMBERS],
+) -> Verdict
+    requires { ⌜ Empty (now firsts) (now seconds) (now marks) ⌝ }
+    ensures { λ r. ⌜ stated r (now (rows .exit)) ≡ findings (judgement (now (sheet .entry))) ⌝ }
+    ensures { λ _. ⌜ LinesOf (judgement (now (sheet .entry))) (now (firsts .exit)) (now (seconds .exit)) (now (marks .exit)) ⌝ }
+{
+    if LONGEST_SHEET < sheet.len() {
+        return Verdict::TurnedAway(1, Place::Nowhere);
+    }
+    if sheet.len() % SHEET_LINE_BYTES != 0 {
+        return Verdict::TurnedAway(2, Place::Nowhere);
+    }
+    let read = ledger::read_lines(sheet, firsts, seconds, marks);
+    match read {
+        Answer::Refused(rule, place) => Verdict::TurnedAway(rule, place),
+        Answer::Accepted(_) => after_lines(firsts, seconds, marks, rows),
+    }
+}
+
+// Rules 12 and 13, of lines that are all good.
+fn after_lines(
+    firsts: &[u64; PLACES],
+    seconds: &[u64; PLACES],
+    marks: &[u8; PLACES],
+    rows: &mut [u64; TABLE_NUMBERS],
+) -> Verdict
+    requires { ⌜ Ledger (now firsts) (now seconds) (now marks) ⌝ }
+    ensures { λ r. ⌜ OfLines (now (firsts .entry)) (now (seconds .entry)) (now (marks .entry)) (λ es. stated r (now (rows .exit)) ≡ findings (rule12 es)) ⌝ }
+{
+    if !ledger::has_scalar(marks) {
+        return Verdict::TurnedAway(12, Place::Nowhere);
+    }
+    let w = work_out(firsts, seconds, marks, rows);
+    let count = w.count;
+    let sum = w.sum;
+    let ro = operational_figure(firsts, seconds, marks);
+    let available = sum + ledger::general_amount(firsts, GUARANTEE_CLASS) + ro;
+    let credits = ledger::general_amount(firsts, CREDITS_CLASS);
+    if available < credits {
+        return Verdict::TurnedAway(13, Place::Nowhere);
+    }
+    let buffer = scaled(
+        ledger::general_amount(firsts, SCALAR_CLASS),
+        available - credits,
+    );
+    Verdict::Sound(Totals {
+        count,
+        sum,
+        ro,
+        buffer,
+    })
+}
+
+// g × bracket over 10,000, rounded up. The product can pass a word: the bracket is split by 10,000 first.
+fn scaled(g: u64, bracket: u64) -> u64
+    requires { ⌜ (g ≤ largestScalar) × (bracket ≤ mostAvailable) ⌝ }
+    ensures { λ r. ⌜ r ≡ least (λ x. leb (g * bracket) (tenThousandths * x)) ⌝ }
+{
+    g * (bracket / TEN_THOUSANDTHS)
+        + (g * (bracket % TEN_THOUSANDTHS) + (TEN_THOUSANDTHS - 1)) / TEN_THOUSANDTHS
+}
+
+// RO of the lines.
+fn operational_figure(firsts: &[u64; PLACES], seconds: &[u64; PLACES], marks: &[u8; PLACES]) -> u64
+    requires { ⌜ Ledger (now firsts) (now seconds) (now marks) ⌝ }
+    ensures { λ r. ⌜ OfLines (now (firsts .entry)) (now (seconds .entry)) (now (marks .entry)) (λ es. r ≡ RO (sheetOf es .volumes) (sheetOf es .general)) ⌝ }
+{
+    let volumes = ledger::volume_numbers(firsts, seconds);
+    let general = [
+        ledger::general_amount(firsts, 1),
+        ledger::general_amount(firsts, 2),
+        ledger::general_amount(firsts, 3),
+    ];
+    operational::operational(&volumes, &general)
+}
+
+// What is known of the blocks up to some number: how many exist, and the sum of their K.
+struct Worked {
+    count: usize,
+    sum: u64,
+}
+
+// The rows of the blocks that exist, ascending, from the table's front on.
+fn work_out(
+    firsts: &[u64; PLACES],
+    seconds: &[u64; PLACES],
+    marks: &[u8; PLACES],
+    rows: &mut [u64],
+) -> Worked
+    requires { ⌜ Ledger (now firsts) (now seconds) (now marks) ⌝ }
+    requires { ⌜ length (now rows) ≡ tableNumbers ⌝ }
+    ensures { λ r. ⌜ OfLines (now (firsts .entry)) (now (seconds .entry)) (now (marks .entry)) (λ es. WorkedOut es blocks r (now (rows .exit))) ⌝ }
+{
+    let mut w = Worked { count: 0, sum: 0 };
+    let mut block: usize = 0;
+    while block < BLOCKS {
+        block += 1;
+        w = work_block(firsts, seconds, marks, rows, block, w);
+    }
+    w
+}
+
+// One block more: what is known of the blocks before it becomes what is known with it.
+fn work_block(
+    firsts: &[u64; PLACES],
+    seconds: &[u64; PLACES],
+    marks: &[u8; PLACES],
+    rows: &mut [u64],
+    block: usize,
+    w: Worked,
+) -> Worked
+    requires { ⌜ (1 ≤ block) × (block ≤ blocks) ⌝ }
+    requires { ⌜ Ledger (now firsts) (now seconds) (now marks) ⌝ }
+    requires { ⌜ OfLines (now firsts) (now seconds) (now marks) (λ es. WorkedOut es (block - 1) w (now rows)) ⌝ }
+    ensures { λ r. ⌜ OfLines (now (firsts .entry)) (now (seconds .entry)) (now (marks .entry)) (λ es. WorkedOut es block r (now (rows .exit))) ⌝ }
+{
+    if !ledger::block_exists(marks, block) {
+        return w;
+    }
+    let numbers = ledger::block_numbers(firsts, seconds, block);
+    let f = block::figures_of(&numbers);
+    store(rows, ROW_NUMBERS * w.count, block, f);
+    Worked {
+        count: w.count + 1,
+        sum: w.sum + f.k,
+    }
+}
+
+// A block's row, from a place of the table on.
+fn store(rows: &mut [u64], from: usize, block: usize, f: Figures)
+    requires { ⌜ from + rowNumbers ≤ length (now rows) ⌝ }
+    ensures { λ _. ⌜ now (rows .exit) ≡ putMid from rowNumbers (now (rows .entry)) (block ∷ figureList f) ⌝ }
+{
+    rows[from] = cast::word(block);
+    rows[from + 1] = f.i;
+    rows[from + 2] = f.d;
+    rows[from + 3] = f.u;
+    rows[from + 4] = f.lt;
+    rows[from + 5] = f.k;
+}

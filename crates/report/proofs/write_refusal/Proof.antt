@@ -1,0 +1,14 @@
+-- The line that is written says the refusal's number and what is printed of its place. Assumes nothing.
+use borrow.Author.Needs.{needs}
+use Rattle.report.specs.Rows.{refusalLine}
+use Rattle.report.proofs.write_refusal.Statement.{statement}
+use Rattle.report.proofs.write_refusal.Tie as tie
+
+returns : tie.Need-returns
+unfolding refusalLine
+returns c =
+    let w = c .before .before in
+    rw (w .before .before .byte .ensures, w .before .place-number .ensures) at (w .write-line .ensures)
+
+pub write-refusal-spec : {M : Type 1} → statement M
+write-refusal-spec = tie.close (tie.spec (λ c κs. search needs) (λ c κs. search needs) (λ c κs. search needs) (λ c. search needs) returns)

@@ -1,0 +1,45 @@
+-- A stretch of a line's bytes with a line written into it: the three fields put back after they were lent, then code and
+-- separators stored. Assumes nothing.
+use borrow.Rule.Slice.PartMut.{putMid, same-len-mid}
+use mathlib.Core.Path.{_≡_, refl, ap, _∙_}
+use mathlib.Core.List.{List}
+use Prim.Native.Nat.{ℕ, _+_, _≤_}
+use native.Mathlib.Omega.{arith}
+use lib.ListN.{length, getD, set, take, drop, length-drop}
+use lib.Seq.{length-take-le}
+use Rattle.field.specs.Field.{leadingDigits, decimal}
+use Rattle.field.proofs.Writing.{length-decimal}
+use Rattle.report_line.specs.Line.{reportLineBytes, key, reportLine}
+use Rattle.search.proofs.Values.{values, is-values}
+
+-- `ys` is what the field writer leaves in the k columns of l from a on
+abbrev Field-in : List ℕ → ℕ → ℕ → ℕ → List ℕ → Type 0
+Field-in l a k v ys = ys ≡ decimal (length (take k (drop a l))) v
+
+module _ (l : List ℕ) (a k v : ℕ) (ys : List ℕ) (e : Field-in l a k v ys) where
+  put-long : length (putMid a k l ys) ≡ length l
+  put-long = same-len-mid a k l ys (ap length e ∙ length-decimal (length (take k (drop a l))) v)
+
+  put-is : k + a ≤ length l → ys ≡ decimal k v
+  put-is h = e ∙ ap (λ (n : ℕ). decimal n v) (length-take-le k (drop a l) (rw length-drop (omega arith)))
+
+-- code and separators stored into a stretch
+abbrev framed : List ℕ → List ℕ → List ℕ
+framed code l = set (set (set (set (set (set (set l 0 (getD code 0 0)) 1 (getD code 1 0)) 2 (getD code 2 0)) 3 32) 6 32) 9 32) 28 10
+
+filled : (f g : ℕ → ℕ) (block item number : ℕ)
+    → framed (values g 3) (putMid 10 18 (putMid 7 2 (putMid 4 2 (values f reportLineBytes) (decimal 2 block)) (decimal 2 item)) (decimal 18 number))
+    ≡ reportLine (values g 3) block item number
+unfolding values decimal leadingDigits reportLine key
+filled f g block item number = refl
+
+pub line-filled : (l code : List ℕ) (block item number : ℕ) (xs ys zs : List ℕ) → length l ≡ reportLineBytes → length code ≡ 3
+    → Field-in l 4 2 block xs → Field-in (putMid 4 2 l xs) 7 2 item ys → Field-in (putMid 7 2 (putMid 4 2 l xs) ys) 10 18 number zs
+    → framed code (putMid 10 18 (putMid 7 2 (putMid 4 2 l xs) ys) zs) ≡ reportLine code block item number
+line-filled l code block item number xs ys zs h k p q r =
+    let n₁ = put-long l 4 2 block xs p in
+    let n₂ = put-long (putMid 4 2 l xs) 7 2 item ys q in
+    let x = put-is l 4 2 block xs p (omega arith) in
+    let y = put-is (putMid 4 2 l xs) 7 2 item ys q (omega arith) in
+    let z = put-is (putMid 7 2 (putMid 4 2 l xs) ys) 10 18 number zs r (omega arith) in
+    rw (x, y, z, is-values 0 reportLineBytes l h, is-values 0 3 code k) (filled (λ i. getD l i 0) (λ i. getD code i 0) block item number)

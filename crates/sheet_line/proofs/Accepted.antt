@@ -1,0 +1,122 @@
+-- What a line that no rule turns away guarantees of its entry: what each rule's test leaves, and the rules one after the other. Assumes nothing.
+use mathlib.Core.Path.{_≡_, refl, sym, ap, _∙_, subst}
+use mathlib.Core.List.{List}
+use mathlib.Core.Bool.{true, false}
+use Prim.Native.Nat.{ℕ, _+_, _^_, _≤_, _<_}
+use native.Mathlib.Omega.{arith}
+use lib.ListN.{length, take, drop, length-drop}
+use lib.Seq.{length-take-le}
+use borrow.Author.Tests.{ltb-false, eqb-true, not-false}
+use Rattle.amount.specs.Amount.{limit}
+use Rattle.search.proofs.Picks.{if-true, by-test, never}
+use Rattle.field.specs.Field.{field}
+use Rattle.field.specs.declared.Field.{Field}
+use Rattle.field.specs.declared.Field.the-variants.{Value, Bad}
+use Rattle.field.proofs.Inverse.{field-bound}
+use Rattle.guideline.specs.Sizes.{largestScalar}
+use Rattle.sheet_line.specs.Codes.{Key, codeOf}
+use Rattle.sheet_line.specs.Line.{sheetLineBytes, columns, fieldsOf, layoutOf}
+use Rattle.sheet_line.specs.Rules.{outside, blockOutside, classOutside, singleOf, secondBarred, hasTrend, trendAbove, isScalar, scalarOutside, rule3, rule5, rule6, rule8, rule9, rule10, entryOf, parseLine, AcceptedLine}
+use Rattle.sheet_line.specs.declared.Code.{Code}
+use Rattle.sheet_line.specs.declared.codes.Coded.{Coded}
+use Rattle.sheet_line.specs.declared.codes.Coded.the-variants.{Known, Unknown}
+use Rattle.sheet_line.specs.declared.columns.Numbers.{Numbers}
+use Rattle.sheet_line.specs.declared.columns.Layout.{Layout}
+use Rattle.sheet_line.specs.declared.columns.Layout.the-variants.{Sound, Broken}
+use Rattle.sheet_line.specs.declared.Entry.{Entry}
+use Rattle.sheet_line.specs.declared.Line.{Line}
+use Rattle.sheet_line.specs.declared.Line.the-variants.{Good}
+
+-- ---- a test that does not hold
+
+inside : (low high n : ℕ) → outside low high n ≡ false → (low ≤ n) × (n ≤ high)
+unfolding outside
+inside low high n = by-test (λ t. t ≡ false → (low ≤ n) × (n ≤ high)) _ _ _ (λ p q. never (cc)) (λ p q. (ltb-false _ _ p, ltb-false _ _ q))
+
+key-of : (e : Entry) → blockOutside e ≡ false → classOutside e ≡ false → Key (e .code) (e .block) (e .class)
+key-of e p q =
+    let b = inside _ _ _ p in
+    let c = inside _ _ _ q in
+    record { low = b .0; high = b .1; one = c .0; most = c .1 }
+
+single-of : (k : Code) (c second : ℕ) → secondBarred k c second ≡ false → singleOf k c ≡ true → second ≡ 0
+unfolding secondBarred
+single-of k c second q s = eqb-true _ _ (not-false _ (sym (if-true _ s) ∙ q))
+
+trend-of : (k : Code) (first second : ℕ) → trendAbove k first second ≡ false → hasTrend k ≡ true → second ≤ first
+unfolding trendAbove
+trend-of k first second q s = ltb-false _ _ (sym (if-true _ s) ∙ q)
+
+scalar-of : (k : Code) (c first : ℕ) → scalarOutside k c first ≡ false → isScalar k c ≡ true → (1 ≤ first) × (first ≤ largestScalar)
+unfolding scalarOutside
+scalar-of k c first q s = inside _ _ _ (sym (if-true _ s) ∙ q)
+
+-- ---- rules 5 to 10
+
+module _ (e : Entry) (a : e .first ≤ limit) (b : e .second ≤ limit) (d : Entry) where
+  -- where a line is good, its entry is one that the rules leave
+  abbrev Accepts : Line → Type 0
+  Accepts l = l ≡ Good d → AcceptedLine d
+
+  rules-leave : Accepts (rule5 e)
+  unfolding rule5 rule6 rule8 rule9 rule10
+  rules-leave =
+      by-test Accepts _ _ _ (λ t q. never (cc)) λ r5.
+      by-test Accepts _ _ _ (λ t q. never (cc)) λ r6.
+      by-test Accepts _ _ _ (λ t q. never (cc)) λ r8.
+      by-test Accepts _ _ _ (λ t q. never (cc)) λ r9.
+      by-test Accepts _ _ _ (λ t q. never (cc)) λ r10 q.
+      let x : e ≡ d = cc in
+      subst AcceptedLine x
+      (record {
+        key = key-of e r5 r6;
+        amounts = record {
+          first-most = a;
+          second-most = b;
+          single = single-of (e .code) (e .class) (e .second) r8;
+          trend = trend-of (e .code) (e .first) (e .second) r9;
+          scalar = scalar-of (e .code) (e .class) (e .first) r10;
+        };
+      })
+
+-- ---- rule 3
+
+record Read (f g : Field) (n : Numbers) : Type 0 where
+  first : f ≡ Value (n .first)
+  second : g ≡ Value (n .second)
+
+fields-read : (b c f g : Field) (n : Numbers) → fieldsOf b c f g ≡ Sound n → Read f g n
+fields-read (Value x) (Value y) (Value z) (Value w) n q =
+    let e : record { block = x; class = y; first = z; second = w } ≡ n = cc in
+    record { first = ap Value (ap (λ (m : Numbers). m .first) e); second = ap Value (ap (λ (m : Numbers). m .second) e) }
+fields-read (Value x) (Value y) (Value z) Bad n q = never (cc)
+fields-read (Value x) (Value y) Bad g n q = never (cc)
+fields-read (Value x) Bad f g n q = never (cc)
+fields-read Bad c f g n q = never (cc)
+
+-- an amount has 14 columns
+amount-most : (s : List ℕ) (k r : ℕ) → k + 14 ≤ length s → field (take 14 (drop k s)) ≡ Value r → r ≤ limit
+amount-most s k r h q =
+    let l : length (take 14 (drop k s)) ≡ 14 = length-take-le 14 (drop k s) (rw length-drop (omega arith)) in
+    let b : r < 10 ^ 14 = rw l at (field-bound _ r q) in
+    omega arith
+
+module _ (s : List ℕ) (h : length s ≡ sheetLineBytes) where
+  sound-read : (n : Numbers) → layoutOf s ≡ Sound n → Read (field (columns 11 24 s)) (field (columns 26 39 s)) n
+  unfolding layoutOf
+  sound-read n =
+      by-test (λ l. l ≡ Sound n → Read (field (columns 11 24 s)) (field (columns 26 39 s)) n) _ _ _
+      (λ t. fields-read (field (columns 5 6 s)) (field (columns 8 9 s)) _ _ n)
+      (λ t q. never (cc))
+
+  -- rules 3 and 4, then the others
+  all-leave : (l : Layout) (c : Coded) (d : Entry) → layoutOf s ≡ l → rule3 l c ≡ Good d → AcceptedLine d
+  all-leave (Sound n) (Known k) d p q =
+      let r = sound-read n p in
+      rules-leave (entryOf k n) (amount-most s 10 _ (omega arith) (r .first)) (amount-most s 25 _ (omega arith) (r .second)) d q
+  all-leave (Sound n) Unknown d p q = never (cc)
+  all-leave Broken c d p q = never (cc)
+
+  pub line-good : (e : Entry) → parseLine s ≡ Good e → AcceptedLine e
+  unfolding parseLine
+  line-good e q = all-leave (layoutOf s) (codeOf s) e refl q

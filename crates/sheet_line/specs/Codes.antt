@@ -1,0 +1,80 @@
+-- The codes of a line: document 01's table of them, the sheet and the report. A code more is a clause more in each definition.
+-- Bytes are numbers: R is 82. Assumes nothing.
+use Prim.Native.Nat.{ℕ, _≤_}
+use mathlib.Core.List.{List, [], _∷_}
+use mathlib.Core.Bool.{Bool, false}
+use lib.Dec.{eqb}
+use lib.ListN.{getD}
+use Rattle.search.specs.Pick.{pick}
+use Rattle.guideline.specs.Sizes.{blocks, risks, territories, volumeClasses}
+use Rattle.sheet_line.specs.declared.Code.{Code}
+use Rattle.sheet_line.specs.declared.Code.the-variants.{Rsk, Oth, Vol, Gen}
+use Rattle.sheet_line.specs.declared.codes.Coded.{Coded}
+use Rattle.sheet_line.specs.declared.codes.Coded.the-variants.{Known, Unknown}
+use Rattle.sheet_line.specs.declared.codes.Range.{Range}
+
+-- the codes, in the table's order
+abbrev pub codes : List Code
+codes = Rsk ∷ Oth ∷ Vol ∷ Gen ∷ []
+
+-- the bytes of a code: RSK, OTH, VOL, GEN
+abbrev pub lettersOf : Code → List ℕ
+lettersOf Rsk = 82 ∷ 83 ∷ 75 ∷ []
+lettersOf Oth = 79 ∷ 84 ∷ 72 ∷ []
+lettersOf Vol = 86 ∷ 79 ∷ 76 ∷ []
+lettersOf Gen = 71 ∷ 69 ∷ 78 ∷ []
+
+-- RSK's classes: mortality to expenses
+abbrev pub riskClasses : ℕ
+riskClasses = risks
+
+-- RSK's class of expenses, which have no level and trend part
+abbrev pub expensesClass : ℕ
+expensesClass = 7
+
+-- OTH's classes: property and casualty, credit, market
+abbrev pub otherClasses : ℕ
+otherClasses = 3
+
+-- GEN's classes: gross components to credits
+abbrev pub generalClasses : ℕ
+generalClasses = 5
+
+-- the class of GEN that holds the guarantee requirement
+abbrev pub guaranteeClass : ℕ
+guaranteeClass = 2
+
+-- the class of GEN that holds the group and deposit credits
+abbrev pub creditsClass : ℕ
+creditsClass = 5
+
+-- the class of GEN that holds the scalar g
+abbrev pub scalarClass : ℕ
+scalarClass = 4
+
+-- the columns Block and Class of the table: 1–16 and 1–7, 1–16 and 1–3, 1–16 and 1–8, 0 and 1–5
+abbrev pub rangeOf : Code → Range
+rangeOf Rsk = record { lowest = 1; highest = blocks; classes = riskClasses }
+rangeOf Oth = record { lowest = 1; highest = blocks; classes = otherClasses }
+rangeOf Vol = record { lowest = 1; highest = territories; classes = volumeClasses }
+rangeOf Gen = record { lowest = 0; highest = 0; classes = generalClasses }
+
+-- a block and a class that a code has
+pub record Key (k : Code) (b c : ℕ) : Type 0 where
+  pub low : rangeOf k .lowest ≤ b
+  pub high : b ≤ rangeOf k .highest
+  pub one : 1 ≤ c
+  pub most : c ≤ rangeOf k .classes
+
+-- columns 1 to 3 of a line are these letters
+unfoldable pub isCode : List ℕ → List ℕ → Bool
+isCode w s = pick (eqb (getD s 0 0) (getD w 0 0)) (pick (eqb (getD s 1 0) (getD w 1 0)) (eqb (getD s 2 0) (getD w 2 0)) false) false
+
+-- the first of some codes whose letters columns 1 to 3 are
+unfoldable pub codeAmong : List Code → List ℕ → Coded
+codeAmong [] s = Unknown
+codeAmong (k ∷ ks) s = pick (isCode (lettersOf k) s) (Known k) (codeAmong ks s)
+
+-- 'code in columns 1–3'
+abbrev pub codeOf : List ℕ → Coded
+codeOf s = codeAmong codes s

@@ -1,0 +1,3 @@
+pub mod Codes
+pub mod Line
+pub mod Rules

@@ -1,0 +1,106 @@
+// The code in columns 1 to 3, and the blocks and classes that it has.
+ghost use mathlib.Core.Path.{_≡_};
+ghost use Prim.Native.Nat.{_≤_};
+ghost use lib.ListN.{length};
+ghost use Rattle.sheet_line.specs.Codes.{rangeOf, isCode, codeOf};
+use super::Code;
+use guideline::BLOCKS;
+use guideline::RISKS;
+use guideline::TERRITORIES;
+use guideline::VOLUME_CLASSES;
+
+// What the first three columns hold.
+pub enum Coded {
+    Known(Code),
+    Unknown,
+}
+
+// The blocks and the classes that a code has: blocks from the lowest to the highest, classes from 1 on.
+pub struct Range {
+    pub lowest: u64,
+    pub highest: u64,
+    pub classes: u64,
+}
+
+// RSK's classes: mortality to expenses.
+pub const RISK_CLASSES: usize = RISKS;
+
+// RSK's class of expenses, which have no level and trend part.
+pub(crate) const EXPENSES_CLASS: usize = 7;
+
+// OTH's classes: property and casualty, credit, market.
+pub const OTHER_CLASSES: usize = 3;
+
+// GEN's classes: gross components to credits.
+pub const GENERAL_CLASSES: usize = 5;
+
+// The class of GEN that holds the guarantee requirement.
+pub const GUARANTEE_CLASS: usize = 2;
+
+// The class of GEN that holds the group and deposit credits.
+pub const CREDITS_CLASS: usize = 5;
+
+// The class of GEN that holds the scalar g.
+pub const SCALAR_CLASS: usize = 4;
+
+// Compares the codes one after the other.
+pub(crate) fn read_code(s: &[u8]) -> Coded
+    requires { ⌜ 3 ≤ length (now s) ⌝ }
+    ensures { λ r. ⌜ r ≡ codeOf (now (s .entry)) ⌝ }
+{
+    if starts_with(s, b"RSK") {
+        return Coded::Known(Code::Rsk);
+    }
+    if starts_with(s, b"OTH") {
+        return Coded::Known(Code::Oth);
+    }
+    if starts_with(s, b"VOL") {
+        return Coded::Known(Code::Vol);
+    }
+    if starts_with(s, b"GEN") {
+        return Coded::Known(Code::Gen);
+    }
+    Coded::Unknown
+}
+
+// Whether columns 1 to 3 are these letters.
+fn starts_with(s: &[u8], letters: &[u8; 3]) -> bool
+    requires { ⌜ 3 ≤ length (now s) ⌝ }
+    ensures { λ r. ⌜ r ≡ isCode (now (letters .entry)) (now (s .entry)) ⌝ }
+{
+    if s[0] != letters[0] {
+        return false;
+    }
+    if s[1] != letters[1] {
+        return false;
+    }
+    s[2] == letters[2]
+}
+
+// The blocks and the classes that a code has.
+pub(crate) fn range_of(code: Code) -> Range
+    ensures { λ r. ⌜ r ≡ rangeOf code ⌝ }
+{
+    match code {
+        Code::Rsk => Range {
+            lowest: 1,
+            highest: BLOCKS as u64,
+            classes: RISK_CLASSES as u64,
+        },
+        Code::Oth => Range {
+            lowest: 1,
+            highest: BLOCKS as u64,
+            classes: OTHER_CLASSES as u64,
+        },
+        Code::Vol => Range {
+            lowest: 1,
+            highest: TERRITORIES as u64,
+            classes: VOLUME_CLASSES as u64,
+        },
+        Code::Gen => Range {
+            lowest: 0,
+            highest: 0,
+            classes: GENERAL_CLASSES as u64,
+        },
+    }
+}

@@ -1,0 +1,2 @@
+-- What the proofs of the functions on two words share: laws of numbers of two digits.
+pub mod Digits
