@@ -9,6 +9,7 @@ ghost use Rattle.guideline.specs.Sizes.{risks};
 ghost use Rattle.guideline.specs.Block.{AcceptedBlock, U, LT, ys, largestOf, I, radicand, requirement, figuresOf};
 ghost use Rattle.wide.specs.Sum.{held};
 ghost use Rattle.block.specs.Call.{stated, blockCall, firstLtAbove};
+ghost use Rattle.block.specs.Accepted.{BlockDemand3};
 ghost use Rattle.block.specs.Parts.{figureList, SmallYs, FigureBounds};
 use guideline::BLOCK_NUMBERS;
 use guideline::RISKS;
@@ -34,9 +35,10 @@ pub enum BlockAnswer {
     Refused(u8, Place),
 }
 
-// A block of any 17 numbers: seven pairs IR, LT, then PC, credit, market.
+// A block of any 17 numbers: seven pairs IR, LT, then PC, credit, market. Where it is accepted, the figures meet demand 3.
 pub fn block_call(b: &[u64; BLOCK_NUMBERS]) -> BlockAnswer
     ensures { λ r. ⌜ stated r ≡ blockCall (now (b .entry)) ⌝ }
+    ensures { λ r. ⌜ BlockDemand3 (now (b .entry)) (stated r) ⌝ }
 {
     let above = amount::first_above(b);
     if above < BLOCK_NUMBERS {

@@ -101,9 +101,9 @@ module _ (s : Sheet) (v : AcceptedSheet s) where
   low-buffer x h d = apart x _ h d (buffer-demand s v)
 
 -- a sheet whose amounts are read has been judged to be sound
-judged : (j : Judgement) → 1 ≤ amountsOf j .allowance → (es : List Entry) × (j ≡ sound es)
-judged (turnedAway n p) h = absurd (omega arith)
-judged (sound es) h = (es, refl)
+sound-lines : (j : Judgement) → 1 ≤ amountsOf j .allowance → (es : List Entry) × (j ≡ sound es)
+sound-lines (turnedAway n p) h = absurd (omega arith)
+sound-lines (sound es) h = (es, refl)
 
 -- the same as `FarBelow`, of a sheet's amounts and the buffer with the first block in place of each
 abbrev Below : Amounts → Type 0
@@ -130,7 +130,7 @@ module _ (call : Call) (meets : MeetsDemand3 call) where
   pub first-filled-in-buffer : BufferOfFirst call → ⊥
   first-filled-in-buffer filled =
       let a = ap (λ (f : Facts). f .amounts) (row 2) in
-      let j = judged (judgement (twoBlocks .sheet)) (omega (arith, ap (λ (m : Amounts). m .allowance) a)) in
+      let j = sound-lines (judgement (twoBlocks .sheet)) (omega (arith, ap (λ (m : Amounts). m .allowance) a)) in
       let m = sym (ap amountsOf (j .1)) ∙ a in
       filled-in-near filled (twoBlocks .sheet) (twoBlocks .lent) _ (j .0) lent-two (j .1) (omega (arith, ap (λ (m : Amounts). m .credits) m))
       (ap (λ (f : Facts). f .outcome) (row 2)) .0 (subst Below (sym m) (omega arith))

@@ -1,5 +1,5 @@
 -- What an exported call leaves with its caller in C or Rust: the number that it gives, and every lent array afterwards. A call that is
--- accepted gives 0 and writes its values; a refused one gives its number and writes its place, and nothing else is written.
+-- accepted gives 0 and writes its values; a refused one gives its number, which is never 0, and writes its place; nothing else is written.
 -- Assumes nothing.
 use mathlib.Core.Path.{_≡_}
 use mathlib.Core.List.{List, [], _∷_}
@@ -33,5 +33,7 @@ valuesAfter (refused n p) before = before
 -- all that a call leaves, by its outcome and what the values and the place held before
 pub record Leaves (o : Outcome) (given : ℕ) (values₀ place₀ values place : List ℕ) : Type 0 where
   pub number-is : given ≡ numberOf o
+  -- 0 is given only where the call is accepted
+  pub accepted-at-0 : given ≡ 0 → (vs : List ℕ) × (o ≡ accepted vs)
   pub values-are : values ≡ valuesAfter o values₀
   pub place-is : place ≡ placeAfter o place₀

@@ -3,6 +3,7 @@
 use mathlib.Core.Path.{refl, sym, ap, _∙_}
 use borrow.Author.Needs.{needs}
 use Rattle.aggregate.specs.Call.{Done, stated}
+use Rattle.aggregate.proofs.Numbered.{never-0}
 use Rattle.exports.proofs.Answered.{answered, demanded, not-0}
 use Rattle.exports.proofs.tsav_sheet.Statement.{statement}
 use Rattle.exports.proofs.tsav_sheet.Tie as tie
@@ -11,7 +12,7 @@ returns : tie.Need-returns
 returns c =
     let a = c .before .before .before in
     let s = a .before .before .before .before .sheet-call .ensures in (
-      answered stated (a .answer .given .1) (ap (λ (d : Done). d .outcome) (s .0)) (record { number-is = refl; values-are = rw (c .before .word .ensures); place-is = refl }),
+      answered stated (a .answer .given .1) (ap (λ (d : Done). d .outcome) (s .0)) (never-0 _ _) refl (rw (c .before .word .ensures)) refl,
       (ap (λ (d : Done). d .report) (s .0), λ z. demanded _ _ (a .answer .given .1) (s .1)),
     )
 
@@ -21,7 +22,7 @@ returns-2 c =
     let s = a .before .before .before .before .sheet-call .ensures in
     let r = c .refuse .ensures in
     let o = ap (λ (d : Done). d .outcome) (s .0) in (
-      answered stated (a .answer2 .given .1) o (record { number-is = r .0; values-are = refl; place-is = r .1 }),
+      answered stated (a .answer2 .given .1) o (never-0 _ _) (r .0) refl (r .1),
       (ap (λ (d : Done). d .report) (s .0), λ z. absurd (not-0 _ _ (a .answer2 .given .1) o (sym (r .0) ∙ z))),
     )
 
