@@ -1,7 +1,7 @@
 -- Inequalities between naturals, which the bounds on a block's figures rest on; no block is mentioned. Assumes nothing.
-use mathlib.Core.Path.{_≡_, sym, ap, _∙_}
+use mathlib.Core.Path.{_≡_, ap}
 use Prim.Native.Nat.{ℕ, suc, _+_, _-_, _*_, _≤_, _<_}
-use native.Mathlib.Nat.{mul-le-mul, mul-le-mul-left, mul-le-mul-right, le-of-mul-le-mul-left, mul-lt-mul-of-pos-right, mul-pos, mul-zero, mul-sub}
+use native.Mathlib.Nat.{mul-le-mul, mul-le-mul-left, mul-le-mul-right, le-of-mul-le-mul-left, mul-lt-mul-of-pos-right, mul-pos, mul-sub, le-dest}
 use native.Mathlib.Decide.{decLe}
 use native.Mathlib.Omega.{arith}
 use Rattle.search.proofs.Roots.{le-of-squares, lt-of-squares}
@@ -9,17 +9,10 @@ use Rattle.guideline.specs.Block.{radicand, M, kNumerator}
 
 -- (b − a)(d − c) is 0 or more
 cross : {a b c d : ℕ} → a ≤ b → c ≤ d → a * d + b * c ≤ b * d + a * c
-cross {a} {b} {c} {d} h k = go (b - a) (d - c) (omega arith) (omega arith)
-  where
-    go : (x y : ℕ) → b ≡ a + x → d ≡ c + y → a * d + b * c ≤ b * d + a * c
-    go x y p q = rw (p, q) (omega arith)
+cross h k = rw (← le-dest h .1, ← le-dest k .1) (omega arith)
 
 twice : (a b : ℕ) → 2 * (a * b) ≤ a * a + b * b
-twice a b = go (decLe a b)
-  where
-    go : Dec (a ≤ b) → 2 * (a * b) ≤ a * a + b * b
-    go (yes h) = omega (arith, cross h h)
-    go (no h) = let k : b ≤ a = omega arith in omega (arith, cross k k)
+twice a b = elim (decLe a b) [ yes h ↦ omega (arith, cross h h) | no h ↦ let k : b ≤ a = omega arith in omega (arith, cross k k) ]
 
 -- ---- D: the root of a² + a × i + i²
 
@@ -51,23 +44,15 @@ module _ (a n s c : ℕ) (pos : 0 < s) where
 
 -- where 3d is at least v, M is a product of two differences, each cut at 0
 pub factored : (v d : ℕ) → v ≤ 3 * d → M v d ≡ (3 * d - v) * (10 * d - 7 * v)
-factored v d h = either (decLe (7 * v) (10 * d))
-  where
-    above-0 : (x y : ℕ) → v + x ≡ 3 * d → 7 * v + y ≡ 10 * d → M v d ≡ x * y
-    above-0 x y e f =
-        let p : (v + x) * (7 * v + y) ≡ 3 * d * (10 * d) = λ i. e i * f i in
-        omega (arith, ap (λ (n : ℕ). v * n) f, ap (λ (n : ℕ). n * (7 * v)) e)
-
-    cut : (x y : ℕ) → v + x ≡ 3 * d → 10 * d + y ≡ 7 * v → M v d ≡ 0
-    cut x y e f =
-        let p : (v + x) * (10 * d + y) ≡ 3 * d * (7 * v) = λ i. e i * f i in
-        omega (arith, ap (λ (n : ℕ). v * n) f, ap (λ (n : ℕ). n * (10 * d)) e)
-
-    either : Dec (7 * v ≤ 10 * d) → M v d ≡ (3 * d - v) * (10 * d - 7 * v)
-    either (yes k) = above-0 (3 * d - v) (10 * d - 7 * v) (omega arith) (omega arith)
-    either (no k) =
-        let z : 10 * d - 7 * v ≡ 0 = omega arith in
-        cut (3 * d - v) (7 * v - 10 * d) (omega arith) (omega arith) ∙ sym (ap (λ (n : ℕ). (3 * d - v) * n) z ∙ mul-zero (3 * d - v))
+factored v d h =
+    omega (
+      arith,
+      mul-sub (3 * d - v) (10 * d) (7 * v),
+      mul-sub (10 * d) (3 * d) v,
+      mul-sub (7 * v) (3 * d) v,
+      mul-le-mul-left (10 * d) h,
+      mul-le-mul-left (7 * v) h,
+    )
 
 -- so it never falls as d rises from v/3
 pub m-rises : (v d e : ℕ) → v ≤ 3 * d → d ≤ e → M v d ≤ M v e

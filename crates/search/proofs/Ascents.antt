@@ -1,6 +1,5 @@
--- What is gathered of the numbers that pass a test, ascending: one number more, what of the test and of the function counts, how many
--- there are, and what holds of each. Assumes nothing.
-use mathlib.Core.Path.{_≡_, refl, ap, _∙_}
+-- What is gathered of the numbers that pass a test, ascending: one number more, how many there are, and what holds of each. Assumes nothing.
+use mathlib.Core.Path.{_≡_, ap, _∙_}
 use mathlib.Core.Bool.{Bool, true, false}
 use mathlib.Core.List.{List, [], _∷_, _++_, append-nil}
 use Prim.Native.Nat.{ℕ, zero, suc, _+_, _-_, _≤_}
@@ -32,23 +31,6 @@ module _ {ℓ} {A : Type ℓ} (passes : ℕ → Bool) (f : ℕ → List A) where
   each-ascending P (suc n) h =
       each-append P (ascending passes f n) _ (each-ascending P n (λ b l k. h b l (omega arith)))
       (each-picked P _ _ (h (suc n) (omega arith) (omega arith)))
-
-pick-same {ℓ} : {A : Type ℓ} (s t : Bool) {x y : List A} → s ≡ t → (s ≡ true → x ≡ y) → pick s x [] ≡ pick t y []
-unfolding pick
-pick-same true t e h = rw (← e, h refl)
-pick-same false t e h = rw (← e)
-
-module _ {ℓ} {A : Type ℓ} {passes passes′ : ℕ → Bool} {f f′ : ℕ → List A} where
-  -- only the numbers up to n count, and of f only those that pass
-  pub ascending-same : (n : ℕ) → ((b : ℕ) → 1 ≤ b → b ≤ n → passes b ≡ passes′ b) → ((b : ℕ) → 1 ≤ b → b ≤ n → passes b ≡ true → f b ≡ f′ b)
-      → ascending passes f n ≡ ascending passes′ f′ n
-  unfolding ascending
-  ascending-same zero p q = refl
-  ascending-same (suc n) p q =
-      let low : ascending passes f n ≡ ascending passes′ f′ n = ascending-same n (λ b h k. p b h (omega arith)) (λ b h k. q b h (omega arith)) in
-      let last : pick (passes (suc n)) (f (suc n)) [] ≡ pick (passes′ (suc n)) (f′ (suc n)) [] =
-      pick-same _ _ (p (suc n) (omega arith) (omega arith)) (q (suc n) (omega arith) (omega arith)) in
-      rw (low, last)
 
 -- of n numbers at most n pass
 pub few {ℓ} : {A : Type ℓ} (passes : ℕ → Bool) (f : ℕ → A) (n : ℕ) → length (ascending passes (λ b. f b ∷ []) n) ≤ n

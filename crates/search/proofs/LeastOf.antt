@@ -1,7 +1,7 @@
 -- The least whole number whose value under a function that never falls reaches n: its law in inequalities, and how a
 -- number that code found is shown to be it. Assumes nothing.
 use mathlib.Core.Path.{_≡_, refl, ap}
-use Prim.Native.Nat.{ℕ, _+_, _-_, _*_, _^_, _≤_, _<_}
+use Prim.Native.Nat.{ℕ, zero, suc, _+_, _-_, _*_, _^_, _≤_, _<_}
 use native.Mathlib.Nat.{mul-le-mul, mul-le-mul-left}
 use native.Mathlib.Decide.{decLe}
 use native.Mathlib.Omega.{arith}
@@ -22,37 +22,22 @@ least-of n f rises w lt h =
 
 -- what is less falls short
 pub least-short : {n : ℕ} {f : ℕ → ℕ} {x : ℕ} → LeastOf n f x → (m : ℕ) → m < x → f m < n
-least-short {n} {f} l m lt = go (decLe n (f m))
-  where
-    go : Dec (n ≤ f m) → f m < n
-    go (yes h) = absurd (omega (arith, l .first m h))
-    go (no h) = omega arith
+least-short {n} {f} l m lt = elim (decLe n (f m)) [ yes h ↦ omega (arith, l .first m h) | no h ↦ omega arith ]
 
 -- a quotient rounded up is less than one too much
 pub least-ceil : (c n x : ℕ) → 0 < c → LeastOf n (λ r. c * r) x → c * x < n + c
-least-ceil c n x pos l = go (decLe 1 x)
-  where
-    go : Dec (1 ≤ x) → c * x < n + c
-    go (yes h) =
-        let e : x ≡ x - 1 + 1 = omega arith in
-        omega (arith, least-short l (x - 1) (omega arith), ap (λ (z : ℕ). c * z) e)
-    go (no h) =
-        let e : x ≡ 0 = omega arith in
-        omega (arith, ap (λ (z : ℕ). c * z) e)
+least-ceil c n zero pos l = omega arith
+least-ceil c n (suc x) pos l = omega (arith, least-short l x (omega arith))
 
 -- z reaches n, and one less falls short: z is the least
 pub least-eq : (n : ℕ) (f : ℕ → ℕ) → Rising f → (z : ℕ) → z < 2 ^ 64 → n ≤ f z → (0 < z → f (z - 1) < n) → least (λ r. leb n (f r)) ≡ z
-least-eq n f rises z lt h short = go (decLe z x)
-  where
-    x : ℕ
-    x = least (λ r. leb n (f r))
-
-    l : LeastOf n f x
-    l = least-of n f rises z lt h
-
-    go : Dec (z ≤ x) → x ≡ z
-    go (yes k) = omega (arith, l .first z h)
-    go (no k) = absurd (omega (arith, short (omega arith), l .reaches, rises x (z - 1) (omega arith)))
+least-eq n f rises z lt h short =
+    let x = least (λ r. leb n (f r)) in
+    let l = least-of n f rises z lt h in
+    elim (decLe z x) [
+      | yes k ↦ omega (arith, l .first z h)
+      | no k ↦ omega (arith, short (omega arith), l .reaches, rises x (z - 1) (omega arith))
+    ]
 
 -- the root that code found, r² ≥ n > (r − 1)²
 pub root-eq : (n r : ℕ) → r < 2 ^ 64 → n ≤ r * r → (0 < r → (r - 1) * (r - 1) < n) → least (λ d. leb n (d * d)) ≡ r

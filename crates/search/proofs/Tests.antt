@@ -7,8 +7,8 @@ use lib.Dec.{leb}
 use borrow.Author.Tests.{le-leb, lt-leb}
 
 pub leb-same : (a b c d : ℕ) → (a ≤ b → c ≤ d) → (c ≤ d → a ≤ b) → leb a b ≡ leb c d
-leb-same a b c d f g = either (decLe a b)
-  where
-    either : Dec (a ≤ b) → leb a b ≡ leb c d
-    either (yes h) = le-leb a b h ∙ sym (le-leb c d (f h))
-    either (no n) = lt-leb a b (lt-of-not-le n) ∙ sym (lt-leb c d (lt-of-not-le (λ h. n (g h))))
+leb-same a b c d f g =
+    elim (decLe a b) [
+      | yes h ↦ le-leb a b h ∙ sym (le-leb c d (f h))
+      | no n ↦ lt-leb a b (lt-of-not-le n) ∙ sym (lt-leb c d (lt-of-not-le (λ h. n (g h))))
+    ]
