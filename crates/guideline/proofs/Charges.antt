@@ -26,32 +26,23 @@ pub charged-all : (l : List ℕ) → charged l (length l / 2) ≡ 5 * volume l +
 unfolding charged volume growth
 charged-all l = refl
 
-next : (f c e v g : ℕ) → 5 * (v + f * c) + (g + f * e) ≡ 5 * v + g + f * (5 * c + e)
-next f c e v g = omega arith
-
 -- one pair more
 pub charged-more : (l : List ℕ) (k : ℕ) → charged l (k + 1) ≡ charged l k + factorOf k * (5 * current l k + (5 * current l k - 6 * prior l k))
 unfolding charged total
-charged-more l k = rw (add-one, charged, total) (next (factorOf k) (current l k) (5 * current l k - 6 * prior l k) _ _)
+charged-more l k = rw (add-one, charged, total) (omega arith)
 
 pub factor-most : (k : ℕ) → factorOf k ≤ largestFactor
 unfolding values volumeFactors
 factor-most k =
     leb-true _ _ (values-same (λ j. leb (getD volumeFactors j 0) largestFactor) (λ j. true) volumeClasses refl (k % volumeClasses) (omega arith))
 
-more : (m f c e v : ℕ) → v ≤ 10 * limit * m → c ≤ limit → e ≤ 5 * limit → v + f * (5 * c + e) ≤ 10 * limit * (m + f)
-more m f c e v h k l =
-    let b : 5 * c + e ≤ 10 * limit = omega arith in
-    omega (arith, mul-le-mul-left f b)
-
 -- each pair is charged at most ten times the limit for each unit of its factor
 charged-most : (l : List ℕ) → ((j : ℕ) → getD l j 0 ≤ limit) → (k : ℕ) → charged l k ≤ 10 * limit * total factorOf k
 unfolding total
 charged-most l u zero = omega (arith, charged-none l)
 charged-most l u (suc k) =
-    let c = current l k in
-    rw (← add-one k, charged-more)
-    (more (total factorOf k) (factorOf k) c (5 * c - 6 * prior l k) (charged l k) (charged-most l u k) (u (2 * k)) (omega (arith, u (2 * k))))
+    let b : 5 * current l k + (5 * current l k - 6 * prior l k) ≤ 10 * limit = omega (arith, u (2 * k)) in
+    rw (← add-one k, charged-more) (omega (arith, charged-most l u k, mul-le-mul-left (factorOf k) b))
 
 total-rises : (f : ℕ → ℕ) (k m : ℕ) → total f k ≤ total f (k + m)
 unfolding total

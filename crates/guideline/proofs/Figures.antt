@@ -90,13 +90,12 @@ module _ (u l v : ℕ) (v-is : 2 * u ≡ v + l) (fits : u < 2 ^ 64) where
 
   -- 'K never falls as D rises'
   pub requirement-rises : (d e : ℕ) → v ≤ 3 * d → d ≤ e → e ≤ v → requirement u l v d ≤ requirement u l v e
-  requirement-rises d e low up high = go (decLe 1 u)
-    where
-      go : Dec (1 ≤ u) → requirement u l v d ≤ requirement u l v e
-      go (yes h) =
-          requirement-law d (omega arith) low h .first (requirement u l v e)
-          (omega (arith, m-rises v d e low up, requirement-law e high (omega arith) h .reaches))
-      go (no h) = omega (arith, requirement-none u l v d (omega arith))
+  requirement-rises d e low up high =
+      elim (decLe 1 u) [
+        | yes h ↦ requirement-law d (omega arith) low h .first (requirement u l v e)
+            (omega (arith, m-rises v d e low up, requirement-law e high (omega arith) h .reaches))
+        | no h ↦ omega (arith, requirement-none u l v d (omega arith))
+      ]
 
 -- ---- the figures
 
@@ -159,14 +158,12 @@ module _ (b : List ℕ) (v : AcceptedBlock b) where
   pub d-high : D b ≤ Vh b
   d-high = d-law .first (Vh b) (radicand-most (a b) (I b) (Vh b) i-high)
 
-  -- three roots reach the sum
-  sum-root : seven (y b) ≤ 3 * root b
-  sum-root = le-of-squares (seven (y b)) (3 * root b) (omega (arith, q-least b, root-law .reaches))
-
-  -- 'From the matrix, 3 × D is at least V'
+  -- 'From the matrix, 3 × D is at least V': three roots reach the sum of the y(i)
   pub d-third : Vh b ≤ 3 * D b
   unfolding I
-  d-third = omega (arith, v-sum, sum-root, root-thrice (a b) (I b) (D b) (d-law .reaches))
+  d-third =
+      let three = le-of-squares (seven (y b)) (3 * root b) (omega (arith, q-least b, root-law .reaches)) in
+      omega (arith, v-sum, three, root-thrice (a b) (I b) (D b) (d-law .reaches))
 
   pub k-law : 0 < U b → LeastOf (kNumerator (U b) (LT b) (Vh b) (D b)) (λ k. 60 * (Vh b * k)) (K b)
   unfolding K
@@ -177,18 +174,18 @@ module _ (b : List ℕ) (v : AcceptedBlock b) where
   k-none e = requirement-none (U b) (LT b) (Vh b) (D b) e
 
   pub k-high : K b ≤ U b
-  k-high = go (decLe 1 (U b))
-    where
-      go : Dec (1 ≤ U b) → K b ≤ U b
-      go (yes h) = k-law h .first (U b) (u-passes (U b) (LT b) (Vh b) (D b) v-is d-high d-third)
-      go (no h) = omega (arith, k-none (omega arith))
+  k-high =
+      elim (decLe 1 (U b)) [
+        | yes h ↦ k-law h .first (U b) (u-passes (U b) (LT b) (Vh b) (D b) v-is d-high d-third)
+        | no h ↦ omega (arith, k-none (omega arith))
+      ]
 
   pub k-twice : LT b + D b ≤ 2 * K b
-  k-twice = go (decLe 1 (U b))
-    where
-      go : Dec (1 ≤ U b) → LT b + D b ≤ 2 * K b
-      go (yes h) = k-least (U b) (LT b) (Vh b) (D b) v-is d-high (K b) (omega (arith, u-high)) (k-law h .reaches)
-      go (no h) = omega (arith, v-is, d-high)
+  k-twice =
+      elim (decLe 1 (U b)) [
+        | yes h ↦ k-least (U b) (LT b) (Vh b) (D b) v-is d-high (K b) (omega (arith, u-high)) (k-law h .reaches)
+        | no h ↦ omega (arith, v-is, d-high)
+      ]
 
   -- each figure fits the 18 columns of its line
   pub figures-fit : (I b < 10 ^ 18) × (D b < 10 ^ 18) × (U b < 10 ^ 18) × (LT b < 10 ^ 18) × (K b < 10 ^ 18)

@@ -19,18 +19,6 @@ use Rattle.guideline.proofs.Exactly.{i-at}
 use Rattle.guideline.proofs.Totals.{ro-law, buffer-law}
 
 module _ (b : List ℕ) (v : AcceptedBlock b) where
-  root-least : LeastWith (λ r. Q4 b ≤ℤ pos (4 * (r * r))) (root b)
-  root-least =
-      rw (q-is b)
-      (record {
-        reaches = leZ-yes (le→leb (q b) _ (root-law b v .reaches));
-        first = λ m h. root-law b v .first m (leb→le (q b) _ (h .le));
-      })
-
-  largest-least : LeastWith (λ m. EachRisk (λ i. y b i ≤ m)) (largest b)
-  unfolding largest largestOf ys
-  largest-least = record { reaches = omega arith; first = λ m h. omega arith }
-
   -- a whole number at or above the exact I is 2 × PC and one that the root and the largest y are at most
   i-first : (i : ℕ) → AtOrAboveI b (whole i 0) → I b ≤ i
   unfolding I
@@ -41,10 +29,12 @@ module _ (b : List ℕ) (v : AcceptedBlock b) where
       omega (arith, h .floor, root-law b v .first (i - c) (omega arith))
 
   pub block-least : BlockLeast b
+  unfolding largest largestOf ys
   block-least =
       record {
-        root-least = root-least;
-        largest-least = largest-least;
+        root-least = rw (q-is b)
+            (record { reaches = leZ-yes (le→leb (q b) _ (root-law b v .reaches)); first = λ m h. root-law b v .first m (leb→le (q b) _ (h .le)) });
+        largest-least = record { reaches = omega arith; first = λ m h. omega arith };
         i-least = record { reaches = i-at b v; first = i-first };
         d-least = record { reaches = omega (arith, d-law b v .reaches); first = λ m h. d-law b v .first m (omega arith) };
         k-zero = k-none b v;

@@ -4,14 +4,15 @@ use mathlib.Core.Path.{_≡_, refl, sym, ap, _∙_}
 use mathlib.Core.Bool.{Bool, true}
 use mathlib.Core.List.{List, [], _∷_}
 use Prim.Native.Nat.{ℕ, zero, suc, _+_, _-_, _*_, _/_, _%_, _≤_, _<_}
-use native.Mathlib.Decide.{decLe}
+use native.Mathlib.Decide.{decLt}
 use native.Mathlib.Omega.{arith}
 use lib.Dec.{leb}
 use lib.ListN.{length, getD, List·getD-eq-default}
-use lib.IntN.{ℤ, pos, negsuc, negℤ, natAbs, pos-ne-negsuc, _+ℤ_, _*ℤ_}
+use lib.IntN.{ℤ, pos, negsuc, negℤ, natAbs, _+ℤ_, _*ℤ_}
 use mir.Syntax.{w8, w64}
 use mir.Val.{SFits}
 use borrow.Author.Tests.{leb-true}
+use Rattle.search.proofs.Picks.{never}
 use Rattle.search.proofs.Values.{values, values-same}
 use Rattle.integer.proofs.Integer.{ring, *ℤ-+ℤ, *ℤ-assoc, +ℤ-*ℤ, natural-diff}
 use Rattle.guideline.specs.Sizes.{risks, products}
@@ -62,11 +63,11 @@ beside k h =
 -- no factor is above 4 quarters in size
 pub factor-small : (k : ℕ) → natAbs (factor k) ≤ 4
 unfolding found wanted
-factor-small k = go (decLe products k)
-  where
-    go : Dec (products ≤ k) → natAbs (factor k) ≤ 4
-    go (yes h) = rw (beside k h) (omega arith)
-    go (no h) = leb-true _ 4 (ap (λ (e : FactorFacts). e .small) (entry k (omega arith)))
+factor-small k =
+    elim (decLt k products) [
+      | yes h ↦ leb-true _ 4 (ap (λ (e : FactorFacts). e .small) (entry k h))
+      | no h ↦ rw (beside k (omega arith)) (omega arith)
+    ]
 
 -- so it fits a byte and a machine word
 pub small-fits : (z : ℤ) → natAbs z ≤ 4 → SFits w8 z × SFits w64 z
@@ -111,10 +112,7 @@ form-natural x = go (form x) (certified x)
   where
     go : (z : ℤ) {m : ℕ} → pos 5040 *ℤ z ≡ pos m → (q : ℕ) × (z ≡ pos q)
     go (pos q) e = (q, refl)
-    go (negsuc n) {m} e = absurd (pos-ne-negsuc m (n + 5039 * suc n) (sym e ∙ ap (λ (k : ℕ). negℤ (pos k)) (split n)))
-      where
-        split : (n : ℕ) → 5040 * suc n ≡ suc (n + 5039 * suc n)
-        split n = omega arith
+    go (negsuc n) e = let k : 5040 * suc n ≡ suc (n + 5039 * suc n) = omega arith in never (cc (ap (λ (j : ℕ). negℤ (pos j)) k))
 
 -- .. and twice it at least the square of the sum
 pub form-least : (x : ℕ → ℤ) (q : ℕ) → form x ≡ pos q → squareOfSum x ≤ 2 * q
