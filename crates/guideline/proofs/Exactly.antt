@@ -2,7 +2,7 @@
 -- most K; and D less 2, or a third of V, still fits, where K's fraction is less than 2 below. Assumes nothing.
 use mathlib.Core.Path.{_≡_, ap, _∙_}
 use mathlib.Core.List.{List}
-use Prim.Native.Nat.{ℕ, suc, _+_, _-_, _*_, max, _≤_, _<_}
+use Prim.Native.Nat.{ℕ, zero, suc, _+_, _-_, _*_, max, _≤_, _<_}
 use native.Mathlib.Nat.{mul-le-mul-right, mul-sub, ne-of-gt}
 use native.Mathlib.Bridge.{le-prop}
 use native.Mathlib.Decide.{decLe, decLt}
@@ -20,11 +20,8 @@ use Rattle.guideline.proofs.Figures.{q, q-is, q-least, v-sum, u-high, r
 -- ---- small laws
 
 max-mul : (x y m z : ℕ) → x * m ≤ z → y * m ≤ z → max x y * m ≤ z
-max-mul x y m z p q = go (decLe x y)
-  where
-    go : Dec (x ≤ y) → max x y * m ≤ z
-    go (yes h) = let e : max x y ≡ y = omega arith in rw e q
-    go (no h) = let e : max x y ≡ x = omega arith in rw e p
+max-mul x y m z p q =
+    elim (decLe x y) [ yes h ↦ let e : max x y ≡ y = omega arith in rw e q | no h ↦ let e : max x y ≡ x = omega arith in rw e p ]
 
 decided : {v : ℕ} (t : Dec (0 < v)) (h : 0 < v) → t ≡ yes h
 decided (yes k) h = ap yes (le-prop k h)
@@ -62,47 +59,33 @@ module _ (b : List ℕ) (v : AcceptedBlock b) where
 
   -- K's fraction never falls
   pub fraction-rises : (d e : Fraction) → whole (Vh b) 0 ≤ᶠ thrice d → d ≤ᶠ e → kAt b d ≤ᶠ kAt b e
-  fraction-rises d e low up = go (decLe 1 (U b))
-    where
-      go : Dec (1 ≤ U b) → kAt b d ≤ᶠ kAt b e
-      go (yes h) =
-          let x = mNumerator (Vh b) d in
-          let y = mNumerator (Vh b) e in
-          let r = numerator-rises (48 * (U b * Vh b) + 6 * (LT b * Vh b)) (Vh b) x (d .denominator) y (e .denominator) (m-rises d e low up) in
-          rw (kAt-some b d h (v-pos h), kAt-some b e h (v-pos h)) (omega arith)
-      go (no h) = rw (kAt-none b d (omega arith), kAt-none b e (omega arith)) (omega arith)
+  fraction-rises d e low up =
+      elim (decLe 1 (U b)) [
+        | yes h ↦
+            let r = numerator-rises (48 * (U b * Vh b) + 6 * (LT b * Vh b)) (Vh b) _ (d .denominator) _ (e .denominator) (m-rises d e low up) in
+            rw (kAt-some b d h (v-pos h), kAt-some b e h (v-pos h)) (omega arith)
+        | no h ↦ rw (kAt-none b d (omega arith), kAt-none b e (omega arith)) (omega arith)
+      ]
 
   -- ---- I, and the reported D against the exact one
 
-  largest-in : largest b + 2 * PC b ≤ I b
+  both-in : (largest b + 2 * PC b ≤ I b) × (root b + 2 * PC b ≤ I b)
   unfolding I
-  largest-in = omega arith
-
-  root-in : root b + 2 * PC b ≤ I b
-  unfolding I
-  root-in = omega arith
-
-  i-largest : root b ≤ largest b → I b ≡ largest b + 2 * PC b
-  unfolding I
-  i-largest h = omega arith
-
-  i-root : largest b < root b → I b ≡ suc (root b - 1 + 2 * PC b)
-  unfolding I
-  i-root h = omega arith
+  both-in = omega arith
 
   -- the reported I is at or above the exact I, so what is below it is at most the reported I
   pub i-at : AtOrAboveI b (whole (I b) 0)
   i-at =
       let c = 2 * PC b in
-      let from = square-from (q b) (root b) (I b) c (root-law b v .reaches) root-in in
-      record { floor = omega (arith, largest-in); square = rw (q-is b) (omega arith) }
+      let from = square-from (q b) (root b) (I b) c (root-law b v .reaches) (both-in .1) in
+      record { floor = omega (arith, both-in); square = rw (q-is b) (omega arith) }
 
   i-below : (i : Fraction) → ¬ AtOrAboveI b i → i ≤ᶠ whole (I b) 0
-  i-below i below = go (decLe (i .numerator⁺) (I b * i .denominator + i .numerator⁻))
-    where
-      go : Dec (i .numerator⁺ ≤ I b * i .denominator + i .numerator⁻) → i ≤ᶠ whole (I b) 0
-      go (yes h) = omega arith
-      go (no h) = absurd (below (i-upwards b (whole (I b) 0) i (omega arith) i-at))
+  i-below i below =
+      elim (decLe (i .numerator⁺) (I b * i .denominator + i .numerator⁻)) [
+        | yes h ↦ omega arith
+        | no h ↦ absurd (below (i-upwards b (whole (I b) 0) i (omega arith) i-at))
+      ]
 
   -- the reported D is at or above the exact D
   pub d-at : AtOrAboveD b (whole (D b) 0)
@@ -120,31 +103,28 @@ module _ (b : List ℕ) (v : AcceptedBlock b) where
               radicand-rises (a b * m) le,
               mul-le-mul-right (m * m) (d-law b v .reaches),
             );
-        at-floor = omega (arith, radicand-rises (a b) largest-in, d-law b v .reaches);
+        at-floor = omega (arith, radicand-rises (a b) (both-in .0), d-law b v .reaches);
       }
 
   -- what fits is at most the reported D
   pub fits-below : (d : Fraction) → Fits b d → d ≤ᶠ whole (D b) 0
-  fits-below d f = go (decLe (d .numerator⁺) (D b * d .denominator + d .numerator⁻))
-    where
-      go : Dec (d .numerator⁺ ≤ D b * d .denominator + d .numerator⁻) → d ≤ᶠ whole (D b) 0
-      go (yes h) = omega arith
-      go (no h) = absurd (f .within (record { smaller = whole (D b) 0; less = omega arith; at = d-at }))
+  fits-below d f =
+      elim (decLe (d .numerator⁺) (D b * d .denominator + d .numerator⁻)) [
+        | yes h ↦ omega arith
+        | no h ↦ absurd (f .within (record { smaller = whole (D b) 0; less = omega arith; at = d-at }))
+      ]
 
   -- ---- the reported K is not strictly below the exact K
 
   -- K's fraction at what fits is at most the reported K
   pub k-bound : (d : Fraction) → Fits b d → kAt b d ≤ᶠ whole (K b) 0
-  k-bound d f = go (decLe 1 (U b))
-    where
-      third : whole (Vh b) 0 ≤ᶠ thrice d
-      third = omega (arith, f .third)
-
-      go : Dec (1 ≤ U b) → kAt b d ≤ᶠ whole (K b) 0
-      go (yes h) =
-          let le = k-above (U b) (LT b) (Vh b) (D b) (K b) (nat d) (d .denominator) (third-nat d third) (omega (arith, fits-below d f)) (k-law b v h .reaches) in
-          rw (kAt-some b d h (v-pos h)) (omega (arith, mNumerator-is (Vh b) d (omega (arith, third))))
-      go (no h) = rw (kAt-none b d (omega arith)) (omega arith)
+  k-bound d f =
+      elim (decLe 1 (U b)) [
+        | yes h ↦
+            let le = k-above (U b) (LT b) (Vh b) (D b) (K b) (nat d) (d .denominator) (third-nat d (f .third)) (omega (arith, fits-below d f)) (k-law b v h .reaches) in
+            rw (kAt-some b d h (v-pos h)) (omega (arith, mNumerator-is (Vh b) d (omega (arith, f .third))))
+        | no h ↦ rw (kAt-none b d (omega arith)) (omega arith)
+      ]
 
   pub k-at : ¬ StrictlyBelowK b (whole (K b) 0)
   k-at s = omega (arith, k-bound (s .d) (s .fits), s .below)
@@ -153,57 +133,43 @@ module _ (b : List ℕ) (v : AcceptedBlock b) where
 
   -- what is at or above the exact D is at least V/3 ..
   at-third : (e : Fraction) → AtOrAboveD b e → Vh b * e .denominator ≤ 3 * nat e
-  at-third e h = go (decLe 1 (seven (y b)))
-    where
-      c : ℕ
-      c = 2 * PC b
-
-      go : Dec (1 ≤ seven (y b)) → Vh b * e .denominator ≤ 3 * nat e
-      go (yes p) =
-          let i : Fraction = ratio (pos (3 * c + seven (y b))) 3 (omega arith) in
-          let sq = h .below i (omega arith) (λ t. third-below (q b) (seven (y b)) c (omega arith) (q-least b) p (rw (q-is b) at (t .square))) in
-          let le = root-thrice _ _ _ (radicand-nat (a b) (3 * c + seven (y b)) 3 (omega arith) e (h .natural) sq) in
-          omega (arith, ap (λ (z : ℕ). z * e .denominator) (v-sum b v))
-      go (no p) =
-          let le = root-thrice _ _ _ (radicand-nat (a b) (largest b + c) 1 (omega arith) e (h .natural) (h .at-floor)) in
-          let s0 : Vh b ≡ c + a b = omega (arith, v-sum b v) in
-          omega (arith, ap (λ (z : ℕ). z * e .denominator) s0)
+  at-third e h =
+      let c = 2 * PC b in
+      elim (decLe 1 (seven (y b))) [
+        | yes p ↦
+            let i : Fraction = ratio (pos (3 * c + seven (y b))) 3 (omega arith) in
+            let sq = h .below i (omega arith) (λ t. third-below (q b) (seven (y b)) c (omega arith) (q-least b) p (rw (q-is b) at (t .square))) in
+            let le = root-thrice _ _ _ (radicand-nat (a b) (3 * c + seven (y b)) 3 (omega arith) e (h .natural) sq) in
+            omega (arith, ap (λ (z : ℕ). z * e .denominator) (v-sum b v))
+        | no p ↦
+            let le = root-thrice _ _ _ (radicand-nat (a b) (largest b + c) 1 (omega arith) e (h .natural) (h .at-floor)) in
+            let s0 : Vh b ≡ c + a b = omega (arith, v-sum b v) in
+            omega (arith, ap (λ (z : ℕ). z * e .denominator) s0)
+      ]
 
   -- .. and above D − 2
   at-near : (e : Fraction) → AtOrAboveD b e → D b * e .denominator < nat e + 2 * e .denominator
-  at-near e h = go (decLe 1 (D b)) (decLe (root b) (largest b))
+  unfolding I
+  at-near e h = go (D b) (λ c k. least-short (d-law b v) c k) (decLe (root b) (largest b))
     where
-      c : ℕ
-      c = 2 * PC b
-
-      m : ℕ
-      m = e .denominator
-
-      one-less : 1 ≤ D b → D b * m ≡ (D b - 1) * m + m
-      one-less p = let k : D b ≡ D b - 1 + 1 = omega arith in omega (arith, ap (λ (z : ℕ). z * m) k)
-
-      on-naturals : (j : ℕ) → radicandAt (a b) (whole j 0) ≤ᶠ squareLess e 0 → radicand (a b) j * (m * m) ≤ nat e * nat e
+      on-naturals : (j : ℕ) → radicandAt (a b) (whole j 0) ≤ᶠ squareLess e 0 → radicand (a b) j * (e .denominator * e .denominator) ≤ nat e * nat e
       on-naturals j k = omega (arith, radicand-nat (a b) j 1 (omega arith) e (h .natural) k)
 
-      short : 1 ≤ D b → (D b - 1) * (D b - 1) < radicand (a b) (I b)
-      short p = least-short (d-law b v) (D b - 1) (omega arith)
-
-      go : Dec (1 ≤ D b) → Dec (root b ≤ largest b) → D b * e .denominator < nat e + 2 * e .denominator
-      go (no p) r = let d0 : D b ≡ 0 = omega arith in omega (arith, e .positive, ap (λ (z : ℕ). z * m) d0)
-      go (yes p) (yes r) =
-          let s = rw (i-largest r) at (short p) in
-          let lt = near-largest (a b) (nat e) m (D b - 1) (e .positive) (largest b + c) s (on-naturals _ (h .at-floor)) in
-          omega (arith, one-less p, e .positive)
-      go (yes p) (no r) =
-          let j = root b - 1 + c in
+      go : (d : ℕ) → ((c : ℕ) → c < d → c * c < radicand (a b) (I b)) → Dec (root b ≤ largest b) → d * e .denominator < nat e + 2 * e .denominator
+      go zero short r = omega (arith, e .positive)
+      go (suc c) short (yes r) =
+          let i : I b ≡ largest b + 2 * PC b = omega arith in
+          let lt = near-largest (a b) (nat e) _ c (e .positive) (largest b + 2 * PC b) (rw i at (short c (omega arith))) (on-naturals _ (h .at-floor)) in
+          omega (arith, e .positive)
+      go (suc c) short (no r) =
+          let j = root b - 1 + 2 * PC b in
+          let i : I b ≡ suc j = omega arith in
           let below : ¬ AtOrAboveI b (whole j 0) =
           λ t.
-          let sq : quarters (pos (q b)) ≤ᶠ squareLess (whole j 0) c = rw (q-is b) at (t .square) in
-          let k = root-law b v .first (root b - 1) (omega arith) in
-          omega arith in
-          let s = rw (i-root (omega arith)) at (short p) in
-          let lt = near-root (a b) (nat e) m (D b - 1) (e .positive) j s (on-naturals j (h .below (whole j 0) (omega arith) below)) in
-          omega (arith, one-less p)
+          let sq : quarters (pos (q b)) ≤ᶠ squareLess (whole j 0) (2 * PC b) = rw (q-is b) at (t .square) in
+          omega (arith, root-law b v .first (root b - 1) (omega arith)) in
+          let lt = near-root (a b) (nat e) _ c (e .positive) j (rw i at (short c (omega arith))) (on-naturals j (h .below (whole j 0) (omega arith) below)) in
+          omega arith
 
   -- so the larger of D − 2 and V/3 fits
   n₀ : ℕ
