@@ -1,25 +1,29 @@
 -- Rule 7 over a list, and over two lists one after the other. Assumes nothing.
 use mathlib.Core.Path.{_≡_, ap, _∙_}
-use mathlib.Core.Bool.{false}
 use mathlib.Core.List.{List, _++_}
 use Prim.Native.Nat.{ℕ, _+_, _-_, _≤_, _<_}
-use native.Mathlib.Decide.{decLe}
+use native.Mathlib.Decide.{decLe, decLt}
 use native.Mathlib.Omega.{arith}
 use lib.Dec.{ltb}
-use borrow.Author.Tests.{ltb-false}
+use borrow.Author.Tests.{ltb-false, le-ltb}
 use lib.ListN.{length, getD, length-append, List·getD-eq-default, List·getD-append}
 use lib.Seq.{getD-append-add}
-use Rattle.search.proofs.Firsts.{found-from, found-unique, none-passes}
+use Rattle.search.proofs.Firsts.{found-from, found-unique, none-passes, sought-none}
 use Rattle.amount.specs.Amount.{limit, above, firstAbove}
 
--- where no amount is above the limit, none is
+-- where the search for an amount above the limit finds none, there is none
 pub none-above : (l : List ℕ) → length l ≤ firstAbove l → (k : ℕ) → getD l k 0 ≤ limit
 unfolding firstAbove
-none-above l h k = go (decLe (length l) k)
-  where
-    go : Dec (length l ≤ k) → getD l k 0 ≤ limit
-    go (yes p) = omega (arith, List·getD-eq-default l 0 p)
-    go (no p) = ltb-false _ _ (none-passes (above l) (length l) h k (omega arith))
+none-above l h k =
+    elim (decLe (length l) k) [
+      | yes p ↦ omega (arith, List·getD-eq-default l 0 p)
+      | no p ↦ ltb-false _ _ (none-passes (above l) (length l) h k (omega arith))
+    ]
+
+-- and where none is, the search finds none
+pub all-within : (l : List ℕ) → ((k : ℕ) → getD l k 0 ≤ limit) → firstAbove l ≡ length l
+unfolding firstAbove
+all-within l a = sought-none (above l) (length l) (length l) (omega arith) (record { within = omega arith; before = λ k h. le-ltb _ _ (a k) })
 
 -- of two lists one after the other, the test at a place of the first and of the second
 module _ (l m : List ℕ) where
@@ -51,12 +55,12 @@ module _ (l m : List ℕ) where
       (record {
         low = omega arith;
         high = omega (arith, length-append l m, g .high);
-        before = λ k p q. at k q (decLe (length l) k);
+        before = λ k p q.
+            elim (decLt k (length l)) [
+              | yes n ↦ test-first k n ∙ none-passes (above l) (length l) h k n
+              | no n ↦
+                  let e : k ≡ length l + (k - length l) = omega arith in
+                  rw e (test-second (k - length l) ∙ g .before (k - length l) (omega arith) (omega arith))
+            ];
         passes = λ q. test-second (firstAbove m) ∙ g .passes (omega (arith, length-append l m));
       })
-    where
-      at : (k : ℕ) → k < length l + firstAbove m → Dec (length l ≤ k) → above (l ++ m) k ≡ false
-      at k q (yes p) =
-          let e : k ≡ length l + (k - length l) = omega arith in
-          rw e (test-second (k - length l) ∙ found-from (above m) 0 (length m) .before (k - length l) (omega arith) (omega arith))
-      at k q (no p) = test-first k (omega arith) ∙ none-passes (above l) (length l) h k (omega arith)

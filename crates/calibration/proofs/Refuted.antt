@@ -40,9 +40,7 @@ module _ (most : ℕ → ℕ) where
   -- three cents that count for 3 or less make RO of three classes 2 or more
   rounded-low : most 3 ≤ 3 → 1 < wholeCents most threeClasses nothing
   unfolding overTenThousand total volume volumeFactors generalRequirement
-  rounded-low h =
-      let c = ceiling threeClasses (omega arith) .reaches in
-      omega arith
+  rounded-low h = omega (arith, ceiling threeClasses (omega arith) .reaches)
 
   -- and counting for 4 or more, RO of one class 1 or less
   rounded-high : 4 ≤ most 3 → wholeCents most oneClass nothing ≤ 1
@@ -66,8 +64,8 @@ module _ (call : List ℕ → List ℕ → Outcome) (meets : MeetsOperational ca
 
   -- RO of three classes is 1, and 2 where three cents count for 3 or less; RO of one class is 2, and 1 where they count for 4 or more
   pub prior-in-whole-cents : PriorInWholeCents call → ⊥
-  prior-in-whole-cents (most, wrong) = go (decLe (most 3) 3)
-    where
-      go : Dec (most 3 ≤ 3) → ⊥
-      go (yes h) = omega (arith, rounded-low most h, same _ wrong threeClasses 1 refl (computed .three-classes))
-      go (no h) = omega (arith, rounded-high most (omega arith), same _ wrong oneClass 2 refl (computed .one-class))
+  prior-in-whole-cents (most, wrong) =
+      elim (decLe (most 3) 3) [
+        | yes h ↦ omega (arith, rounded-low most h, same _ wrong threeClasses 1 refl (computed .three-classes))
+        | no h ↦ omega (arith, rounded-high most (omega arith), same _ wrong oneClass 2 refl (computed .one-class))
+      ]

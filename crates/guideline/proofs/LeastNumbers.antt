@@ -5,9 +5,8 @@ use Prim.Native.Nat.{ℕ, _-_, _*_, _≤_}
 use native.Mathlib.Omega.{arith}
 use lib.Dec.{leb→le, le→leb}
 use lib.IntN.{pos}
-use lib.Signed.{_≤ℤ_, leZ-yes}
-use Rattle.search.specs.Least.{LeastWith}
-use Rattle.guideline.specs.Block.{PC, y, ys, Q4, largestOf, largest, root, I, EachRisk, AcceptedBlock}
+use lib.Signed.{leZ-yes}
+use Rattle.guideline.specs.Block.{PC, ys, largestOf, largest, I, AcceptedBlock}
 use Rattle.guideline.specs.Operational.{OperationalAmounts}
 use Rattle.guideline.specs.Fraction.{_≤ᶠ_, whole, quarters, squareLess}
 use Rattle.guideline.specs.Exact.{AtOrAboveI}

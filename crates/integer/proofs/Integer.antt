@@ -18,14 +18,11 @@ above {a} {b} h = ap (λ (t : Bool). cond t (negsuc (b - suc a)) (pos (a - b))) 
 
 -- two differences are equal where the crossed sums are
 pub diff-eq : (a b c d : ℕ) → a + d ≡ c + b → subℕ a b ≡ subℕ c d
-diff-eq a b c d e = either (decLe b a)
-  where
-    either : Dec (b ≤ a) → subℕ a b ≡ subℕ c d
-    either (yes h) = let k : d ≤ c = omega arith in above h ∙ ap pos (omega arith) ∙ sym (above k)
-    either (no n) =
-        let h : a < b = lt-of-not-le n in
-        let k : c < d = omega arith in
-        below h ∙ ap negsuc (omega arith) ∙ sym (below k)
+diff-eq a b c d e =
+    elim (decLe b a) [
+      | yes h ↦ let k : d ≤ c = omega arith in above h ∙ ap pos (omega arith) ∙ sym (above k)
+      | no n ↦ let k : c < d = omega arith in below (lt-of-not-le n) ∙ ap negsuc (omega arith) ∙ sym (below k)
+    ]
 
 pub as-diff : (n : ℕ) → pos n ≡ subℕ n 0
 as-diff n = ap pos (omega arith) ∙ sym (above {a = n} {b = 0} (omega arith))
@@ -40,14 +37,11 @@ data View : ℕ → ℕ → Type 0 where
   negative : (a x : ℕ) → View a (a + suc x)
 
 view : (a b : ℕ) → View a b
-view a b = either (decLe b a)
-  where
-    either : Dec (b ≤ a) → View a b
-    either (yes h) = subst (λ (n : ℕ). View n b) (le-dest h .1) (natural b (le-dest h .0))
-    either (no n) =
-        let l = le-dest (lt-of-not-le n) in
-        let e : a + suc (l .0) ≡ b = omega (arith, l .1) in
-        subst (λ (m : ℕ). View a m) e (negative a (l .0))
+view a b =
+    elim (decLe b a) [
+      | yes h ↦ subst (λ (n : ℕ). View n b) (le-dest h .1) (natural b (le-dest h .0))
+      | no n ↦ let l = le-dest (lt-of-not-le n) in subst (View a) (omega (arith, l .1)) (negative a (l .0))
+    ]
 
 pub natural-diff : (b x : ℕ) → subℕ (b + x) b ≡ pos x
 natural-diff b x = diff-eq (b + x) b x 0 (omega arith) ∙ sym (as-diff x)

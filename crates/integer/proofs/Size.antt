@@ -12,11 +12,7 @@ abs-neg zero = refl
 abs-neg (suc n) = refl
 
 abs-sub : (a b : ℕ) → natAbs (subℕ a b) ≤ a + b
-abs-sub a b = either (decLe b a)
-  where
-    either : Dec (b ≤ a) → natAbs (subℕ a b) ≤ a + b
-    either (yes h) = rw (above h) (omega arith)
-    either (no n) = rw (below (lt-of-not-le n)) (omega arith)
+abs-sub a b = elim (decLe b a) [ yes h ↦ rw (above h) (omega arith) | no n ↦ rw (below (lt-of-not-le n)) (omega arith) ]
 
 pub abs-add : (a b : ℤ) → natAbs (a +ℤ b) ≤ natAbs a + natAbs b
 abs-add (pos a) (pos b) = omega arith

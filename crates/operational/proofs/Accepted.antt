@@ -7,35 +7,26 @@ use native.Mathlib.Decide.{decLe}
 use native.Mathlib.Omega.{arith}
 use lib.ListN.{length, getD, List·getD-append, List·getD-eq-default}
 use lib.Seq.{getD-append-add}
-use borrow.Author.Tests.{le-ltb, ltb-false, eqb-true}
+use borrow.Author.Tests.{ltb-false, eqb-true}
 use Rattle.search.proofs.Picks.{by-test}
-use Rattle.search.proofs.Firsts.{sought-none}
 use Rattle.refusal.specs.Outcome.{Outcome}
 use Rattle.refusal.specs.Outcome.Outcome.{accepted, refused}
-use Rattle.amount.specs.Amount.{limit, above, firstAbove}
-use Rattle.amount.proofs.Amounts.{none-above}
+use Rattle.amount.specs.Amount.{limit}
+use Rattle.amount.proofs.Amounts.{none-above, all-within}
 use Rattle.guideline.specs.Sizes.{territoryNumbers, volumeNumbers}
 use Rattle.guideline.specs.Operational.{RO}
 use Rattle.operational.specs.Call.{rule7, operationalCall}
 use Rattle.operational.specs.Accepted.{AcceptedOperational, AcceptsOperational}
 use Rattle.operational.proofs.Rules.{passed-15, passed-7}
 
--- rule 7 finds nothing in a list of which none is above the limit
-all-within : (l : List ℕ) → ((k : ℕ) → getD l k 0 ≤ limit) → firstAbove l ≡ length l
-unfolding firstAbove
-all-within l a = sought-none (above l) (length l) (length l) (omega arith) (record { within = omega arith; before = λ k h. le-ltb _ _ (a k) })
-
 module _ (l g : List ℕ) where
-  -- of the two lists one after the other, each by itself
+  -- of the two lists one after the other, the first by itself
   in-first : ((k : ℕ) → getD (l ++ g) k 0 ≤ limit) → (k : ℕ) → getD l k 0 ≤ limit
-  in-first a k = go (decLe (length l) k)
-    where
-      go : Dec (length l ≤ k) → getD l k 0 ≤ limit
-      go (yes p) = omega (arith, List·getD-eq-default l 0 p)
-      go (no p) = omega (arith, a k, List·getD-append l g 0 k (omega arith))
-
-  in-second : ((k : ℕ) → getD (l ++ g) k 0 ≤ limit) → (k : ℕ) → getD g k 0 ≤ limit
-  in-second a k = omega (arith, a (length l + k), getD-append-add l g k 0)
+  in-first a k =
+      elim (decLe (length l) k) [
+        | yes p ↦ omega (arith, List·getD-eq-default l 0 p)
+        | no p ↦ omega (arith, a k, List·getD-append l g 0 k (omega arith))
+      ]
 
   -- what holds of an outcome: accepted, the numbers are those that the rules leave; refused, the number is not 0
   unfoldable Judged : Outcome → Type 0
@@ -47,7 +38,7 @@ module _ (l g : List ℕ) where
   after-15 h e =
       by-test Judged _ _ _ (λ t z. omega arith) λ r7.
       let a = none-above (l ++ g) (ltb-false _ _ r7) in
-      record { short = omega arith; multiple = e; volumes = in-first a; general = in-second a }
+      record { short = omega arith; multiple = e; volumes = in-first a; general = λ k. omega (arith, a (length l + k), getD-append-add l g k 0) }
 
   judged : Judged (operationalCall l g)
   unfolding Judged operationalCall

@@ -42,9 +42,7 @@ module _ (l g : List ℕ) where
     -- at none
     pub passed-7 : length g ≤ s → rule7 l g ≡ accepted (RO l g ∷ [])
     unfolding rule7
-    passed-7 k =
-        let i : length (l ++ g) ≤ firstAbove (l ++ g) = omega (arith, last, length-append l g) in
-        if-ge _ i
+    passed-7 k = if-ge _ (let i : length (l ++ g) ≤ firstAbove (l ++ g) = omega (arith, last, length-append l g) in i)
 
     pub amounts : length l ≤ volumeNumbers → length g ≤ s → OperationalAmounts l g
     amounts n k =
