@@ -29,25 +29,19 @@ use Rattle.aggregate.specs.Demand.{ReportedBlock, ReportDemand, Demand3}
 module _ (s : List ℕ) (es : List Entry) (j : judgement s ≡ sound es) where
   -- five figures that fit their columns
   five : (b : ℕ) → 1 ≤ b → b ≤ blocks → exists es b ≡ true → (length (figuresOf (blockOf es b)) ≡ blockFigures) × Each FitsColumns (figuresOf (blockOf es b))
-  unfolding figuresOf
-  five b l h e =
-      let f = figures-fit (blockOf es b) (block-accepted es (sound-passed s es j .lines) b) in
-      (figures-long (blockOf es b), (f .0, (f .1, (f .2, (f .3, (f .4, tt))))))
+  five b l h e = (figures-long (blockOf es b), figures-fit (blockOf es b) (block-accepted es (sound-passed s es j .lines) b))
 
   -- the report's bytes, and whatever stands behind them
   module _ (rest : List ℕ) where
     reads-total : numberAt (reportOf es ++ rest) TOT 0 3 ≡ Value (buffer (sheetOf es))
     unfolding blockRowsOf
-    reads-total =
-        let t = totals-fit (sheetOf es) (sound-accepted s es j) in
-        buffer-read (exists es) (λ b. figuresOf (blockOf es b)) _ _ _ rest five (t .0, (t .1, (t .2, tt)))
+    reads-total = buffer-read (exists es) (λ b. figuresOf (blockOf es b)) _ _ _ rest five (totals-fit (sheetOf es) (sound-accepted s es j))
 
     reads-figure : (b i : ℕ) → exists es b ≡ true → 1 ≤ i → i ≤ blockFigures → numberAt (reportOf es ++ rest) BLK b i ≡ Value (getD (figuresOf (blockOf es b)) (i - 1) 0)
     unfolding blockRowsOf
     reads-figure b i e l h =
-        let t = totals-fit (sheetOf es) (sound-accepted s es j) in
         let w = exists-within es (sound-passed s es j .lines) b e in
-        figure-read (exists es) (λ b. figuresOf (blockOf es b)) _ _ _ rest five (t .0, (t .1, (t .2, tt))) b i e (w .0) (w .1) l h
+        figure-read (exists es) (λ b. figuresOf (blockOf es b)) _ _ _ rest five (totals-fit (sheetOf es) (sound-accepted s es j)) b i e (w .0) (w .1) l h
 
     reported-block : (b : ℕ) → exists es b ≡ true → ReportedBlock (reportOf es ++ rest) b
     unfolding figuresOf

@@ -12,16 +12,15 @@ use Rattle.search.specs.Pick.{pick}
 use Rattle.search.specs.Ascending.{ascending}
 use Rattle.guideline.specs.Sizes.{blocks, blockFigures, rowNumbers}
 use Rattle.guideline.specs.Block.{figuresOf}
-use Rattle.guideline.specs.Buffer.{count, sumK, buffer}
-use Rattle.guideline.specs.Operational.{RO}
+use Rattle.guideline.specs.Buffer.{count}
 use Rattle.report_line.specs.Line.{reportLineBytes, Row, printRows}
 use Rattle.report_line.proofs.ReadBack.{rows-append}
 use Rattle.sheet_line.specs.declared.Entry.{Entry}
 use Rattle.ledger.specs.Entries.{exists, blockOf}
-use Rattle.report.specs.Rows.{BLK, TOT, blockRows, tableRows, reportLength}
+use Rattle.report.specs.Rows.{BLK, TOT, itemsFrom, blockRows, tableRows, totals, reportLength}
 use Rattle.report.proofs.Items.{items-long}
 use Rattle.judgement.specs.Sheet.{blocksTo, sheetOf, rowsTo}
-use Rattle.aggregate.specs.Call.{blockRowsOf, totalRowsOf, reportOf}
+use Rattle.aggregate.specs.Call.{blockRowsOf, reportOf}
 
 -- only the first rows count
 table-append : (p q : List ℕ) (n : ℕ) → rowNumbers * n ≤ length p → tableRows (p ++ q) n ≡ tableRows p n
@@ -46,20 +45,20 @@ table-more p b f n h k =
 -- ---- what is gathered of the blocks 1 to n
 
 module _ (exists : ℕ → Bool) (x : ℕ → List ℕ) (f : ℕ → List ℕ) (five : (b : ℕ) → length (f b) ≡ blockFigures) where
-  abbrev numbers : ℕ → List (List ℕ)
+  abbrev pub numbers : ℕ → List (List ℕ)
   numbers n = ascending exists (λ b. x b ∷ []) n
 
-  abbrev rows : ℕ → List ℕ
+  abbrev pub rows : ℕ → List ℕ
   rows n = ascending exists (λ b. b ∷ f b) n
 
-  abbrev lines : ℕ → List Row
+  abbrev pub lines : ℕ → List Row
   lines n = ascending exists (λ b. blockRows b (f b)) n
 
   -- a table of n blocks' rows: as long as its rows are many, its lines are theirs, and these are five a row
-  record Gathered (ns : List (List ℕ)) (rs : List ℕ) (ls : List Row) : Type 0 where
-    long : length rs ≡ rowNumbers * length ns
-    same : tableRows rs (length ns) ≡ ls
-    bytes : length (printRows ls) ≡ reportLineBytes * (blockFigures * length ns)
+  pub record Gathered (ns : List (List ℕ)) (rs : List ℕ) (ls : List Row) : Type 0 where
+    pub long : length rs ≡ rowNumbers * length ns
+    pub same : tableRows rs (length ns) ≡ ls
+    pub bytes : length (printRows ls) ≡ reportLineBytes * (blockFigures * length ns)
 
   -- one block more, or none
   gathered : (n : ℕ) → Gathered (numbers n) (rows n) (lines n)
@@ -79,6 +78,11 @@ module _ (exists : ℕ → Bool) (x : ℕ → List ℕ) (f : ℕ → List ℕ) (
           }
       go h false = rw (append-nil (rows n), append-nil (numbers n), append-nil (lines n)) h
 
+  -- the length of a report that has three totals behind these lines
+  pub closed-long : (ts : List ℕ) → length ts ≡ totals → length (printRows (lines blocks ++ itemsFrom 1 TOT 0 ts)) ≡ reportLength (length (numbers blocks))
+  closed-long ts h =
+      rw (rows-append (lines blocks), length-append (printRows (lines blocks))) (omega (arith, gathered blocks .bytes, items-long TOT 0 refl 1 ts))
+
 -- ---- the lines of a sheet
 
 -- a table that has the rows of a sheet's blocks in front
@@ -93,7 +97,4 @@ table-lines es t n e h =
 
 pub report-long : (es : List Entry) → length (reportOf es) ≡ reportLength (count (sheetOf es))
 unfolding sheetOf blocksTo blockRowsOf
-report-long es =
-    let g = gathered (exists es) (blockOf es) (λ b. figuresOf (blockOf es b)) (λ b. figures-long (blockOf es b)) blocks in
-    let e = ap length (rows-append (blockRowsOf es) (totalRowsOf es)) ∙ length-append (printRows (blockRowsOf es)) _ in
-    omega (arith, e, g .bytes, items-long TOT 0 refl 1 (sumK (sheetOf es .blocks) ∷ RO (sheetOf es .volumes) (sheetOf es .general) ∷ buffer (sheetOf es) ∷ []))
+report-long es = closed-long (exists es) (blockOf es) (λ b. figuresOf (blockOf es b)) (λ b. figures-long (blockOf es b)) _ refl

@@ -10,6 +10,7 @@ use lib.Dec.{leb}
 use lib.ListN.{length, getD}
 use lib.IntN.{ℤ, pos}
 use lib.Signed.{leZ}
+use Rattle.search.specs.Each.{Each}
 use Rattle.search.specs.Least.{least}
 use Rattle.search.proofs.Picks.{if-eq, if-ne}
 use Rattle.search.proofs.LeastOf.{LeastOf, Rising, least-of}
@@ -188,7 +189,8 @@ module _ (b : List ℕ) (v : AcceptedBlock b) where
       ]
 
   -- each figure fits the 18 columns of its line
-  pub figures-fit : (I b < 10 ^ 18) × (D b < 10 ^ 18) × (U b < 10 ^ 18) × (LT b < 10 ^ 18) × (K b < 10 ^ 18)
+  pub figures-fit : Each (λ n. n < 10 ^ 18) (figuresOf b)
+  unfolding figuresOf
   figures-fit = omega (arith, v-is, u-fits, i-high, d-high, k-high)
 
 -- a block has so many figures

@@ -75,7 +75,7 @@ module _ (s : Sheet) (v : AcceptedSheet s) where
       record { reaches = omega (arith, l .reaches); first = λ m h. l .first m (omega arith) }
 
   -- each total fits the 18 columns of its line
-  pub totals-fit : (sumK (s .blocks) < 10 ^ 18) × (RO (s .volumes) (s .general) < 10 ^ 18) × (buffer s < 10 ^ 18)
+  pub totals-fit : Each (λ n. n < 10 ^ 18) (sumK (s .blocks) ∷ RO (s .volumes) (s .general) ∷ buffer s ∷ [])
   totals-fit =
       omega (
         arith,

@@ -104,7 +104,7 @@ module _ (exists : ℕ → Bool) (f : ℕ → List ℕ) (sum ro buffer : ℕ) (r
   abbrev pub rows : List Row
   rows = ascending exists (λ b. blockRows b (f b)) blocks ++ totalRows sum ro buffer
 
-  all-printable : Each Printable rows
+  pub all-printable : Each Printable rows
   all-printable =
       each-append Printable (linesTo exists f blocks) _
       (each-ascending exists (λ b. blockRows b (f b)) Printable blocks
