@@ -1,12 +1,11 @@
 -- Demand 3 of what the sheet call leaves: a sound judgement's sheet is accepted, and its report's bytes give its figures back. Assumes nothing.
-use mathlib.Core.Path.{_≡_, refl}
+use mathlib.Core.Path.{_≡_, subst⁻¹}
 use mathlib.Core.Bool.{true}
 use mathlib.Core.List.{List, _++_}
 use Prim.Native.Nat.{ℕ, _-_, _≤_}
 use native.Mathlib.Omega.{arith}
 use lib.ListN.{length, getD}
 use Rattle.search.specs.Each.{Each}
-use Rattle.search.proofs.Picks.{by-test}
 use Rattle.field.specs.declared.Field.the-variants.{Value}
 use Rattle.guideline.specs.Sizes.{blocks, blockFigures}
 use Rattle.guideline.specs.Block.{D, U, LT, K, figuresOf}
@@ -20,11 +19,12 @@ use Rattle.ledger.specs.Entries.{exists, blockOf}
 use Rattle.report.specs.Rows.{BLK, TOT}
 use Rattle.report.proofs.Reread.{FitsColumns, buffer-read, figure-read}
 use Rattle.judgement.specs.Sheet.{sheetOf}
-use Rattle.judgement.specs.Judgement.{Judgement, judgement}
-use Rattle.judgement.specs.Judgement.Judgement.{turnedAway, sound}
+use Rattle.judgement.specs.Judgement.{judgement}
+use Rattle.judgement.specs.Judgement.Judgement.{sound}
 use Rattle.judgement.proofs.Accepted.{block-accepted, exists-within, sound-passed, sound-accepted}
-use Rattle.aggregate.specs.Call.{Done, blockRowsOf, reportOf, rule14, afterJudgement, sheetCall}
+use Rattle.aggregate.specs.Call.{Done, blockRowsOf, reportOf, sheetCall}
 use Rattle.aggregate.specs.Demand.{ReportedBlock, ReportDemand, Demand3}
+use Rattle.aggregate.proofs.Rules.{by-answer}
 
 module _ (s : List ℕ) (es : List Entry) (j : judgement s ≡ sound es) where
   -- five figures that fit their columns
@@ -71,15 +71,13 @@ module _ (s : List ℕ) (es : List Entry) (j : judgement s ≡ sound es) where
 
 -- ---- whatever the judgement
 
-unfoldable Meets : List ℕ → Done → Type 0
-Meets s d = Demand3 s (d .outcome) (d .report)
-
 module _ (s r : List ℕ) where
-  after : (j : Judgement) → judgement s ≡ j → Meets s (afterJudgement j r)
-  unfolding Meets afterJudgement rule14
-  after (turnedAway n p) e = tt
-  after (sound es) e = by-test (Meets s) _ _ _ (λ t. tt) (λ t. (es, e, report-demand s es e _))
+  abbrev Meets : Done → Type 0
+  Meets d = Demand3 s (d .outcome) (d .report)
 
   pub call-demand : Demand3 s (sheetCall s r .outcome) (sheetCall s r .report)
-  unfolding Meets sheetCall
-  call-demand = after (judgement s) refl
+  call-demand = by-answer s r Meets (λ n p e. tt) (λ es e h. tt) (λ es e. (es, e, report-demand s es e _))
+
+  -- so does what is equal to what the call gives
+  pub promised : (d : Done) → d ≡ sheetCall s r → (d ≡ sheetCall s r) × Demand3 s (d .outcome) (d .report)
+  promised d e = (e, subst⁻¹ Meets e call-demand)

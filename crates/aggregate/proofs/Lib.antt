@@ -1,5 +1,5 @@
 pub mod Rows
-pub mod Accuracy
 pub mod Rules
+pub mod Accuracy
 pub mod Numbered
 pub mod Printing

@@ -1,31 +1,45 @@
--- The sheet call by what is findings of the judgement, and by the room. Assumes nothing.
-use mathlib.Core.Path.{_≡_, sym, _∙_, subst⁻¹}
+-- The sheet call by what was judged and by the room: what holds of it where it holds of each answer, and the answers by what judging tells.
+-- Assumes nothing.
+use mathlib.Core.Path.{_≡_, refl, sym, _∙_}
 use mathlib.Core.List.{List, [], _∷_, _++_}
 use Prim.Native.Nat.{ℕ, _*_, _≤_, _<_}
 use native.Mathlib.Omega.{arith}
 use lib.ListN.{length, take, drop}
-use Rattle.search.proofs.Picks.{if-lt, if-ge}
+use borrow.Author.Tests.{ltb-true}
+use Rattle.search.proofs.Picks.{if-lt, if-ge, by-test}
 use Rattle.refusal.specs.Outcome.Outcome.{accepted}
 use Rattle.refusal.specs.declared.Place.{Place}
 use Rattle.refusal.specs.declared.Place.the-variants.{Nowhere}
 use Rattle.guideline.specs.Sizes.{blocks, rowNumbers}
 use Rattle.guideline.specs.Buffer.{count}
 use Rattle.report_line.specs.Line.{printRows}
+use Rattle.sheet_line.specs.declared.Entry.{Entry}
 use Rattle.report.specs.Rows.{totalRows, reportBytes, reportLength}
 use Rattle.judgement.specs.Sheet.{sheetOf}
-use Rattle.judgement.specs.Judgement.{judgement, findings}
+use Rattle.judgement.specs.Judgement.{Judgement, judgement, findings}
+use Rattle.judgement.specs.Judgement.Judgement.{turnedAway, sound}
 use Rattle.judgement.specs.Judgement.Findings.{refusal, figures}
 use Rattle.judgement.proofs.Accepted.{few-blocks}
 use Rattle.judgement.proofs.Rules.{findings-refusal, findings-figures}
-use Rattle.aggregate.specs.Call.{Done, untouched, rule14, afterJudgement, sheetCall}
-use Rattle.aggregate.specs.Demand.{Demand3}
+use Rattle.aggregate.specs.Call.{Done, untouched, reportOf, rule14, afterJudgement, sheetCall}
 use Rattle.aggregate.proofs.Rows.{table-lines}
-use Rattle.aggregate.proofs.Accuracy.{call-demand}
 
 module _ (s r : List ℕ) where
-  -- what the call gives meets demand 3 too
-  pub promised : (d : Done) → d ≡ sheetCall s r → (d ≡ sheetCall s r) × Demand3 s (d .outcome) (d .report)
-  promised d e = (e, subst⁻¹ (λ (x : Done). Demand3 s (x .outcome) (x .report)) e (call-demand s r))
+  -- the report of a sheet's lines, in front of the room
+  abbrev pub filled : List Entry → Done
+  filled es = let n = reportLength (count (sheetOf es)) in record { outcome = accepted (n ∷ []); report = reportOf es ++ drop n r }
+
+  -- what holds of each answer holds of the call's: turned away, no room, or the report
+  pub by-answer :
+      (P : Done → Type 0) → ((n : ℕ) (p : Place) → judgement s ≡ turnedAway n p → P (untouched n p r)) →
+      ((es : List Entry) → judgement s ≡ sound es → length r < reportLength (count (sheetOf es)) → P (untouched 14 Nowhere r)) →
+      ((es : List Entry) → judgement s ≡ sound es → P (filled es)) → P (sheetCall s r)
+  unfolding sheetCall afterJudgement rule14
+  by-answer P turned short full = go (judgement s) refl
+    where
+      go : (j : Judgement) → judgement s ≡ j → P (afterJudgement j r)
+      go (turnedAway n p) e = turned n p e
+      go (sound es) e = by-test P _ _ _ (λ t. short es e (ltb-true _ _ t)) (λ t. full es e)
 
   pub turned : (n : ℕ) (p : Place) → refusal n p ≡ findings (judgement s) → untouched n p r ≡ sheetCall s r
   unfolding sheetCall afterJudgement

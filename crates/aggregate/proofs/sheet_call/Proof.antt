@@ -6,7 +6,8 @@ use borrow.Author.Needs.{needs}
 use Rattle.ledger.specs.Tables.{table}
 use Rattle.judgement.specs.Judgement.{judgement, findings, stated}
 use Rattle.judgement.specs.declared.Verdict.{Verdict}
-use Rattle.aggregate.proofs.Rules.{promised, turned, few, too-short, reported}
+use Rattle.aggregate.proofs.Rules.{turned, few, too-short, reported}
+use Rattle.aggregate.proofs.Accuracy.{promised}
 use Rattle.aggregate.proofs.sheet_call.Statement.{statement}
 use Rattle.aggregate.proofs.sheet_call.Tie as tie
 
