@@ -3,6 +3,7 @@
 -- from the one that is due, either way: of two buffers that meet it, one less the allowance is below the exact buffer, and the other isn't.
 -- Assumes nothing.
 use mathlib.Core.Path.{_≡_, refl, sym, ap, subst, _∙_}
+use mathlib.Core.Bool.{true}
 use mathlib.Core.List.{List}
 use Prim.Native.Nat.{ℕ, _+_, _*_, _≤_}
 use native.Mathlib.Nat.{mul-le-mul-right}
@@ -31,48 +32,37 @@ use Rattle.dummies.proofs.Computed.{computed}
 row : (k : ℕ) → getD (given answers) k (empty .facts) ≡ getD (claimed answers) k (empty .facts)
 row k = ap (λ (l : List Facts). getD l k (empty .facts)) computed
 
--- the rows are of bytes
-lent-empty : Lent (empty .sheet) (empty .lent)
-lent-empty = ap (λ (f : Facts). f .bytes) (row 0)
-
-lent-guaranteed : Lent (guaranteed .sheet) (guaranteed .lent)
-lent-guaranteed = ap (λ (f : Facts). f .bytes) (row 1)
-
-lent-two : Lent (twoBlocks .sheet) (twoBlocks .lent)
-lent-two = ap (λ (f : Facts). f .bytes) (row 2)
-
 module _ (call : Call) (meets : MeetsContract call) where
-  -- what the call gives for a row
-  at :
-      (a : Case) → Lent (a .sheet) (a .lent) → factsOf (a .sheet) (a .lent) (sheetCall (a .sheet) (a .lent)) ≡ a .facts →
-      factsOf (a .sheet) (a .lent) (call (a .sheet) (a .lent)) ≡ a .facts
-  at a l e = ap (factsOf (a .sheet) (a .lent)) (meets (a .sheet) (a .lent) l) ∙ e
+  -- what the call gives for a row of bytes
+  record At (a : Case) : Type 0 where
+    lent : Lent (a .sheet) (a .lent)
+    facts : factsOf (a .sheet) (a .lent) (call (a .sheet) (a .lent)) ≡ a .facts
+    outcome : call (a .sheet) (a .lent) .outcome ≡ a .facts .outcome
+
+  at : (a : Case) → a .facts .bytes ≡ true → factsOf (a .sheet) (a .lent) (sheetCall (a .sheet) (a .lent)) ≡ a .facts → At a
+  at a b e =
+      let l = ap (λ (f : Facts). f .bytes) e ∙ b in
+      let f = ap (factsOf (a .sheet) (a .lent)) (meets (a .sheet) (a .lent) l) ∙ e in
+      record { lent = l; facts = f; outcome = ap (λ (f : Facts). f .outcome) f }
 
   pub turns-all-away : TurnsAllAway call → ⊥
   turns-all-away away =
-      let e = ap (λ (f : Facts). f .outcome) (at empty lent-empty (row 0)) in
-      let w = away (empty .sheet) (empty .lent) lent-empty .2 in
-      never (cc)
+      let e = at empty refl (row 0) in
+      never (cc (away (empty .sheet) (empty .lent) (e .lent) .2))
 
   pub constant-report : ConstantReport call → ⊥
   constant-report constant =
-      let e = at empty lent-empty (row 0) in
-      let f = at guaranteed lent-guaranteed (row 1) in
-      let be = ap (λ (f : Facts). f .buffer) e in
-      let bf = ap (λ (f : Facts). f .buffer) f in
-      let c =
-      constant (empty .sheet) (guaranteed .sheet) (empty .lent) _ _ lent-empty lent-guaranteed (ap (λ (f : Facts). f .outcome) e)
-      (ap (λ (f : Facts). f .outcome) f) in
-      let z : _≡_ {A = ℕ} 0 2 = cc in
+      let e = at empty refl (row 0) in
+      let f = at guaranteed refl (row 1) in
+      let c = constant (empty .sheet) (guaranteed .sheet) (empty .lent) _ _ (e .lent) (f .lent) (e .outcome) (f .outcome) in
+      let z : _≡_ {A = ℕ} 0 2 = cc (c, ap (λ (x : Facts). x .buffer) (e .facts), ap (λ (x : Facts). x .buffer) (f .facts)) in
       omega arith
 
   pub writes-nothing : WritesNothing call → ⊥
   writes-nothing same =
-      let e = at empty lent-empty (row 0) in
-      let h = ap (λ (f : Facts). f .head) e in
-      let c = same (empty .sheet) (empty .lent) _ lent-empty (ap (λ (f : Facts). f .outcome) e) in
-      let z : _≡_ {A = ℕ} 84 35 = sym h ∙ ap (λ (l : List ℕ). getD l 0 0) c in
-      omega arith
+      let e = at empty refl (row 0) in
+      let c = same (empty .sheet) (empty .lent) _ (e .lent) (e .outcome) in
+      omega (arith, sym (ap (λ (x : Facts). x .head) (e .facts)) ∙ ap (λ (l : List ℕ). getD l 0 0) c)
 
   pub too-short-at-once : TooShortAtOnce call → ⊥
   too-short-at-once short = turns-all-away (λ s r l. (14, short s r l .0, short s r l .1))
@@ -80,10 +70,8 @@ module _ (call : Call) (meets : MeetsContract call) where
   -- 'breaks demand 2 at the second K'
   pub first-filled-in : FirstFilledIn call → ⊥
   first-filled-in filled =
-      let e = at twoBlocks lent-two (row 2) in
-      let z : _≡_ {A = ℕ} 100 200 =
-      filled (twoBlocks .sheet) (twoBlocks .lent) 100 200 lent-two (ap (λ (f : Facts). f .k₁) e) (ap (λ (f : Facts). f .k₂) e) in
-      omega arith
+      let e = at twoBlocks refl (row 2) in
+      omega (arith, filled (twoBlocks .sheet) (twoBlocks .lent) 100 200 (e .lent) (ap (λ (x : Facts). x .k₁) (e .facts)) (ap (λ (x : Facts). x .k₂) (e .facts)))
 
 module _ (s : Sheet) (v : AcceptedSheet s) where
   -- two buffers that meet demand 3 are less than the allowance apart
@@ -132,5 +120,5 @@ module _ (call : Call) (meets : MeetsDemand3 call) where
       let a = ap (λ (f : Facts). f .amounts) (row 2) in
       let j = sound-lines (judgement (twoBlocks .sheet)) (omega (arith, ap (λ (m : Amounts). m .allowance) a)) in
       let m = sym (ap amountsOf (j .1)) ∙ a in
-      filled-in-near filled (twoBlocks .sheet) (twoBlocks .lent) _ (j .0) lent-two (j .1) (omega (arith, ap (λ (m : Amounts). m .credits) m))
+      filled-in-near filled (twoBlocks .sheet) (twoBlocks .lent) _ (j .0) (ap (λ (f : Facts). f .bytes) (row 2)) (j .1) (omega (arith, ap (λ (m : Amounts). m .credits) m))
       (ap (λ (f : Facts). f .outcome) (row 2)) .0 (subst Below (sym m) (omega arith))

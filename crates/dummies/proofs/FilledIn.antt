@@ -2,11 +2,11 @@
 -- totals have their columns; it is as long as the program says; every line of a K has the first block's, so that no other K is read of it.
 -- Assumes nothing.
 use mathlib.Core.Path.{_≡_, refl, sym, ap, subst, _∙_}
-use mathlib.Core.Bool.{Bool, true, false, false≢true}
+use mathlib.Core.Bool.{true, false, false≢true}
 use mathlib.Core.List.{List, [], _∷_, _++_, map, append-nil}
-use Prim.Native.Nat.{ℕ, zero, suc, _*_, _≤_, _<_}
+use Prim.Native.Nat.{ℕ, suc, _≤_, _<_}
 use native.Mathlib.Omega.{arith}
-use lib.ListN.{length, getD, take, drop, length-append, length-map}
+use lib.ListN.{length, getD, take, drop, length-map}
 use lib.Seq.{take-append-seam}
 use Rattle.search.specs.Pick.{pick}
 use Rattle.search.specs.Each.{Each}
@@ -20,17 +20,17 @@ use Rattle.field.specs.declared.Field.the-variants.{Value, Bad}
 use Rattle.guideline.specs.Sizes.{blocks, blockFigures}
 use Rattle.guideline.specs.Block.{AcceptedBlock, K, figuresOf}
 use Rattle.guideline.specs.Buffer.{Sheet, count, available, buffer, AcceptedSheet}
-use Rattle.guideline.proofs.Figures.{figures-fit}
+use Rattle.guideline.proofs.Figures.{figures-fit, figures-long}
 use Rattle.guideline.proofs.Totals.{totals-fit}
-use Rattle.report_line.specs.Line.{reportLineBytes, Row, printRows, equalBytes, numberIn, numberAt}
-use Rattle.report_line.proofs.ReadBack.{Printable, rowIs, numberAmong, rows-read, rows-append}
+use Rattle.report_line.specs.Line.{Row, printRows, equalBytes, numberIn, numberAt}
+use Rattle.report_line.proofs.ReadBack.{rowIs, numberAmong, rows-read}
 use Rattle.sheet_line.specs.declared.Entry.{Entry}
 use Rattle.ledger.specs.Entries.{exists, blockOf}
 use Rattle.report.specs.Rows.{BLK, TOT, row, itemsFrom, blockRows, reportLength}
-use Rattle.report.proofs.Items.{items-long}
-use Rattle.report.proofs.Reread.{FitsColumns, buffer-read, items-printable}
+use Rattle.report.proofs.Reread.{FitsColumns, all-printable, buffer-read}
 use Rattle.judgement.specs.Sheet.{blocksTo, sheetOf}
 use Rattle.aggregate.specs.Call.{Done, untouched}
+use Rattle.aggregate.proofs.Rows.{closed-long}
 use Rattle.dummies.specs.Dummies.{claimedReport, firstForAll, filledIn}
 use Rattle.dummies.specs.Programs.{firstFigures, filledTotals, filledRows, filledReport}
 
@@ -59,33 +59,7 @@ filled-accepted s v h =
       credits-within = h;
     }
 
-zeros-accepted : AcceptedBlock []
-zeros-accepted =
-    record { ir-fits = omega arith; lt-within = omega arith; lt-seven = refl; pc-fits = omega arith; credit-fits = omega arith; market-fits = omega arith }
-
 -- ---- its lines
-
--- five lines for each block that exists
-lines-long :
-    (passes : ℕ → Bool) (x : ℕ → List ℕ) (f : List ℕ) → length f ≡ blockFigures → (n : ℕ) →
-    length (printRows (ascending passes (λ b. blockRows b f) n)) ≡ reportLineBytes * (blockFigures * length (ascending passes (λ b. x b ∷ []) n))
-unfolding ascending printRows pick
-lines-long passes x f h zero = refl
-lines-long passes x f h (suc n) = go (lines-long passes x f h n) (passes (suc n))
-  where
-    rows : List Row
-    rows = ascending passes (λ b. blockRows b f) n
-
-    xs : List (List ℕ)
-    xs = ascending passes (λ b. x b ∷ []) n
-
-    go :
-        length (printRows rows) ≡ reportLineBytes * (blockFigures * length xs) → (t : Bool) →
-        length (printRows (rows ++ pick t (blockRows (suc n) f) [])) ≡ reportLineBytes * (blockFigures * length (xs ++ pick t (x (suc n) ∷ []) []))
-    go e true =
-        rw (rows-append rows (blockRows (suc n) f), length-append (printRows rows) (printRows (blockRows (suc n) f)), length-append xs (x (suc n) ∷ []))
-        (omega (arith, e, h, items-long BLK (suc n) refl 1 f))
-    go e false = rw (append-nil rows, append-nil xs) e
 
 -- a row that is K of block b has the number k
 unfoldable OfK : ℕ → ℕ → Row → Type 0
@@ -123,27 +97,18 @@ none-accepted x n p r vs e = never (cc)
 module _ (es : List Entry) (v : AcceptedSheet (sheetOf es)) (h : sheetOf es .credits ≤ available (filledIn (sheetOf es))) where
   -- every figure has its columns
   five : (length (firstFigures es) ≡ blockFigures) × Each FitsColumns (firstFigures es)
-  unfolding figuresOf
   five =
-      let f = figures-fit _ (each-at AcceptedBlock [] zeros-accepted (sheetOf es .blocks) (v .blocks-pass) 0) in
-      (refl, (f .0, (f .1, (f .2, (f .3, (f .4, tt))))))
+      let w : AcceptedBlock [] =
+      record { ir-fits = omega arith; lt-within = omega arith; lt-seven = refl; pc-fits = omega arith; credit-fits = omega arith; market-fits = omega arith } in
+      (figures-long _, figures-fit _ (each-at AcceptedBlock [] w (sheetOf es .blocks) (v .blocks-pass) 0))
 
   -- and so has every total
   totals : Each FitsColumns (filledTotals es)
-  totals = let t = totals-fit (filledIn (sheetOf es)) (filled-accepted (sheetOf es) v h) in (t .0, (t .1, (t .2, tt)))
+  totals = totals-fit (filledIn (sheetOf es)) (filled-accepted (sheetOf es) v h)
 
   report-long : length (printRows (filledRows es)) ≡ reportLength (count (sheetOf es))
   unfolding sheetOf blocksTo
-  report-long =
-      rw (rows-append, length-append)
-      (omega (arith, lines-long (exists es) (blockOf es) (firstFigures es) (five .0) blocks, items-long TOT 0 refl 1 (filledTotals es)))
-
-  all-printable : Each Printable (filledRows es)
-  all-printable =
-      each-append Printable (ascending (exists es) (λ b. blockRows b (firstFigures es)) blocks) _
-      (each-ascending (exists es) (λ b. blockRows b (firstFigures es)) Printable blocks
-      (λ b l k u. items-printable BLK b 1 (firstFigures es) refl (omega arith) (omega (arith, five .0)) (five .1)))
-      (items-printable TOT 0 1 (filledTotals es) refl (omega arith) (omega arith) totals)
+  report-long = closed-long (exists es) (blockOf es) (λ b. firstFigures es) (λ b. five .0) (filledTotals es) refl
 
   -- every line of a K has the first block's
   ks : (b : ℕ) → Each (OfK (K (getD (sheetOf es .blocks) 0 [])) b) (filledRows es)
@@ -157,7 +122,8 @@ module _ (es : List Entry) (v : AcceptedSheet (sheetOf es)) (h : sheetOf es .cre
   k-read : (b k : ℕ) → b < 100 → numberAt (printRows (filledRows es)) BLK b 5 ≡ Value k → k ≡ K (getD (sheetOf es .blocks) 0 [])
   unfolding numberAt numberIn
   k-read b k l e =
-      let c = rows-read (filledRows es) (row BLK b 5 0) [] all-printable (record { code = refl; block = l; item = omega arith; number = omega arith }) in
+      let p = all-printable (exists es) (λ b. firstFigures es) _ _ _ [] (λ b l k t. five) totals in
+      let c = rows-read (filledRows es) (row BLK b 5 0) [] p (record { code = refl; block = l; item = omega arith; number = omega arith }) in
       k-among _ b k (filledRows es) (ks b) (sym c ∙ rw append-nil e)
 
   pub k-same : (r : List ℕ) → Same (filledReport es r)
