@@ -3,7 +3,7 @@
 use mathlib.Core.Path.{_≡_, refl, sym, ap, _∙_, subst}
 use mathlib.Core.Bool.{Bool, cond}
 use Prim.Native.Nat.{ℕ, zero, suc, _+_, _-_, _*_, _≤_, _<_}
-use native.Mathlib.Nat.{lt-of-not-le, le-dest}
+use native.Mathlib.Nat.{lt-of-not-le, le-dest, mul-add, add-mul, mul-assoc, mul-comm, mul-left-comm, add-assoc, add-comm, add-left-comm}
 use native.Mathlib.Decide.{decLe}
 use native.Mathlib.Omega.{arith}
 use lib.IntN.{ℤ, pos, negsuc, negℤ, subℕ, _+ℤ_, _*ℤ_, *ℤ-comm, +ℤ-comm, +ℤ-assoc}
@@ -52,19 +52,12 @@ negative-diff a x = diff-eq a (a + suc x) 0 (suc x) (omega arith) ∙ sym (neg-a
 -- the sum of two differences
 add-views : {a b c d : ℕ} → View a b → View c d → subℕ a b +ℤ subℕ c d ≡ subℕ (a + c) (b + d)
 add-views (natural b x) (natural d y) =
-    (λ i. natural-diff b x i +ℤ natural-diff d y i)
-    ∙ as-diff (x + y)
-    ∙ diff-eq (x + y) 0 (b + x + (d + y)) (b + d) (omega arith)
-add-views (natural b x) (negative c y) =
-    (λ i. natural-diff b x i +ℤ negative-diff c y i)
-    ∙ diff-eq x (suc y) (b + x + c) (b + (c + suc y)) (omega arith)
-add-views (negative a x) (natural d y) =
-    (λ i. negative-diff a x i +ℤ natural-diff d y i)
-    ∙ diff-eq y (suc x) (a + (d + y)) (a + suc x + d) (omega arith)
+    rw (natural-diff b x, natural-diff d y) (as-diff (x + y) ∙ diff-eq (x + y) 0 (b + x + (d + y)) (b + d) (omega arith))
+add-views (natural b x) (negative c y) = rw (natural-diff b x, negative-diff c y) (diff-eq x (suc y) (b + x + c) (b + (c + suc y)) (omega arith))
+add-views (negative a x) (natural d y) = rw (negative-diff a x, natural-diff d y) (diff-eq y (suc x) (a + (d + y)) (a + suc x + d) (omega arith))
 add-views (negative a x) (negative c y) =
-    (λ i. negative-diff a x i +ℤ negative-diff c y i)
-    ∙ neg-as-diff (suc (suc (x + y)))
-    ∙ diff-eq 0 (suc (suc (x + y))) (a + c) (a + suc x + (c + suc y)) (omega arith)
+    let n = suc (suc (x + y)) in
+    rw (negative-diff a x, negative-diff c y) (neg-as-diff n ∙ diff-eq 0 n (a + c) (a + suc x + (c + suc y)) (omega arith))
 
 pub diff-add : (a b c d : ℕ) → subℕ a b +ℤ subℕ c d ≡ subℕ (a + c) (b + d)
 diff-add a b c d = add-views (view a b) (view c d)
@@ -72,21 +65,17 @@ diff-add a b c d = add-views (view a b) (view c d)
 -- the product of two differences
 mul-views : {a b c d : ℕ} → View a b → View c d → subℕ a b *ℤ subℕ c d ≡ subℕ (a * c + b * d) (a * d + b * c)
 mul-views (natural b x) (natural d y) =
-    (λ i. natural-diff b x i *ℤ natural-diff d y i)
-    ∙ as-diff (x * y)
-    ∙ diff-eq (x * y) 0 ((b + x) * (d + y) + b * d) ((b + x) * d + b * (d + y)) (omega arith)
+    rw (natural-diff b x, natural-diff d y)
+    (as-diff (x * y) ∙ diff-eq (x * y) 0 ((b + x) * (d + y) + b * d) ((b + x) * d + b * (d + y)) (omega arith))
 mul-views (natural b x) (negative c y) =
-    (λ i. natural-diff b x i *ℤ negative-diff c y i)
-    ∙ neg-as-diff (x * suc y)
-    ∙ diff-eq 0 (x * suc y) ((b + x) * c + b * (c + suc y)) ((b + x) * (c + suc y) + b * c) (omega arith)
+    rw (natural-diff b x, negative-diff c y)
+    (neg-as-diff (x * suc y) ∙ diff-eq 0 (x * suc y) ((b + x) * c + b * (c + suc y)) ((b + x) * (c + suc y) + b * c) (omega arith))
 mul-views (negative a x) (natural d y) =
-    (λ i. negative-diff a x i *ℤ natural-diff d y i)
-    ∙ neg-as-diff (suc x * y)
-    ∙ diff-eq 0 (suc x * y) (a * (d + y) + (a + suc x) * d) (a * d + (a + suc x) * (d + y)) (omega arith)
+    rw (negative-diff a x, natural-diff d y)
+    (neg-as-diff (suc x * y) ∙ diff-eq 0 (suc x * y) (a * (d + y) + (a + suc x) * d) (a * d + (a + suc x) * (d + y)) (omega arith))
 mul-views (negative a x) (negative c y) =
-    (λ i. negative-diff a x i *ℤ negative-diff c y i)
-    ∙ as-diff (suc x * suc y)
-    ∙ diff-eq (suc x * suc y) 0 (a * c + (a + suc x) * (c + suc y)) (a * (c + suc y) + (a + suc x) * c) (omega arith)
+    let n = suc x * suc y in
+    rw (negative-diff a x, negative-diff c y) (as-diff n ∙ diff-eq n 0 (a * c + (a + suc x) * (c + suc y)) (a * (c + suc y) + (a + suc x) * c) (omega arith))
 
 pub diff-mul : (a b c d : ℕ) → subℕ a b *ℤ subℕ c d ≡ subℕ (a * c + b * d) (a * d + b * c)
 diff-mul a b c d = mul-views (view a b) (view c d)
@@ -104,40 +93,14 @@ parts : (z : ℤ) → z ≡ subℕ (positivePart z) (negativePart z)
 parts (pos n) = as-diff n
 parts (negsuc n) = neg-as-diff (suc n)
 
+-- for simp: sums and products of naturals are multiplied out and sorted
+ruleset naturals = (mul-add, add-mul, mul-assoc, mul-comm, mul-left-comm, add-assoc, add-comm, add-left-comm)
+
 pub *ℤ-+ℤ : (a b c : ℤ) → a *ℤ (b +ℤ c) ≡ a *ℤ b +ℤ a *ℤ c
-*ℤ-+ℤ a b c =
-    (λ i. parts a i *ℤ (parts b i +ℤ parts c i))
-    ∙ at (positivePart a) (negativePart a) (positivePart b) (negativePart b) (positivePart c) (negativePart c)
-    ∙ sym (λ i. parts a i *ℤ parts b i +ℤ parts a i *ℤ parts c i)
-  where
-    at : (a a′ b b′ c c′ : ℕ) → subℕ a a′ *ℤ (subℕ b b′ +ℤ subℕ c c′) ≡ subℕ a a′ *ℤ subℕ b b′ +ℤ subℕ a a′ *ℤ subℕ c c′
-    at a a′ b b′ c c′ =
-        ap (λ (z : ℤ). subℕ a a′ *ℤ z) (diff-add b b′ c c′) ∙ diff-mul a a′ (b + c) (b′ + c′)
-        ∙ diff-eq
-        (a * (b + c) + a′ * (b′ + c′))
-        (a * (b′ + c′) + a′ * (b + c))
-        (a * b + a′ * b′ + (a * c + a′ * c′))
-        (a * b′ + a′ * b + (a * c′ + a′ * c))
-        (omega arith)
-        ∙ sym (diff-add (a * b + a′ * b′) (a * b′ + a′ * b) (a * c + a′ * c′) (a * c′ + a′ * c))
-        ∙ sym (λ i. diff-mul a a′ b b′ i +ℤ diff-mul a a′ c c′ i)
+*ℤ-+ℤ a b c = rw (parts a, parts b, parts c) (simp (diff-add, diff-mul, naturals))
 
 pub *ℤ-assoc : (a b c : ℤ) → a *ℤ b *ℤ c ≡ a *ℤ (b *ℤ c)
-*ℤ-assoc a b c =
-    (λ i. parts a i *ℤ parts b i *ℤ parts c i)
-    ∙ at (positivePart a) (negativePart a) (positivePart b) (negativePart b) (positivePart c) (negativePart c)
-    ∙ sym (λ i. parts a i *ℤ (parts b i *ℤ parts c i))
-  where
-    at : (a a′ b b′ c c′ : ℕ) → subℕ a a′ *ℤ subℕ b b′ *ℤ subℕ c c′ ≡ subℕ a a′ *ℤ (subℕ b b′ *ℤ subℕ c c′)
-    at a a′ b b′ c c′ =
-        ap (λ (z : ℤ). z *ℤ subℕ c c′) (diff-mul a a′ b b′) ∙ diff-mul (a * b + a′ * b′) (a * b′ + a′ * b) c c′
-        ∙ diff-eq
-        ((a * b + a′ * b′) * c + (a * b′ + a′ * b) * c′)
-        ((a * b + a′ * b′) * c′ + (a * b′ + a′ * b) * c)
-        (a * (b * c + b′ * c′) + a′ * (b * c′ + b′ * c))
-        (a * (b * c′ + b′ * c) + a′ * (b * c + b′ * c′))
-        (omega arith)
-        ∙ sym (diff-mul a a′ (b * c + b′ * c′) (b * c′ + b′ * c)) ∙ sym (ap (λ (z : ℤ). subℕ a a′ *ℤ z) (diff-mul b b′ c c′))
+*ℤ-assoc a b c = rw (parts a, parts b, parts c) (simp (diff-mul, naturals))
 
 pub +ℤ-*ℤ : (a b c : ℤ) → (a +ℤ b) *ℤ c ≡ a *ℤ c +ℤ b *ℤ c
 +ℤ-*ℤ a b c = *ℤ-comm (a +ℤ b) c ∙ *ℤ-+ℤ c a b ∙ (λ i. *ℤ-comm c a i +ℤ *ℤ-comm c b i)
