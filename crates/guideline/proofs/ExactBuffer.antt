@@ -2,7 +2,7 @@
 -- rounding. Assumes nothing.
 use mathlib.Core.Path.{ap}
 use mathlib.Core.List.{List, [], _∷_}
-use Prim.Native.Nat.{ℕ, _+_, _*_}
+use Prim.Native.Nat.{ℕ, _*_}
 use native.Mathlib.Nat.{mul-le-mul-left, mul-le-mul-right, mul-pos, mul-lt-mul-of-pos-left}
 use native.Mathlib.Omega.{arith}
 use lib.ListN.{length}
@@ -11,7 +11,7 @@ use Rattle.search.specs.Each.{Each}
 use Rattle.guideline.specs.Block.{AcceptedBlock, K}
 use Rattle.guideline.specs.Sizes.{tenThousandths}
 use Rattle.guideline.specs.Operational.{operationalDenominator}
-use Rattle.guideline.specs.Fraction.{Fraction, _≤ᶠ_, whole, plus}
+use Rattle.guideline.specs.Fraction.{_≤ᶠ_, whole}
 use Rattle.guideline.specs.Exact.{kAt}
 use Rattle.guideline.specs.Buffer.{Sheet, sumK, buffer, Choice, sumAt, StrictlyBelowBuffer, lessAllowance, AcceptedSheet}
 use Rattle.guideline.proofs.Exactly.{k-bound, k-near-by}
@@ -19,31 +19,27 @@ use Rattle.guideline.proofs.Totals.{ro-law, bracket-is, buffer-law}
 
 -- ---- sums of fractions
 
-plus-high : (x y : Fraction) (k l : ℕ) → x ≤ᶠ whole k 0 → y ≤ᶠ whole l 0 → plus x y ≤ᶠ whole (k + l) 0
-plus-high x y k l p q = omega (arith, mul-le-mul-right (y .denominator) p, mul-le-mul-right (x .denominator) q)
-
-plus-low : (x y : Fraction) (k i l j : ℕ) → whole k i ≤ᶠ x → whole l j ≤ᶠ y → whole (k + l) (i + j) ≤ᶠ plus x y
-plus-low x y k i l j p q = omega (arith, mul-le-mul-right (y .denominator) p, mul-le-mul-right (x .denominator) q)
-
 -- at any choice, K's fractions come to at most the sum of K
 sum-high : (bs : List (List ℕ)) → Each AcceptedBlock bs → (c : Choice bs) → sumAt bs c ≤ᶠ whole (sumK bs) 0
 unfolding sumK
 sum-high [] vs c = omega arith
-sum-high (b ∷ bs) vs c = plus-high (kAt b (c .0)) (sumAt bs (c .2)) (K b) (sumK bs) (k-bound b (vs .0) (c .0) (c .1)) (sum-high bs (vs .1) (c .2))
+sum-high (b ∷ bs) vs c =
+    omega (
+      arith,
+      mul-le-mul-right (sumAt bs (c .2) .denominator) (k-bound b (vs .0) (c .0) (c .1)),
+      mul-le-mul-right (kAt b (c .0) .denominator) (sum-high bs (vs .1) (c .2)),
+    )
 
 -- a choice at which they come to no less than the sum of K less two cents a block
-record Near (bs : List (List ℕ)) : Type 0 where
-  choice : Choice bs
-  near : whole (sumK bs) (2 * length bs) ≤ᶠ sumAt bs choice
-
-sum-near : (bs : List (List ℕ)) → Each AcceptedBlock bs → Near bs
+sum-near : (bs : List (List ℕ)) → Each AcceptedBlock bs → (c : Choice bs) × (whole (sumK bs) (2 * length bs) ≤ᶠ sumAt bs c)
 unfolding sumK
-sum-near [] vs = record { choice = tt; near = omega arith }
+sum-near [] vs = (tt, omega arith)
 sum-near (b ∷ bs) vs =
     let k = k-near-by b (vs .0) 2 (omega arith) in
     let r = sum-near bs (vs .1) in
-    let le = plus-low (kAt b (k .d)) (sumAt bs (r .choice)) (K b) 2 (sumK bs) (2 * length bs) (omega (arith, k .below)) (r .near) in
-    record { choice = (k .d, k .fits, r .choice); near = omega arith }
+    let le : whole (K b) 2 ≤ᶠ kAt b (k .d) = omega (arith, k .below) in
+    let x = sumAt bs (r .0) in
+    ((k .d, k .fits, r .0), omega (arith, mul-le-mul-right (x .denominator) le, mul-le-mul-right (kAt b (k .d) .denominator) (r .1)))
 
 -- ---- the buffer
 
@@ -67,16 +63,16 @@ module _ (s : Sheet) (v : AcceptedSheet s) where
   pub buffer-near : StrictlyBelowBuffer s (lessAllowance s (buffer s))
   buffer-near =
       let r = sum-near (s .blocks) (v .blocks-pass) in
-      let x = sumAt (s .blocks) (r .choice) in
+      let x = sumAt (s .blocks) (r .0) in
       let g = s .g in
       let m = x .denominator in
       let ro = least-ceil operationalDenominator _ _ (omega arith) (ro-law (s .volumes) (s .general) (v .amounts)) in
       let b = least-ceil tenThousandths _ _ (omega arith) (buffer-law s v) in
       record {
-        choice = r .choice;
+        choice = r .0;
         below = omega (
           arith,
-          mul-le-mul-left g (r .near),
+          mul-le-mul-left g (r .1),
           mul-lt-mul-of-pos-left ro (mul-pos (v .g-low) (x .positive)),
           mul-lt-mul-of-pos-left b (x .positive),
           ap (λ (z : ℕ). g * m * z) (bracket-is s v),

@@ -41,21 +41,14 @@ module _ (b : List ℕ) (v : AcceptedBlock b) where
   v-pos : 0 < U b → 0 < Vh b
   v-pos h = omega (arith, u-high b v)
 
-  -- a d from V/3 on is a natural over its denominator
-  third-nat : (d : Fraction) → whole (Vh b) 0 ≤ᶠ thrice d → Vh b * d .denominator ≤ 3 * nat d
-  third-nat d h = omega arith
-
-  zero-below : (d : Fraction) → whole (Vh b) 0 ≤ᶠ thrice d → whole 0 0 ≤ᶠ d
-  zero-below d low = omega arith
-
-  -- M never falls
+  -- M never falls: a d from V/3 on is a natural over its denominator
   pub m-rises :
       (d e : Fraction) → whole (Vh b) 0 ≤ᶠ thrice d → d ≤ᶠ e →
       mNumerator (Vh b) d * (e .denominator * e .denominator) ≤ mNumerator (Vh b) e * (d .denominator * d .denominator)
   m-rises d e low up =
-      let z = zero-below d low in
+      let z : whole 0 0 ≤ᶠ d = omega arith in
       rw (mNumerator-is (Vh b) d z, mNumerator-is (Vh b) e (≤ᶠ-trans (whole 0 0) d e z up))
-      (m-rises-over (Vh b) (nat d) (d .denominator) (nat e) (e .denominator) (third-nat d low) (nat-le d e z up))
+      (m-rises-over (Vh b) (nat d) (d .denominator) (nat e) (e .denominator) (omega arith) (nat-le d e z up))
 
   -- K's fraction never falls
   pub fraction-rises : (d e : Fraction) → whole (Vh b) 0 ≤ᶠ thrice d → d ≤ᶠ e → kAt b d ≤ᶠ kAt b e
@@ -121,7 +114,7 @@ module _ (b : List ℕ) (v : AcceptedBlock b) where
   k-bound d f =
       elim (decLe 1 (U b)) [
         | yes h ↦
-            let le = k-above (U b) (LT b) (Vh b) (D b) (K b) (nat d) (d .denominator) (third-nat d (f .third)) (omega (arith, fits-below d f)) (k-law b v h .reaches) in
+            let le = k-above (U b) (LT b) (Vh b) (D b) (K b) (nat d) (d .denominator) (omega (arith, f .third)) (omega (arith, fits-below d f)) (k-law b v h .reaches) in
             rw (kAt-some b d h (v-pos h)) (omega (arith, mNumerator-is (Vh b) d (omega (arith, f .third))))
         | no h ↦ rw (kAt-none b d (omega arith)) (omega arith)
       ]

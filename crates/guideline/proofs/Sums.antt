@@ -21,10 +21,7 @@ module _ (f : ℕ → ℤ) where
   pub sum-add : (g : ℕ → ℤ) (n : ℕ) → sum n (λ k. f k +ℤ g k) ≡ sum n f +ℤ sum n g
   unfolding sum
   sum-add g zero = refl
-  sum-add g (suc n) = ap (λ (z : ℤ). z +ℤ (f n +ℤ g n)) (sum-add g n) ∙ step (sum n f) (sum n g) (f n) (g n)
-    where
-      step : (a b c d : ℤ) → a +ℤ b +ℤ (c +ℤ d) ≡ a +ℤ c +ℤ (b +ℤ d)
-      step a b c d = simp ring
+  sum-add g (suc n) = rw (sum-add g n) (simp ring)
 
   pub sum-times : (c : ℤ) (n : ℕ) → sum n (λ k. c *ℤ f k) ≡ c *ℤ sum n f
   unfolding sum
@@ -34,8 +31,7 @@ module _ (f : ℕ → ℤ) where
   sum-on : (m n : ℕ) → sum (m + n) f ≡ sum m f +ℤ sum n (λ k. f (m + k))
   unfolding sum
   sum-on m zero = rw add-zero (sym (+ℤ-idr (sum m f)))
-  sum-on m (suc n) =
-      rw add-suc (ap (λ (z : ℤ). z +ℤ f (m + n)) (sum-on m n) ∙ +ℤ-assoc (sum m f) (sum n (λ k. f (m + k))) (f (m + n)))
+  sum-on m (suc n) = rw (add-suc, sum-on m n) (+ℤ-assoc (sum m f) (sum n (λ k. f (m + k))) (f (m + n)))
 
   -- a table with w columns, row by row
   sum-rows : (w n : ℕ) → sum (n * w) f ≡ sum n (λ i. sum w (λ j. f (i * w + j)))

@@ -135,8 +135,7 @@ module _ (p : ℕ → ℕ) where
       let c = short (factor n) (factor-small n) in (
         r .0 + c .0 * p n,
         step (sum n (λ k. factor k *ℤ pos (p k))) (factor n) (pos (p n)) (pos (r .0)) (pos (c .0))
-            ∙ (λ i. r .1 i +ℤ c .1 i *ℤ pos (p n))
-            ∙ sym (*ℤ-+ℤ (pos 4) (sum n (λ k. pos (p k))) (pos (p n))),
+            ∙ rw (r .1, c .1) (sym (*ℤ-+ℤ (pos 4) (sum n (λ k. pos (p k))) (pos (p n)))),
       )
     where
       step : (s f x m c : ℤ) → s +ℤ f *ℤ x +ℤ (m +ℤ c *ℤ x) ≡ s +ℤ m +ℤ (f +ℤ c) *ℤ x
