@@ -3,7 +3,7 @@ use borrow.Rule.Slice.PartMut.{putMid}
 use mathlib.Core.Path.{_≡_, refl, ap, _∙_}
 use mathlib.Core.List.{List, [], _∷_, _++_, append-nil}
 use Prim.Native.Nat.{ℕ, suc, _+_, _-_, _*_, _≤_, _<_}
-use native.Mathlib.Nat.{add-zero}
+use native.Mathlib.Nat.{add-zero, add-sub-cancel-left}
 use native.Mathlib.Numerals.{add-one}
 use native.Mathlib.Omega.{arith}
 use lib.ListN.{length, getD, take, length-append}
@@ -38,13 +38,12 @@ module _ (c : List ℕ) (b : ℕ) where
         → Items ns (k + 1) l₀ (putMid (reportLineBytes * k) (reportLineBytes * k + reportLineBytes - reportLineBytes * k) l ys)
     unfolding itemsFrom printRows
     next-item {ys} h lt e =
-        let m : reportLineBytes * k + reportLineBytes - reportLineBytes * k ≡ reportLineBytes = omega arith in
         let a : reportLineBytes * (k + 1) ≡ reportLineBytes * k + reportLineBytes = omega arith in
         let t : length (take k ns) ≡ k = length-take-le k ns (omega arith) in
         let i : 1 + k ≡ k + 1 = omega arith in
         let p : printRows (itemsFrom 1 c b (take (k + 1) ns)) ≡ printRows (itemsFrom 1 c b (take k ns)) ++ ys =
         rw (add-one k, take-suc ns k 0 lt, items-append 1 (take k ns) (getD ns k 0 ∷ []), rows-append, t, i) (rw (e, append-nil)) in
-        rw (m, a, p) (part W reportLineBytes ys (omega arith) (ap length e ∙ length-line _ _ _ _ h))
+        rw (add-sub-cancel-left (reportLineBytes * k) reportLineBytes, a, p) (part W reportLineBytes ys (omega arith) (ap length e ∙ length-line _ _ _ _ h))
 
     pub all-items : length ns ≤ k → l ≡ printRows (itemsFrom 1 c b ns)
     all-items h = all-written W (omega arith) ∙ rw (take-all k ns h)

@@ -3,6 +3,7 @@ use borrow.Rule.Slice.PartMut.{putMid}
 use mathlib.Core.Path.{_≡_, refl, sym, ap, _∙_}
 use mathlib.Core.List.{List, [], _∷_, _++_}
 use Prim.Native.Nat.{ℕ, _+_, _-_, _*_, _≤_}
+use native.Mathlib.Nat.{add-sub-cancel-left}
 use native.Mathlib.Numerals.{add-one}
 use native.Mathlib.Omega.{arith}
 use lib.ListN.{length, getD, take, drop, length-append, length-drop}
@@ -43,8 +44,7 @@ module _ (t : List ℕ) (i : ℕ) (within : rowNumbers * i + rowNumbers ≤ leng
 
   pub stretch-long : (l : List ℕ) → blockBytes * i + blockBytes ≤ length l → length (stretch l i) ≡ reportLineBytes * length (rowFigures t i)
   stretch-long l h =
-      let m : blockBytes * i + blockBytes - blockBytes * i ≡ blockBytes = omega arith in
-      rw (m, row-figures-long) (length-take-le blockBytes (drop (blockBytes * i) l) (rw length-drop (omega arith)))
+      rw (add-sub-cancel-left (blockBytes * i) blockBytes, row-figures-long) (length-take-le blockBytes (drop (blockBytes * i) l) (rw length-drop (omega arith)))
 
   module _ (l₀ l : List ℕ) (W : Rows t i l₀ l) where
     -- one row more, put back as the code lends its stretch
@@ -52,12 +52,11 @@ module _ (t : List ℕ) (i : ℕ) (within : rowNumbers * i + rowNumbers ≤ leng
         → Rows t (i + 1) l₀ (putMid (blockBytes * i) (blockBytes * i + blockBytes - blockBytes * i) l ys)
     unfolding tableRows
     next-row {ys} h e =
-        let m : blockBytes * i + blockBytes - blockBytes * i ≡ blockBytes = omega arith in
         let a : blockBytes * (i + 1) ≡ blockBytes * i + blockBytes = omega arith in
         let f : rowNumbers * i + rowNumbers - (rowNumbers * i + 1) ≡ blockFigures = omega arith in
         let n : length ys ≡ blockBytes = ap length e ∙ items-long BLK _ refl 1 (rowFigures t i) ∙ rw row-figures-long in
         let p : printRows (tableRows t (i + 1)) ≡ printRows (tableRows t i) ++ ys = rw (add-one i, rows-append, e, f) in
-        rw (m, a, p) (part W blockBytes ys (omega (arith, W .long)) n)
+        rw (add-sub-cancel-left (blockBytes * i) blockBytes, a, p) (part W blockBytes ys (omega (arith, W .long)) n)
 
 pub all-rows : (t l₀ l : List ℕ) (i n : ℕ) → Rows t i l₀ l → i ≡ n → l ≡ printRows (tableRows t n) ++ drop (reportLineBytes * (blockFigures * n)) l₀
 all-rows t l₀ l i n W e =
@@ -79,8 +78,7 @@ module _ (t : List ℕ) (n sum ro buffer : ℕ) (l₀ l : List ℕ) (long : leng
   unfolding reportBytes
   closed {ys} f =
       let a : blockBytes * n ≡ reportLineBytes * (blockFigures * n) = omega arith in
-      let m : reportLineBytes * (blockFigures * n) + reportLineBytes * totals - reportLineBytes * (blockFigures * n) ≡ reportLineBytes * totals = omega arith in
       let z : reportLineBytes * (blockFigures * n) + reportLineBytes * totals ≡ reportLength n = omega arith in
       let y : length ys ≡ reportLineBytes * totals = ap length f ∙ items-long TOT 0 refl 1 (sum ∷ ro ∷ buffer ∷ []) in
       let w = part written (reportLineBytes * totals) ys (omega arith) y in
-      rw (a, m) (w .text ∙ rw (z, f, rows-append))
+      rw (a, add-sub-cancel-left (reportLineBytes * (blockFigures * n)) (reportLineBytes * totals)) (w .text ∙ rw (z, f, rows-append))
