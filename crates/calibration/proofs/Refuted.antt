@@ -16,7 +16,7 @@ use Rattle.search.proofs.LeastOf.{LeastOf, least-of}
 use Rattle.refusal.specs.Outcome.{Outcome}
 use Rattle.refusal.specs.Outcome.Outcome.{accepted}
 use Rattle.guideline.specs.Sizes.{risks, territoryNumbers, tenThousandths}
-use Rattle.guideline.specs.Operational.{volumeFactors, total, volume, generalRequirement}
+use Rattle.guideline.specs.Operational.{total, volume}
 use Rattle.operational.specs.Call.{operationalCall}
 use Rattle.calibration.specs.Points.{nothing}
 use Rattle.calibration.specs.Miscalibrations.{MeetsBlock, PcInOneRisk, pcInRisk}
@@ -39,12 +39,12 @@ module _ (most : ℕ → ℕ) where
 
   -- three cents that count for 3 or less make RO of three classes 2 or more
   rounded-low : most 3 ≤ 3 → 1 < wholeCents most threeClasses nothing
-  unfolding overTenThousand total volume volumeFactors generalRequirement
+  unfolding overTenThousand total volume
   rounded-low h = omega (arith, ceiling threeClasses (omega arith) .reaches)
 
   -- and counting for 4 or more, RO of one class 1 or less
   rounded-high : 4 ≤ most 3 → wholeCents most oneClass nothing ≤ 1
-  unfolding overTenThousand total volume volumeFactors generalRequirement
+  unfolding overTenThousand total volume
   rounded-high h = ceiling oneClass (omega arith) .first 1 (omega arith)
 
 module _ (call : List ℕ → List ℕ → Outcome) (meets : MeetsOperational call) where

@@ -29,10 +29,10 @@ charged-all l = refl
 -- one pair more
 pub charged-more : (l : List ℕ) (k : ℕ) → charged l (k + 1) ≡ charged l k + factorOf k * (5 * current l k + (5 * current l k - 6 * prior l k))
 unfolding charged total
-charged-more l k = rw (add-one, charged, total) (omega arith)
+charged-more l k = rw (add-one k, charged, total) (omega arith)
 
 pub factor-most : (k : ℕ) → factorOf k ≤ largestFactor
-unfolding values volumeFactors
+unfolding values
 factor-most k =
     leb-true _ _ (values-same (λ j. leb (getD volumeFactors j 0) largestFactor) (λ j. true) volumeClasses refl (k % volumeClasses) (omega arith))
 
@@ -51,7 +51,7 @@ total-rises f k (suc m) = rw add-suc (omega (arith, total-rises f k m))
 
 -- a territory's factors come to 1,000
 factors-sum : total factorOf volumePairs ≡ 1000 * territories
-unfolding total volumeFactors
+unfolding total
 factors-sum = refl
 
 -- what volume and growth of all pairs can come to
@@ -70,7 +70,7 @@ pub record NumeratorFits (l g : List ℕ) : Type 0 where
   pub sum-fits : operationalNumerator l g ≤ mostCharged + 5 * (1275 * limit)
 
 pub numerator-fits : (l g : List ℕ) → OperationalAmounts l g → NumeratorFits l g
-unfolding operationalNumerator generalRequirement
+unfolding operationalNumerator
 numerator-fits l g a =
     let h : length l / 2 ≤ volumePairs = omega (arith, a .short) in
     let b = charged-fits l (a .volumes) (length l / 2) h in

@@ -13,7 +13,7 @@ use Rattle.guideline.specs.Sizes.{volumeClasses, volumeNumbers, tenThous
 -- 'Eight volume classes .. with factors in ten-thousandths' (8.2.1). Direct premiums: individual life, group life, other, annuities
 -- excepted; reinsurance accepted; segregated funds with guarantees; annuities in payment; universal life accounts; other accounts
 -- and accumulating annuities
-unfoldable pub volumeFactors : List ℕ
+abbrev pub volumeFactors : List ℕ
 volumeFactors = 250 ∷ 250 ∷ 250 ∷ 175 ∷ 40 ∷ 15 ∷ 10 ∷ 10 ∷ []
 
 -- the largest of them
@@ -47,7 +47,7 @@ unfoldable pub growth : List ℕ → ℕ
 growth l = total (λ k. factorOf k * (5 * current l k - 6 * prior l k)) (length l / 2)
 
 -- 'General: 575 × gross components + 450 × the segregated fund guarantee requirement + 250 × ceded premiums' (8.2.3), over 10,000
-unfoldable pub generalRequirement : List ℕ → ℕ
+abbrev pub generalRequirement : List ℕ → ℕ
 generalRequirement g = 575 * getD g 0 0 + 450 * getD g 1 0 + 250 * getD g 2 0
 
 -- what growth is over: fifths of a ten-thousandth

@@ -60,11 +60,7 @@ module _ (c : List ℕ) (b i : ℕ) where
             if-false _ (if-true _ h ∙ if-ne _ e) ∙ items-found h (suc j) ns z (omega arith) (omega arith) ∙ rw d
       ]
 
--- a block's lines are passed where the totals or another block is looked for
-totals-pass : (b i : ℕ) (f : List ℕ) (z : Field) → numberAmong (blockRows b f) TOT 0 i z ≡ z
-unfolding rowIs equalBytes pick
-totals-pass b i f z = items-passed TOT 0 i BLK b (λ j n. refl) 1 f z
-
+-- a block's lines are passed where another block is looked for
 others-pass : (b′ b : ℕ) → (b′ ≡ b → ⊥) → (i : ℕ) (f : List ℕ) (z : Field) → numberAmong (blockRows b′ f) BLK b i z ≡ z
 unfolding rowIs
 others-pass b′ b ne i f z =
@@ -118,9 +114,9 @@ module _ (exists : ℕ → Bool) (f : ℕ → List ℕ) (sum ro buffer : ℕ) (r
       ∙ number-append c b i (linesTo exists f blocks) _ _
 
   pub buffer-read : numberAt (printRows rows ++ rest) TOT 0 3 ≡ Value buffer
-  unfolding equalBytes pick
+  unfolding equalBytes pick rowIs
   buffer-read =
-      reads TOT 0 3 refl (omega arith) (omega arith) ∙ passed exists f TOT 0 3 blocks (λ b p. totals-pass b 3 (f b)) _
+      reads TOT 0 3 refl (omega arith) (omega arith) ∙ passed exists f TOT 0 3 blocks (λ b p. items-passed TOT 0 3 BLK b (λ j n. refl) 1 (f b)) _
       ∙ items-found TOT 0 3 refl 1 (sum ∷ ro ∷ buffer ∷ []) _ (omega arith) (omega arith)
 
   pub figure-read : (b i : ℕ) → exists b ≡ true → 1 ≤ b → b ≤ blocks → 1 ≤ i → i ≤ blockFigures → numberAt (printRows rows ++ rest) BLK b i ≡ Value (getD (f b) (i - 1) 0)
