@@ -1,3 +1,4 @@
+-- Laws of the sheet call: its answers, the report's lines and length, its refusals' numbers, what is printed, demand 3.
 pub mod Rows
 pub mod Rules
 pub mod Accuracy

@@ -16,23 +16,23 @@ use Rattle.aggregate.proofs.Rules.{by-answer}
 
 module _ (s r : List ℕ) where
   -- a refusal has a number, and it is 14 only where the room is short
-  unfoldable Numbered : Outcome → Type 0
-  Numbered (accepted vs) = Unit {0}
-  Numbered (refused n p) = (n ≡ 0 → ⊥) × (longestReport ≤ length r → n ≡ 14 → ⊥)
+  unfoldable RightNumber : Outcome → Type 0
+  RightNumber (accepted vs) = Unit {0}
+  RightNumber (refused n p) = (n ≡ 0 → ⊥) × (longestReport ≤ length r → n ≡ 14 → ⊥)
 
-  call-numbered : Numbered (sheetCall s r .outcome)
-  unfolding Numbered sheetOf
+  call-numbered : RightNumber (sheetCall s r .outcome)
+  unfolding RightNumber sheetOf
   call-numbered =
-      by-answer s r (λ d. Numbered (d .outcome))
+      by-answer s r (λ d. RightNumber (d .outcome))
       (λ n p e. let h = numbered s n p e in (h .0 .not-0, λ room. h .0 .not-14))
       (λ es e h. (λ q. omega arith, λ room q. omega (arith, h, few-blocks es blocks)))
       (λ es e. tt)
 
   -- 'lends room for the longest report, so that it never answers 14'
   pub never-14 : longestReport ≤ length r → (p : Place) → sheetCall s r .outcome ≡ refused 14 p → ⊥
-  unfolding Numbered
-  never-14 room p e = subst Numbered e call-numbered .1 room refl
+  unfolding RightNumber
+  never-14 room p e = subst RightNumber e call-numbered .1 room refl
 
   pub never-0 : (p : Place) → sheetCall s r .outcome ≡ refused 0 p → ⊥
-  unfolding Numbered
-  never-0 p e = subst Numbered e call-numbered .0 refl
+  unfolding RightNumber
+  never-0 p e = subst RightNumber e call-numbered .0 refl

@@ -1,1 +1,2 @@
+-- The limit of an amount, and the first that passes it.
 pub mod Amount

@@ -78,16 +78,16 @@ k-among k b x (r ∷ rs) p e =
 -- ---- what is read of its report
 
 -- both K that can be read are equal
-unfoldable pub Same : Done → Type 0
-Same d = (k₁ k₂ : ℕ) → numberAt (claimedReport d) BLK 1 5 ≡ Value k₁ → numberAt (claimedReport d) BLK 2 5 ≡ Value k₂ → k₁ ≡ k₂
+unfoldable pub SameK : Done → Type 0
+SameK d = (k₁ k₂ : ℕ) → numberAt (claimedReport d) BLK 1 5 ≡ Value k₁ → numberAt (claimedReport d) BLK 2 5 ≡ Value k₂ → k₁ ≡ k₂
 
 -- the buffer that is read where it accepts is x
 unfoldable pub Reads : ℕ → Done → Type 0
 Reads x d = (vs : List ℕ) → d .outcome ≡ accepted vs → numberAt (d .report) TOT 0 3 ≡ Value x
 
 -- of a refusal nothing is read
-pub none-read : (n : ℕ) (p : Place) (r : List ℕ) → Same (untouched n p r)
-unfolding Same numberAt numberIn
+pub none-read : (n : ℕ) (p : Place) (r : List ℕ) → SameK (untouched n p r)
+unfolding SameK numberAt numberIn
 none-read n p r k₁ k₂ e f = never (cc)
 
 pub none-accepted : (x n : ℕ) (p : Place) (r : List ℕ) → Reads x (untouched n p r)
@@ -126,8 +126,8 @@ module _ (es : List Entry) (v : AcceptedSheet (sheetOf es)) (h : sheetOf es .cre
       let c = rows-read (filledRows es) (row BLK b 5 0) [] p (record { code = refl; block = l; item = omega arith; number = omega arith }) in
       k-among _ b k (filledRows es) (ks b) (sym c ∙ rw append-nil e)
 
-  pub k-same : (r : List ℕ) → Same (filledReport es r)
-  unfolding Same
+  pub k-same : (r : List ℕ) → SameK (filledReport es r)
+  unfolding SameK
   k-same r k₁ k₂ e f =
       let n = reportLength (count (sheetOf es)) in
       let bytes = printRows (filledRows es) in

@@ -19,7 +19,7 @@ use Rattle.aggregate.specs.Call.{Done, rule14, afterJudgement, sheetCall}
 use Rattle.dummies.specs.Dummies.{TurnsAllAway, ConstantReport, WritesNothing, TooShortAtOnce, FirstFilledIn, filledIn, BufferOfFirst}
 use Rattle.dummies.specs.Programs.{turnsAway, writesConstant, claimsSuccess, saysTooShort}
 use Rattle.dummies.specs.Programs.{filled14, filled13, afterFilling, fillsIn}
-use Rattle.dummies.proofs.FilledIn.{Same, Reads, none-read, none-accepted, k-same, reads-filled}
+use Rattle.dummies.proofs.FilledIn.{SameK, Reads, none-read, none-accepted, k-same, reads-filled}
 
 pub turns-away-met : TurnsAllAway turnsAway
 turns-away-met s r l = (12, Nowhere, refl)
@@ -41,11 +41,11 @@ picked-outcome true a b c e = refl
 picked-outcome false a b c e = e
 
 module _ (s r : List ℕ) where
-  same : (j : Judgement) → judgement s ≡ j → Same (afterFilling j r)
+  same : (j : Judgement) → judgement s ≡ j → SameK (afterFilling j r)
   unfolding afterFilling filled13 filled14
   same (turnedAway n p) e = none-read n p r
   same (sound es) e =
-      by-test Same _ _ _ (λ t. none-read _ _ r) (λ t. by-test Same _ _ _ (λ u. none-read _ _ r) (λ u. k-same es (sound-accepted s es e) (ltb-false _ _ t) r))
+      by-test SameK _ _ _ (λ t. none-read _ _ r) (λ t. by-test SameK _ _ _ (λ u. none-read _ _ r) (λ u. k-same es (sound-accepted s es e) (ltb-false _ _ t) r))
 
   reads : (es : List Entry) → judgement s ≡ sound es → Reads (buffer (filledIn (sheetOf es))) (fillsIn s r)
   unfolding fillsIn afterFilling filled13 filled14
@@ -61,7 +61,7 @@ module _ (s r : List ℕ) where
   outcome-same es e h = rw (e, if-ge _ h) (picked-outcome _ _ _ _ refl)
 
 pub first-filled-in-met : FirstFilledIn fillsIn
-unfolding Same fillsIn
+unfolding SameK fillsIn
 first-filled-in-met s r k₁ k₂ l e f = same s r (judgement s) refl k₁ k₂ e f
 
 pub buffer-of-first-met : BufferOfFirst fillsIn

@@ -1,15 +1,10 @@
 -- What an export leaves in an arm of its call's answer is what the call's outcome leaves. Assumes nothing.
 use mathlib.Core.Path.{_≡_, refl, sym, ap, subst, _∙_}
-use mathlib.Core.List.{List, [], _∷_}
+use mathlib.Core.List.{List}
 use Prim.Native.Nat.{ℕ}
 use Rattle.refusal.specs.Outcome.{Outcome}
 use Rattle.refusal.specs.Outcome.Outcome.{accepted, refused}
 use Rattle.refusal.specs.declared.Place.{Place}
-use Rattle.aggregate.specs.Call.{stated, sheetCall}
-use Rattle.aggregate.specs.Demand.{Demand3}
-use Rattle.aggregate.specs.declared.SheetAnswer.{SheetAnswer}
-use Rattle.aggregate.specs.declared.SheetAnswer.the-variants.{Accepted, Refused}
-use Rattle.aggregate.proofs.Numbered.{never-0}
 use Rattle.exports.specs.Left.{numberOf, placeAfter, valuesAfter, Leaves}
 
 -- an outcome whose number is 0 is accepted, where no refusal has that number
@@ -32,10 +27,12 @@ answered told {o = o} {values₀ = v₀} {place₀ = p₀} e q never n v p =
       place-is = p ∙ ap (λ (x : Outcome). placeAfter x p₀) s;
     }
 
--- demand 3 of the answer is that of the length that the answer holds
-pub demanded : (s report : List ℕ) {answer : SheetAnswer} {n : ℕ} → answer ≡ Accepted n → Demand3 s (stated answer) report → Demand3 s (accepted (n ∷ [])) report
-demanded s report e d = subst (λ (a : SheetAnswer). Demand3 s (stated a) report) e d
-
--- a refusal of the sheet call has a number
-pub not-0 : (s r : List ℕ) {answer : SheetAnswer} {n : ℕ} {p : Place} → answer ≡ Refused n p → stated answer ≡ sheetCall s r .outcome → n ≡ 0 → ⊥
-not-0 s r {p = p} e q z = never-0 s r p (sym q ∙ ap stated e ∙ ap (λ (m : ℕ). refused m p) z)
+-- and what the call promises of its outcome holds, where 0 is given, of the values afterwards
+pub with-promise : (P : Outcome → Type 0) {o o′ : Outcome} {given : ℕ} {values₀ place₀ values place : List ℕ}
+    → o′ ≡ o → P o′ → Leaves o given values₀ place₀ values place → Leaves o given values₀ place₀ values place × (given ≡ 0 → P (accepted values))
+with-promise P {values₀ = v₀} q h l = (
+  l,
+  λ z.
+      let a = l .accepted-at-0 z in
+      subst P (q ∙ a .1 ∙ sym (ap accepted (l .values-are ∙ ap (λ (x : Outcome). valuesAfter x v₀) (a .1)))) h,
+)

@@ -1,1 +1,2 @@
+-- What an exported call leaves with its caller.
 pub mod Left

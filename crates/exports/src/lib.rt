@@ -3,6 +3,7 @@
 ghost use mathlib.Core.Path.{_≡_};
 ghost use Rattle.refusal.specs.Outcome.Outcome.{accepted};
 ghost use Rattle.block.specs.Call.{blockCall};
+ghost use Rattle.block.specs.Accepted.{BlockDemand3};
 ghost use Rattle.operational.specs.Call.{operationalCall};
 ghost use Rattle.aggregate.specs.Call.{sheetCall};
 ghost use Rattle.aggregate.specs.Demand.{Demand3};
@@ -27,7 +28,7 @@ const LINE: u64 = 1;
 // A position in the call's numbers.
 const POSITION: u64 = 2;
 
-// The figures are I and D in half cents, then U, LT and K in cents.
+// The figures are I and D in half cents, then U, LT and K in cents. Where 0 is given, they meet demand 3 for one block.
 #[no_mangle]
 pub extern "C" fn tsav_block(
     numbers: &[u64; BLOCK_NUMBERS],
@@ -35,6 +36,7 @@ pub extern "C" fn tsav_block(
     place: &mut [u64; 2],
 ) -> u64
     ensures { λ r. ⌜ Leaves (blockCall (now (numbers .entry))) r (now (figures .entry)) (now (place .entry)) (now (figures .exit)) (now (place .exit)) ⌝ }
+    ensures { λ r. ⌜ (r ≡ 0 → BlockDemand3 (now (numbers .entry)) (accepted (now (figures .exit)))) ⌝ }
 {
     let answer = block::block_call(numbers);
     match answer {
@@ -74,8 +76,8 @@ pub extern "C" fn tsav_sheet(
     written: &mut [u64; 1],
     place: &mut [u64; 2],
 ) -> u64
-    ensures { λ r. ⌜ Leaves (sheetCall (now (sheet .entry)) (now (report .entry)) .outcome) r (now (written .entry)) (now (place .entry)) (now (written .exit)) (now (place .exit)) ⌝ }
     ensures { λ r. ⌜ now (report .exit) ≡ sheetCall (now (sheet .entry)) (now (report .entry)) .report ⌝ }
+    ensures { λ r. ⌜ Leaves (sheetCall (now (sheet .entry)) (now (report .entry)) .outcome) r (now (written .entry)) (now (place .entry)) (now (written .exit)) (now (place .exit)) ⌝ }
     ensures { λ r. ⌜ (r ≡ 0 → Demand3 (now (sheet .entry)) (accepted (now (written .exit))) (now (report .exit))) ⌝ }
 {
     let answer = aggregate::sheet_call(sheet, report);

@@ -1,3 +1,4 @@
+-- Chapters 8 and 11 in document 01's letters: sizes, figures, exact values, and demand 3.
 pub mod Sizes
 pub mod Factors
 pub mod Block

@@ -1,2 +1,3 @@
+-- Laws of the integers that the library leaves out.
 pub mod Integer
 pub mod Size

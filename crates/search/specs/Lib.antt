@@ -1,3 +1,4 @@
+-- The definitions that the other crates' definitions are made of: choices, searches and properties of lists.
 pub mod Pick
 pub mod Least
 pub mod First

@@ -1,21 +1,25 @@
--- Each arm of the answer leaves what the outcome that it states does; no refusal is 0. Assumes nothing.
+-- Each arm of the answer leaves what the outcome that it states does; no refusal is 0, and demand 3 is the call's promise. Assumes nothing.
 use mathlib.Core.Path.{refl}
 use borrow.Author.Needs.{needs}
 use Rattle.block.specs.Call.{stated}
 use Rattle.block.proofs.Accepted.{accepts-block}
-use Rattle.exports.proofs.Answered.{answered}
+use Rattle.block.specs.Accepted.{BlockDemand3}
+use Rattle.exports.proofs.Answered.{answered, with-promise}
 use Rattle.exports.proofs.tsav_block.Statement.{statement}
 use Rattle.exports.proofs.tsav_block.Tie as tie
 
 returns : tie.Need-returns
 returns c =
     let a = c .before .before in
-    answered stated (a .answer .given .1) (a .before .before .block-call .ensures .0) (accepts-block _ .never-0) refl refl refl
+    let e = a .before .before .block-call .ensures in
+    with-promise (BlockDemand3 _) (e .0) (e .1) (answered stated (a .answer .given .1) (e .0) (accepts-block _ .never-0) refl refl refl)
 
 returns-2 : tie.Need-returns-2
 returns-2 c =
     let a = c .before .before .before in
-    answered stated (a .answer2 .given .1) (a .before .before .block-call .ensures .0) (accepts-block _ .never-0) (c .refuse .ensures .0) refl (c .refuse .ensures .1)
+    let e = a .before .before .block-call .ensures in
+    with-promise (BlockDemand3 _) (e .0) (e .1)
+    (answered stated (a .answer2 .given .1) (e .0) (accepts-block _ .never-0) (c .refuse .ensures .0) refl (c .refuse .ensures .1))
 
 pub tsav-block-spec : {M : Type 1} → statement M
 tsav-block-spec = tie.close (tie.spec (λ c κs. search needs) (λ c. search needs) (λ c. search needs) (λ c κs. search needs) returns returns-2)
