@@ -12,11 +12,11 @@ use borrow.Author.Tests.{leb-true}
 use Rattle.search.proofs.Values.{values, values-same}
 use Rattle.amount.specs.Amount.{limit}
 use Rattle.guideline.specs.Sizes.{territories, volumeClasses, volumePairs}
-use Rattle.guideline.specs.Operational.{OperationalAmounts, volumeFactors, largestFactor, factorOf, current, prior, total, volume, growth, generalRequirement, operationalNumerator}
+use Rattle.guideline.specs.Operational.{OperationalAmounts, volumeFactors, largestFactor, factorOf, current, excess, total, volume, growth, generalRequirement, operationalNumerator}
 
 -- five volumes and the growth of the first k pairs: their part of the numerator of RO
 unfoldable pub charged : List ℕ → ℕ → ℕ
-charged l k = 5 * total (λ j. factorOf j * current l j) k + total (λ j. factorOf j * (5 * current l j - 6 * prior l j)) k
+charged l k = 5 * total (λ j. factorOf j * current l j) k + total (λ j. factorOf j * excess l j) k
 
 pub charged-none : (l : List ℕ) → charged l 0 ≡ 0
 unfolding charged total
@@ -27,7 +27,7 @@ unfolding charged volume growth
 charged-all l = refl
 
 -- one pair more
-pub charged-more : (l : List ℕ) (k : ℕ) → charged l (k + 1) ≡ charged l k + factorOf k * (5 * current l k + (5 * current l k - 6 * prior l k))
+pub charged-more : (l : List ℕ) (k : ℕ) → charged l (k + 1) ≡ charged l k + factorOf k * (5 * current l k + excess l k)
 unfolding charged total
 charged-more l k = rw (add-one k, charged, total) (omega arith)
 
@@ -41,7 +41,7 @@ charged-most : (l : List ℕ) → ((j : ℕ) → getD l j 0 ≤ limit) → (k : 
 unfolding total
 charged-most l u zero = omega (arith, charged-none l)
 charged-most l u (suc k) =
-    let b : 5 * current l k + (5 * current l k - 6 * prior l k) ≤ 10 * limit = omega (arith, u (2 * k)) in
+    let b : 5 * current l k + excess l k ≤ 10 * limit = omega (arith, u (2 * k)) in
     rw (← add-one k, charged-more) (omega (arith, charged-most l u k, mul-le-mul-left (factorOf k) b))
 
 total-rises : (f : ℕ → ℕ) (k m : ℕ) → total f k ≤ total f (k + m)

@@ -2,8 +2,12 @@
 -- eight pairs, the current and the prior volume of classes 1 to 8, one territory after the other. So the pair k, counted from 0 through
 -- the whole list, is of class k mod 8 + 1. The general figures are gross components, guarantee requirement and ceded premiums.
 -- Assumes nothing.
+use mathlib.Core.Path.{_≡_, refl}
 use mathlib.Core.List.{List, [], _∷_}
-use Prim.Native.Nat.{ℕ, zero, suc, _+_, _-_, _*_, _/_, _%_, _≤_}
+use Prim.Native.Nat.{ℕ, zero, suc, _+_, _-_, _*_, _/_, _%_, _≤_, _<_}
+use native.Mathlib.Nat.{mul-sub, mul-le-mul-left}
+use native.Mathlib.Decide.{ℕ-discrete}
+use native.Mathlib.Omega.{arith}
 use lib.Dec.{leb}
 use lib.ListN.{length, getD}
 use Rattle.amount.specs.Amount.{limit}
@@ -41,10 +45,33 @@ total f (suc n) = total f n + f n
 unfoldable pub volume : List ℕ → ℕ
 volume l = total (λ k. factorOf k * current l k) (length l / 2)
 
--- 'Growth: factor × the excess of current over 120 % of prior, nothing if there is none; each class in each territory alone' (8.2.2),
--- over 50,000: five times the excess is 5 × current − 6 × prior, cut at 0
+-- five times the excess of current over 120 % of prior, 'nothing if there is none'
+abbrev pub excess : List ℕ → ℕ → ℕ
+excess l k = 5 * current l k - 6 * prior l k
+
+-- 'Growth: factor × the excess of current over 120 % of prior ..; each class in each territory alone' (8.2.2), over 50,000
 unfoldable pub growth : List ℕ → ℕ
-growth l = total (λ k. factorOf k * (5 * current l k - 6 * prior l k)) (length l / 2)
+growth l = total (λ k. factorOf k * excess l k) (length l / 2)
+
+-- 'each class in each territory alone': what a class grows by is in it in full, whatever the others do
+pub growth-alone : (l : List ℕ) (k : ℕ) → k < length l / 2 → factorOf k * (5 * current l k) ≤ growth l + factorOf k * (6 * prior l k)
+unfolding growth total
+growth-alone l k h = omega (arith, part (length l / 2) h, mul-sub (factorOf k) (5 * current l k) (6 * prior l k))
+  where
+    part : (n : ℕ) → k < n → factorOf k * excess l k ≤ total (λ j. factorOf j * excess l j) n
+    part zero h = omega arith
+    part (suc n) h = elim (ℕ-discrete k n) [ yes e ↦ rw e (omega arith) | no e ↦ omega (arith, part n (omega arith)) ]
+
+-- no part of it is rounded: where every class grows, growth and 120 % of the prior volumes make up the volume
+pub growth-exact :
+    (l : List ℕ) → ((k : ℕ) → 6 * prior l k ≤ 5 * current l k) →
+    growth l + 6 * total (λ k. factorOf k * prior l k) (length l / 2) ≡ 5 * volume l
+unfolding growth volume total
+growth-exact l h = to (length l / 2)
+  where
+    to : (n : ℕ) → total (λ k. factorOf k * excess l k) n + 6 * total (λ k. factorOf k * prior l k) n ≡ 5 * total (λ k. factorOf k * current l k) n
+    to zero = refl
+    to (suc n) = omega (arith, to n, mul-sub (factorOf n) (5 * current l n) (6 * prior l n), mul-le-mul-left (factorOf n) (h n))
 
 -- 'General: 575 × gross components + 450 × the segregated fund guarantee requirement + 250 × ceded premiums' (8.2.3), over 10,000
 abbrev pub generalRequirement : List ℕ → ℕ
