@@ -50,20 +50,21 @@ module _ (s r : List ℕ) where
     unfolding sheetOf
     few = let f = findings-figures (judgement s) e in omega (arith, f .2 .count-is, few-blocks (f .0) blocks)
 
-    pub too-short : length r < reportLength n → untouched 14 Nowhere r ≡ sheetCall s r
+    pub too-short : {m : ℕ} → m ≡ reportLength n → length r < m → untouched 14 Nowhere r ≡ sheetCall s r
     unfolding sheetCall afterJudgement rule14
-    too-short h =
+    too-short l h =
         let f = findings-figures (judgement s) e in
         let k : length r < reportLength (count (sheetOf (f .0))) = omega (arith, h, f .2 .count-is) in
         rw (f .1) (sym (if-lt _ k))
 
-    pub reported : {r′ : List ℕ} → reportLength n ≤ length r → r′ ≡ reportBytes rows n sum ro x ++ drop (reportLength n) r
-        → _≡_ {A = Done} (record { outcome = accepted (reportLength n ∷ []); report = r′ }) (sheetCall s r)
+    pub reported : {m : ℕ} {r′ : List ℕ} → m ≡ reportLength n → m ≤ length r → r′ ≡ reportBytes rows n sum ro x ++ drop (reportLength n) r
+        → _≡_ {A = Done} (record { outcome = accepted (m ∷ []); report = r′ }) (sheetCall s r)
     unfolding sheetCall afterJudgement rule14 reportBytes
-    reported h q =
+    reported l h q =
         let f = findings-figures (judgement s) e in
         let F = f .2 in
         let k : reportLength (count (sheetOf (f .0))) ≤ length r = omega (arith, h, F .count-is) in
         let t = table-lines (f .0) rows n (F .count-is) (F .rows-are) in
         let w = q ∙ (λ i. printRows (t i ++ totalRows (F .sum-is i) (F .ro-is i) (F .buffer-is i)) ++ drop (reportLength (F .count-is i)) r) in
-        rw (f .1) ((λ i. record { outcome = accepted (reportLength (F .count-is i) ∷ []); report = w i }) ∙ sym (if-ge _ k))
+        let c = l ∙ (λ i. reportLength (F .count-is i)) in
+        rw (f .1) ((λ i. record { outcome = accepted (c i ∷ []); report = w i }) ∙ sym (if-ge _ k))

@@ -34,7 +34,7 @@ returns c =
     let m = n .before .before in
     let j = m .before .before in
     let e = tells j _ (m .verdict2 .given .1) in
-    promised _ _ _ (too-short _ _ _ (rows j) _ _ _ e (rw (n .length-for .ensures) at (c .if1 .taken)))
+    promised _ _ _ (too-short _ _ _ (rows j) _ _ _ e (n .length-for .ensures) (c .if1 .taken))
 
 write-report-requires : tie.Need-write-report-requires
 write-report-requires c κs =
@@ -52,7 +52,7 @@ returns-3 c =
     let m = n .before .before in
     let j = m .before .before in
     let e = tells j _ (m .verdict2 .given .1) in
-    promised _ _ _ (rw (n .length-for .ensures) (reported _ _ _ (rows j) _ _ _ e (rw (n .length-for .ensures) at (i .if1 .left)) (w .write-report .ensures)))
+    promised _ _ _ (reported _ _ _ (rows j) _ _ _ e (n .length-for .ensures) (i .if1 .left) (w .write-report .ensures))
 
 pub sheet-call-spec : {M : Type 1} → statement M
 sheet-call-spec =
