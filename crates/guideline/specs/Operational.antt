@@ -56,7 +56,9 @@ growth l = total (λ k. factorOf k * excess l k) (length l / 2)
 -- 'each class in each territory alone': what a class grows by is in it in full, whatever the others do
 pub growth-alone : (l : List ℕ) (k : ℕ) → k < length l / 2 → factorOf k * (5 * current l k) ≤ growth l + factorOf k * (6 * prior l k)
 unfolding growth total
-growth-alone l k h = omega (arith, part (length l / 2) h, mul-sub (factorOf k) (5 * current l k) (6 * prior l k))
+growth-alone l k h =
+    let b : 5 * current l k ≤ excess l k + 6 * prior l k = omega arith in
+    omega (arith, part (length l / 2) h, mul-le-mul-left (factorOf k) b)
   where
     part : (n : ℕ) → k < n → factorOf k * excess l k ≤ total (λ j. factorOf j * excess l j) n
     part zero h = omega arith

@@ -3,7 +3,8 @@
 -- Assumes nothing.
 use mathlib.Core.Path.{_≡_}
 use mathlib.Core.List.{List}
-use Prim.Native.Nat.{ℕ, _<_}
+use Prim.Native.Nat.{ℕ, _≤_, _<_}
+use native.Mathlib.Omega.{arith}
 use Rattle.refusal.specs.declared.Place.{Place}
 use Rattle.refusal.specs.declared.Place.the-variants.{Line, Position, Nowhere}
 
@@ -26,3 +27,7 @@ pub record Judging (n : ℕ) : Type 0 where
   pub not-0 : n ≡ 0 → ⊥
   pub not-14 : n ≡ 14 → ⊥
   pub two-columns : n < 100
+
+-- rows 1 to 13 of the table speak of the sheet
+pub row-judges : (n : ℕ) → 1 ≤ n → n ≤ 13 → Judging n
+row-judges n low high = record { not-0 = λ e. omega arith; not-14 = λ e. omega arith; two-columns = omega arith }

@@ -19,7 +19,7 @@ unfolding firstFrom
 found-from P i zero = record { low = omega arith; high = omega arith; before = λ k l h. absurd (omega arith); passes = λ h. absurd (omega arith) }
 found-from P i (suc n) =
     let f = found-from P (suc i) n in
-    by-test (Found P i (suc n)) (P i) i _ (λ e. record { low = omega arith; high = omega arith; before = λ k l h. absurd (omega arith); passes = λ h. e })
+    by-test (Found P i (suc n)) (P i) _ _ (λ e. record { low = omega arith; high = omega arith; before = λ k l h. absurd (omega arith); passes = λ h. e })
     (λ e.
     record {
       low = omega (arith, f .low);
