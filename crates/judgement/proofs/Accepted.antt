@@ -3,7 +3,7 @@
 use mathlib.Core.Path.{_≡_, refl, sym, _∙_, subst}
 use mathlib.Core.Bool.{Bool, true, false, true≢false}
 use mathlib.Core.List.{List, [], _∷_}
-use Prim.Native.Nat.{ℕ, _^_, _≤_, _<_}
+use Prim.Native.Nat.{ℕ, _≤_}
 use native.Mathlib.Omega.{arith}
 use lib.Dec.{eqb, ltb}
 use lib.ListN.{length}
@@ -26,12 +26,12 @@ use Rattle.sheet_line.specs.declared.Code.{Code}
 use Rattle.sheet_line.specs.declared.Code.the-variants.{Rsk, Oth, Vol, Gen}
 use Rattle.sheet_line.specs.declared.Entry.{Entry}
 use Rattle.sheet_line.specs.Rules.{AcceptedLine}
-use Rattle.ledger.specs.Entries.{ofBlock, exists, hasLine, blockOf}
+use Rattle.ledger.specs.Entries.{ofBlock, exists, hasLine, DistinctKeys, blockOf}
 use Rattle.ledger.specs.Reading.{Reading, reading}
 use Rattle.ledger.specs.Reading.Reading.{complete, stopped}
 use Rattle.ledger.proofs.Bounds.{block-sound, length-volumes, volumes-most, general-most, scalar-within}
 use Rattle.ledger.specs.Tables.{mostLines, longestSheet}
-use Rattle.ledger.proofs.Lines.{all-read, reading-stopped}
+use Rattle.ledger.proofs.Lines.{all-read, reading-distinct, reading-stopped}
 use Rattle.judgement.specs.Sheet.{blocksTo, sheetOf}
 use Rattle.judgement.specs.Judgement.{Judgement, rule13, rule12, ruleLines, rule2, judgement}
 use Rattle.judgement.specs.Judgement.Judgement.{turnedAway, sound}
@@ -140,6 +140,10 @@ module _ (s : List ℕ) where
       by-rules s Numbered
       (λ n p g l n′ p′ e. let a : n ≡ n′ = cc in let b : p ≡ p′ = cc in (subst Judging a g, subst (λ (q : Place). printed q ≤ mostLines) b l))
       (λ es h n p e. never (cc))
+
+-- the lines of a sound judgement have distinct keys
+pub sound-distinct : (s : List ℕ) (es : List Entry) → judgement s ≡ sound es → DistinctKeys es
+sound-distinct s es e = rw (sound-passed s es e .read) at (reading-distinct s)
 
 -- a sound judgement's sheet is an accepted sheet
 pub sound-accepted : (s : List ℕ) (es : List Entry) → judgement s ≡ sound es → AcceptedSheet (sheetOf es)

@@ -18,7 +18,7 @@ use Rattle.sheet_line.specs.declared.Code.the-variants.{Rsk, Oth, Vol, Gen}
 use Rattle.sheet_line.specs.declared.Entry.{Entry}
 use Rattle.sheet_line.specs.Rules.{AcceptedLine, AcceptedAmounts}
 use Rattle.ledger.specs.Entries.{hasKey, lookup, firstOf, secondOf, markOf, pairs, blockBy, volumesBy, blockOf, volumesOf, generalAmount}
-use Rattle.ledger.proofs.Indexes.{same-key}
+use Rattle.ledger.proofs.Keys.{same-key}
 
 -- ---- what is looked up is 0, or is in a line with that code and class
 

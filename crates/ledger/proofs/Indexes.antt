@@ -1,26 +1,26 @@
 -- The indexes of a table: each code, block and class has one of its own, so a table of entries holds what they say. Assumes nothing.
 use mathlib.Core.Path.{_≡_, refl, sym, ap, _∙_}
 use mathlib.Core.List.{List, [], _∷_, _++_}
-use mathlib.Core.Bool.{Bool, true, false}
+use mathlib.Core.Bool.{false}
 use Prim.Native.Nat.{ℕ, _+_, _-_, _≤_, _<_}
 use native.Mathlib.Decide.{ℕ-discrete}
 use native.Mathlib.Omega.{arith}
 use lib.Dec.{eqb}
 use lib.ListN.{length, getD, replicate, length-set, length-replicate, getD-replicate}
 use lib.Seq.{getD-set-same, getD-set-other}
-use borrow.Author.Tests.{eqb-true, eq-eqb}
 use Rattle.search.specs.Pick.{pick}
 use Rattle.search.specs.Each.{Each}
-use Rattle.search.proofs.Picks.{if-true, if-false, if-eq, if-ne, by-test, never}
+use Rattle.search.proofs.Picks.{if-true, if-false, if-eq, if-ne}
 use Rattle.search.proofs.Values.{values, values-same}
 use Rattle.guideline.specs.Sizes.{blocks, volumeClasses}
-use Rattle.sheet_line.specs.Codes.{codes, riskClasses, otherClasses, generalClasses, rangeOf, Key}
+use Rattle.sheet_line.specs.Codes.{riskClasses, otherClasses, generalClasses, rangeOf, Key}
 use Rattle.sheet_line.specs.Rules.{AcceptedLine}
 use Rattle.sheet_line.specs.declared.Code.{Code}
 use Rattle.sheet_line.specs.declared.Code.the-variants.{Rsk, Oth, Vol, Gen}
 use Rattle.sheet_line.specs.declared.Entry.{Entry}
-use Rattle.ledger.specs.Entries.{rank, hasKey, lookup}
+use Rattle.ledger.specs.Entries.{hasKey, lookup, SameKey}
 use Rattle.ledger.specs.Tables.{places, rowPlaces, columnsBefore, indexOf, indexFor, table, tabled}
+use Rattle.ledger.proofs.Keys.{has-key, no-key}
 
 -- ---- an index is within a table
 
@@ -77,58 +77,17 @@ code-at Oth b c v = in-block b _ (v .low) ∙ column-code Oth blockRow refl b c 
 code-at Vol b c v = in-block b _ (v .low) ∙ column-code Vol blockRow refl b c v
 code-at Gen b c v = in-general b _ (v .high) ∙ column-code Gen generalRow refl b c v
 
-pub record SameKey (k : Code) (b c : ℕ) (k′ : Code) (b′ c′ : ℕ) : Type 0 where
-  pub code : k ≡ k′
-  pub block : b ≡ b′
-  pub class : c ≡ c′
-
-index-one : (k : Code) (b c : ℕ) (k′ : Code) (b′ c′ : ℕ) → Key k b c → Key k′ b′ c′ → indexOf k b c ≡ indexOf k′ b′ c′ → SameKey k b c k′ b′ c′
+index-one : (k : Code) (b c : ℕ) (e : Entry) → Key k b c → Key (e .code) (e .block) (e .class) → indexOf k b c ≡ indexFor e → SameKey k b c e
 unfolding indexOf
-index-one k b c k′ b′ c′ v v′ q =
-    let x : b ≡ b′ = omega (arith, column-most k, column-most k′) in
-    let j : columnsBefore k + c - 1 ≡ columnsBefore k′ + c′ - 1 = omega (arith, column-most k, column-most k′) in
-    let y : k ≡ k′ = sym (code-at k b c v) ∙ rw (x, j) (code-at k′ b′ c′ v′) in
+index-one k b c e v w q =
+    let x : b ≡ e .block = omega (arith, column-most k, column-most (e .code)) in
+    let j : columnsBefore k + c - 1 ≡ columnsBefore (e .code) + e .class - 1 = omega (arith, column-most k, column-most (e .code)) in
+    let y : k ≡ e .code = sym (code-at k b c v) ∙ rw (x, j) (code-at (e .code) (e .block) (e .class) w) in
     record { code = y; block = x; class = omega (arith, ap columnsBefore y) }
 
--- ---- an entry has a code, block and class where it has their index
-
-ranked : ℕ → Code
-ranked n = getD codes n Gen
-
-ranked-rank : (k : Code) → ranked (rank k) ≡ k
-unfolding ranked
-ranked-rank Rsk = refl
-ranked-rank Oth = refl
-ranked-rank Vol = refl
-ranked-rank Gen = refl
-
-module _ (k : Code) (b c : ℕ) (e : Entry) where
-  abbrev Same : Type 0
-  Same = SameKey k b c (e .code) (e .block) (e .class)
-
-  has-key : Same → hasKey k b c e ≡ true
-  unfolding hasKey
-  has-key s = if-eq _ (ap rank (s .code)) ∙ if-eq _ (s .block) ∙ eq-eqb _ _ (s .class)
-
-  rank-one : rank k ≡ rank (e .code) → k ≡ e .code
-  rank-one q = sym (ranked-rank k) ∙ ap ranked q ∙ ranked-rank (e .code)
-
-  pub same-key : hasKey k b c e ≡ true → Same
-  unfolding hasKey
-  same-key =
-      by-test (λ t. t ≡ true → Same) _ _ _
-      (λ p.
-      by-test (λ t. t ≡ true → Same) _ _ _
-      (λ q r. record { code = rank-one (eqb-true _ _ p); block = eqb-true _ _ q; class = eqb-true _ _ r })
-      (λ q r. never (cc)))
-      (λ p r. never (cc))
-
-  other-key : (indexOf k b c ≡ indexFor e → ⊥) → hasKey k b c e ≡ false
-  other-key n = go (hasKey k b c e) refl
-    where
-      go : (t : Bool) → hasKey k b c e ≡ t → t ≡ false
-      go true q = let s = same-key q in absurd (n (rw (s .code, s .block, s .class)))
-      go false q = refl
+-- an entry with another index has another key
+other-key : (k : Code) (b c : ℕ) (e : Entry) → (indexOf k b c ≡ indexFor e → ⊥) → hasKey k b c e ≡ false
+other-key k b c e n = no-key k b c e (λ s. n (rw (s .code, s .block, s .class)))
 
 -- ---- what the tables hold
 
@@ -146,7 +105,7 @@ lookup-table f (e ∷ es) k b c v a =
     elim (ℕ-discrete (indexOf k b c) (indexFor e)) [
       | yes q ↦
           rw q (getD-set-same (table f es) (indexFor e) (f e) 0 (rw length-table (index-most (e .code) (e .block) (e .class) w)))
-          ∙ sym (if-true _ (has-key k b c e (index-one k b c (e .code) (e .block) (e .class) v w q)))
+          ∙ sym (if-true _ (has-key k b c e (index-one k b c e v w q)))
       | no q ↦
           getD-set-other (table f es) (indexFor e) (indexOf k b c) (f e) 0 q ∙ lookup-table f es k b c v (a .1) ∙ sym (if-false _ (other-key k b c e q))
     ]

@@ -1,3 +1,5 @@
+-- What holds of a sheet's lines and of the tables that they are read into. Assumes nothing.
+pub mod Keys
 pub mod Indexes
 pub mod Lines
 pub mod Numbers

@@ -19,11 +19,12 @@ use Rattle.sheet_line.specs.declared.Line.{Line}
 use Rattle.sheet_line.specs.declared.Line.the-variants.{Good, Refused}
 use Rattle.sheet_line.proofs.Accepted.{line-good}
 use Rattle.sheet_line.proofs.Refusals.{line-judging}
-use Rattle.ledger.specs.Entries.{firstOf, secondOf, markOf, hasLine}
+use Rattle.ledger.specs.Entries.{firstOf, secondOf, markOf, hasLine, DistinctKeys}
 use Rattle.ledger.specs.Reading.{Reading, onLine, readFrom, reading, entriesOf}
 use Rattle.ledger.specs.Reading.Reading.{complete, stopped}
 use Rattle.ledger.specs.Tables.{table, Empty, Filled, Entered, hasMark}
 use Rattle.ledger.specs.declared.Answer.the-variants as answer
+use Rattle.ledger.proofs.Keys.{New, distinct}
 use Rattle.ledger.proofs.Indexes.{lookup-table}
 
 -- ---- a line more
@@ -58,24 +59,31 @@ module _ (i : ℕ) (seen : List Entry) (next : List Entry → Reading) where
 
   -- what holds of each way on from a line holds of the reading
   by-line : (P : Reading → Type 0) (L : Line) → ((r : ℕ) → L ≡ Refused r → P (stopped seen r i)) → P (stopped seen 11 i)
-      → ((e : Entry) → L ≡ Good e → P (next (e ∷ seen))) → P (onLine L i seen next)
+      → ((e : Entry) → L ≡ Good e → hasLine seen (e .code) (e .block) (e .class) ≡ false → P (next (e ∷ seen))) → P (onLine L i seen next)
   unfolding onLine
   by-line P (Refused r) refused twice good = refused r refl
-  by-line P (Good e) refused twice good = by-test P _ _ _ (λ t. twice) (λ t. good e refl)
+  by-line P (Good e) refused twice good = by-test P _ _ _ (λ t. twice) (good e refl)
 
--- ---- every entry is one that a line can give
+-- ---- what holds of the lines that were read: what each new line keeps
 
-all-from : (n i : ℕ) (s : List ℕ) (seen : List Entry) → sheetLineBytes * n ≤ length s → Each AcceptedLine seen
-    → Each AcceptedLine (entriesOf (readFrom n i s seen))
-unfolding readFrom
-all-from zero i s seen h all = all
-all-from (suc n) i s seen h all =
-    let l : length (take sheetLineBytes s) ≡ sheetLineBytes = length-take-le sheetLineBytes s (omega arith) in
-    by-line i seen _ (λ o. Each AcceptedLine (entriesOf o)) (parseLine (take sheetLineBytes s)) (λ r q. all) all
-    (λ e q. all-from n (i + 1) (drop sheetLineBytes s) (e ∷ seen) (rw length-drop (omega arith)) (line-good (take sheetLineBytes s) l e q, all))
+module _ (P : List Entry → Type 0)
+    (more : (e : Entry) (seen : List Entry) → AcceptedLine e → hasLine seen (e .code) (e .block) (e .class) ≡ false → P seen → P (e ∷ seen)) where
+  read-from : (n i : ℕ) (s : List ℕ) (seen : List Entry) → sheetLineBytes * n ≤ length s → P seen → P (entriesOf (readFrom n i s seen))
+  unfolding readFrom
+  read-from zero i s seen h p = p
+  read-from (suc n) i s seen h p =
+      let l : length (take sheetLineBytes s) ≡ sheetLineBytes = length-take-le sheetLineBytes s (omega arith) in
+      by-line i seen _ (λ o. P (entriesOf o)) (parseLine (take sheetLineBytes s)) (λ r q. p) p
+      (λ e q t.
+      read-from n (i + 1) (drop sheetLineBytes s) (e ∷ seen) (rw length-drop (omega arith)) (more e seen (line-good (take sheetLineBytes s) l e q) t p))
 
+-- every entry is one that a line can give
 pub all-read : (s : List ℕ) → Each AcceptedLine (entriesOf (reading s))
-all-read s = all-from (length s / sheetLineBytes) 1 s [] (omega arith) tt
+all-read s = read-from (Each AcceptedLine) (λ e seen a t p. (a, p)) (length s / sheetLineBytes) 1 s [] (omega arith) tt
+
+-- no two have the same code, block and class
+pub reading-distinct : (s : List ℕ) → DistinctKeys (entriesOf (reading s))
+reading-distinct s = distinct _ (read-from New (λ e seen a t p. (t, p)) (length s / sheetLineBytes) 1 s [] (omega arith) tt)
 
 -- ---- a reading is stopped by the number of a rule, at a line of the sheet
 
@@ -90,7 +98,7 @@ module _ (es : List Entry) (r j : ℕ) where
       let e : 11 ≡ r = cc in
       let k : i ≡ j = cc in
       (record { not-0 = λ z. omega arith; not-14 = λ z. omega arith; two-columns = omega arith }, omega arith))
-      (λ e p q. let w = stopped-from n (i + 1) (drop sheetLineBytes s) (e ∷ seen) q in (w .0, omega (arith, w .1)))
+      (λ e p t q. let w = stopped-from n (i + 1) (drop sheetLineBytes s) (e ∷ seen) q in (w .0, omega (arith, w .1)))
 
 pub reading-stopped : (s : List ℕ) (es : List Entry) (n i : ℕ) → reading s ≡ stopped es n i → Judging n × (i ≤ length s / sheetLineBytes)
 reading-stopped s es n i q = let w = stopped-from es n i (length s / sheetLineBytes) 1 s [] q in (w .0, omega (arith, w .1))

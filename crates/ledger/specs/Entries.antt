@@ -1,9 +1,11 @@
 -- The lines of a sheet as a list of entries, and the figures that are taken from them: 'An absent line means zeros', and 'A block
 -- exists when it has an RSK or OTH line, zeros included'. Assumes nothing.
-use Prim.Native.Nat.{ℕ, zero, suc, _+_, _/_, _%_}
+use mathlib.Core.Path.{_≡_}
+use Prim.Native.Nat.{ℕ, zero, suc, _+_, _/_, _%_, _<_}
 use mathlib.Core.List.{List, [], _∷_, _++_}
 use mathlib.Core.Bool.{Bool, true, false}
 use lib.Dec.{ltb, eqb}
+use lib.ListN.{length, getD}
 use Rattle.search.specs.Pick.{pick}
 use Rattle.guideline.specs.Sizes.{volumeClasses, volumePairs}
 use Rattle.sheet_line.specs.Codes.{riskClasses}
@@ -42,6 +44,21 @@ markOf e = 1
 -- whether one of the lines has this code, block and class
 abbrev pub hasLine : List Entry → Code → ℕ → ℕ → Bool
 hasLine es k b c = ltb 0 (lookup markOf es k b c)
+
+-- an entry has this code, block and class
+pub record SameKey (k : Code) (b c : ℕ) (e : Entry) : Type 0 where
+  pub code : k ≡ e .code
+  pub block : b ≡ e .block
+  pub class : c ≡ e .class
+
+-- what rule 11 leaves: lines that each have a code, block and class of their own, so that each is found by them; past the end stands d
+pub record DistinctKeys (es : List Entry) : Type 0 where
+  -- two places with one code, block and class are one place
+  pub one-place : (d : Entry) (i j : ℕ) → i < length es → j < length es
+      → (let e = getD es i d in SameKey (e .code) (e .block) (e .class) (getD es j d)) → i ≡ j
+  -- what is looked up by a line's code, block and class is said of that line
+  pub found : (d : Entry) (i : ℕ) → i < length es → (f : Entry → ℕ)
+      → let e = getD es i d in lookup f es (e .code) (e .block) (e .class) ≡ f e
 
 -- the codes whose lines make a block exist
 abbrev pub ofBlock : Code → Bool
