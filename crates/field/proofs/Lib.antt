@@ -1,3 +1,4 @@
+-- A number field read and written column by column, and that reading is the inverse of writing. Assumes nothing.
 pub mod Reading
 pub mod Writing
 pub mod Inverse

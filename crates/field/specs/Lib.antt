@@ -1,1 +1,2 @@
+-- A decimal number in columns. Assumes nothing.
 pub mod Field

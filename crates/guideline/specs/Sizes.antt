@@ -14,9 +14,13 @@ risks = 7
 abbrev pub products : ℕ
 products = risks * risks
 
+-- a block's other amounts: property and casualty, credit, market
+abbrev pub otherAmounts : ℕ
+otherAmounts = 3
+
 -- the block call's numbers: seven pairs IR, LT, then PC, credit, market: 17
 abbrev pub blockNumbers : ℕ
-blockNumbers = 2 * risks + 3
+blockNumbers = 2 * risks + otherAmounts
 
 -- the figures that are reported of a block: I, D, U, LT, K
 abbrev pub blockFigures : ℕ

@@ -15,8 +15,11 @@ pub const RISKS: usize = 7;
 // The products of two of them.
 pub const PRODUCTS: usize = RISKS * RISKS;
 
+// A block's other amounts: property and casualty, credit, market.
+pub const OTHER_AMOUNTS: usize = 3;
+
 // The block call's numbers: seven pairs IR, LT, then PC, credit, market.
-pub const BLOCK_NUMBERS: usize = 2 * RISKS + 3;
+pub const BLOCK_NUMBERS: usize = 2 * RISKS + OTHER_AMOUNTS;
 
 // The figures that are reported of a block: I, D, U, LT, K.
 pub const BLOCK_FIGURES: usize = 5;

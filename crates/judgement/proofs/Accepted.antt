@@ -130,14 +130,14 @@ module _ (s : List ℕ) where
   sound-passed = by-rules s Gives (λ n p g l es e. never (cc)) (λ es h es′ e. let q : es ≡ es′ = cc in subst (Passed s) q h)
 
   -- the rule and the place of a judgement that turns a sheet away
-  unfoldable Numbered : Judgement → Type 0
-  Numbered j = (n : ℕ) (p : Place) → j ≡ turnedAway n p → Judging n × (printed p ≤ mostLines)
+  unfoldable Fits : Judgement → Type 0
+  Fits j = (n : ℕ) (p : Place) → j ≡ turnedAway n p → Judging n × (printed p ≤ mostLines)
 
   -- never 0, never 14, and number and place fit the columns of a REF line
   pub numbered : (n : ℕ) (p : Place) → judgement s ≡ turnedAway n p → Judging n × (printed p ≤ mostLines)
-  unfolding Numbered
+  unfolding Fits
   numbered =
-      by-rules s Numbered
+      by-rules s Fits
       (λ n p g l n′ p′ e. let a : n ≡ n′ = cc in let b : p ≡ p′ = cc in (subst Judging a g, subst (λ (q : Place). printed q ≤ mostLines) b l))
       (λ es h n p e. never (cc))
 

@@ -1,3 +1,4 @@
+-- The rules of a sheet one after the other, and the figures of a sound one. Assumes nothing.
 pub mod Tables
 pub mod Accepted
 pub mod Figured

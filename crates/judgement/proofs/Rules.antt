@@ -91,7 +91,7 @@ module _ (es : List Entry) where
     unfolding rule12 rule13
     passes k = sym (ap findings (if-true _ h ∙ if-ge _ k))
 
--- ---- what is findings
+-- ---- what a judgement has to tell
 
 -- figures that are those of these lines
 pub record Figured (es : List Entry) (n : ℕ) (rows : List ℕ) (sum ro x : ℕ) : Type 0 where

@@ -1,4 +1,4 @@
--- A sheet verdict, every rule but 14, after document 01, 'What is turned away': 'Order: 1, 2; then the first bad line, in it 3, 4, 5, 6, 8, 9,
+-- A sheet judged by every rule but 14, after document 01, 'What is turned away': 'Order: 1, 2; then the first bad line, in it 3, 4, 5, 6, 8, 9,
 -- 10, 11; then 12, 13'. Each rule ends in the next one. Assumes nothing.
 use mathlib.Core.List.{List}
 use Prim.Native.Nat.{ℕ, _*_, _%_}
@@ -50,14 +50,14 @@ rule2 s = pick (eqb (length s % sheetLineBytes) 0) (ruleLines (reading s)) (turn
 unfoldable pub judgement : List ℕ → Judgement
 judgement s = pick (ltb longestSheet (length s)) (turnedAway 1 place.Nowhere) (rule2 s)
 
--- ---- what is findings of a judgement
+-- ---- what a judgement has to tell
 
 -- a refusal; or how many blocks exist, the rows of their figures, the sum of K, RO and the buffer
 pub data Findings : Type 0 where
   refusal : ℕ → Place → Findings
   figures : ℕ → List ℕ → ℕ → ℕ → ℕ → Findings
 
--- what a judgement has to tell
+-- the refusal of a sheet that is turned away, the figures of a sound one
 unfoldable pub findings : Judgement → Findings
 findings (turnedAway n p) = refusal n p
 findings (sound es) =

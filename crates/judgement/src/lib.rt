@@ -1,4 +1,4 @@
-// A sheet verdict: every rule but 14, and what its report is to say.
+// A sheet judged by every rule but 14, and what its report is to say.
 ghost use mathlib.Core.Path.{_≡_};
 ghost use mathlib.Core.List.{_∷_};
 ghost use Prim.Native.Nat.{_+_, _-_, _*_, _≤_, _<_};

@@ -1,3 +1,4 @@
+-- A sheet's lines as entries, how they are read, and the tables that hold them. Assumes nothing.
 pub mod Entries
 pub mod Reading
 pub mod Tables

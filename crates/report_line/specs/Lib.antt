@@ -1,1 +1,2 @@
+-- A line of the report. Assumes nothing.
 pub mod Line

@@ -16,13 +16,14 @@ use Rattle.field.proofs.Inverse.{field-bound}
 use Rattle.guideline.specs.Sizes.{largestScalar}
 use Rattle.sheet_line.specs.Codes.{Key, codeOf}
 use Rattle.sheet_line.specs.Line.{sheetLineBytes, columns, fieldsOf, layoutOf}
-use Rattle.sheet_line.specs.Rules.{outside, blockOutside, classOutside, singleOf, secondBarred, hasTrend, trendAbove, isScalar, scalarOutside, rule3, rule5, rule6, rule8, rule9, rule10, entryOf, parseLine, AcceptedLine}
+use Rattle.sheet_line.specs.Rules.{outside, blockOutside, classOutside, singleOf, secondBarred, hasTrend, trendAbove, isScalar, scalarOutside}
+use Rattle.sheet_line.specs.Rules.{rule3, rule5, rule6, rule8, rule9, rule10, entryOf, parseLine, AcceptedLine}
 use Rattle.sheet_line.specs.declared.Code.{Code}
 use Rattle.sheet_line.specs.declared.codes.Coded.{Coded}
 use Rattle.sheet_line.specs.declared.codes.Coded.the-variants.{Known, Unknown}
 use Rattle.sheet_line.specs.declared.columns.Numbers.{Numbers}
 use Rattle.sheet_line.specs.declared.columns.Layout.{Layout}
-use Rattle.sheet_line.specs.declared.columns.Layout.the-variants.{Sound, Broken}
+use Rattle.sheet_line.specs.declared.columns.Layout.the-variants.{Kept, Broken}
 use Rattle.sheet_line.specs.declared.Entry.{Entry}
 use Rattle.sheet_line.specs.declared.Line.{Line}
 use Rattle.sheet_line.specs.declared.Line.the-variants.{Good}
@@ -85,7 +86,7 @@ record Read (f g : Field) (n : Numbers) : Type 0 where
   first : f ≡ Value (n .first)
   second : g ≡ Value (n .second)
 
-fields-read : (b c f g : Field) (n : Numbers) → fieldsOf b c f g ≡ Sound n → Read f g n
+fields-read : (b c f g : Field) (n : Numbers) → fieldsOf b c f g ≡ Kept n → Read f g n
 fields-read (Value x) (Value y) (Value z) (Value w) n q =
     let e : record { block = x; class = y; first = z; second = w } ≡ n = cc in
     record { first = ap Value (ap (λ (m : Numbers). m .first) e); second = ap Value (ap (λ (m : Numbers). m .second) e) }
@@ -102,19 +103,19 @@ amount-most s k r h q =
     omega arith
 
 module _ (s : List ℕ) (h : length s ≡ sheetLineBytes) where
-  sound-read : (n : Numbers) → layoutOf s ≡ Sound n → Read (field (columns 11 24 s)) (field (columns 26 39 s)) n
+  kept-read : (n : Numbers) → layoutOf s ≡ Kept n → Read (field (columns 11 24 s)) (field (columns 26 39 s)) n
   unfolding layoutOf
-  sound-read n =
-      by-test (λ l. l ≡ Sound n → Read (field (columns 11 24 s)) (field (columns 26 39 s)) n) _ _ _
+  kept-read n =
+      by-test (λ l. l ≡ Kept n → Read (field (columns 11 24 s)) (field (columns 26 39 s)) n) _ _ _
       (λ t. fields-read (field (columns 5 6 s)) (field (columns 8 9 s)) _ _ n)
       (λ t q. never (cc))
 
   -- rules 3 and 4, then the others
   all-leave : (l : Layout) (c : Coded) (d : Entry) → layoutOf s ≡ l → rule3 l c ≡ Good d → AcceptedLine d
-  all-leave (Sound n) (Known k) d p q =
-      let r = sound-read n p in
+  all-leave (Kept n) (Known k) d p q =
+      let r = kept-read n p in
       rules-leave (entryOf k n) (amount-most s 10 _ (omega arith) (r .first)) (amount-most s 25 _ (omega arith) (r .second)) d q
-  all-leave (Sound n) Unknown d p q = never (cc)
+  all-leave (Kept n) Unknown d p q = never (cc)
   all-leave Broken c d p q = never (cc)
 
   pub line-good : (e : Entry) → parseLine s ≡ Good e → AcceptedLine e

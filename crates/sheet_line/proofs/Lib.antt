@@ -1,3 +1,4 @@
+-- What a line of the sheet guarantees: of a good one, of a refused one, of a printed one. Assumes nothing.
 pub mod Accepted
 pub mod Refusals
 pub mod Printed

@@ -15,11 +15,12 @@ use Rattle.field.proofs.Writing.{length-decimal}
 use Rattle.field.proofs.Inverse.{read-back}
 use Rattle.sheet_line.specs.Codes.{lettersOf, Key, isCode, codeAmong, codeOf}
 use Rattle.sheet_line.specs.Line.{sheetLineBytes, spaced, separatedOf, columns, layoutOf, lettered, printLine}
-use Rattle.sheet_line.specs.Rules.{outside, singleOf, secondBarred, hasTrend, trendAbove, isScalar, scalarOutside, rule5, rule6, rule8, rule9, rule10, parseLine, AcceptedLine}
+use Rattle.sheet_line.specs.Rules.{outside, singleOf, secondBarred, hasTrend, trendAbove, isScalar, scalarOutside}
+use Rattle.sheet_line.specs.Rules.{rule5, rule6, rule8, rule9, rule10, parseLine, AcceptedLine}
 use Rattle.sheet_line.specs.declared.Code.{Code}
 use Rattle.sheet_line.specs.declared.Code.the-variants.{Rsk, Oth, Vol, Gen}
 use Rattle.sheet_line.specs.declared.codes.Coded.the-variants.{Known}
-use Rattle.sheet_line.specs.declared.columns.Layout.the-variants.{Sound}
+use Rattle.sheet_line.specs.declared.columns.Layout.the-variants.{Kept}
 use Rattle.sheet_line.specs.declared.Entry.{Entry}
 use Rattle.sheet_line.specs.declared.Line.the-variants.{Good}
 
@@ -56,9 +57,9 @@ module _ (w : List ℕ) (h : length w ≡ 3) (e : Entry) where
   unfolding lettered values decimal leadingDigits
   printed-second = rw (is-values 0 3 w h)
 
-  -- the layout is sound, whatever the letters are
+  -- the layout is kept, whatever the letters are
   printed-layout : e .block < 100 → e .class < 100 → e .first ≤ limit → e .second ≤ limit
-      → layoutOf (lettered w e) ≡ Sound (record { block = e .block; class = e .class; first = e .first; second = e .second })
+      → layoutOf (lettered w e) ≡ Kept (record { block = e .block; class = e .class; first = e .first; second = e .second })
   unfolding layoutOf
   printed-layout hb hc hf hg =
       let p = read-back 2 (e .block) (omega arith) (omega arith) in

@@ -13,7 +13,7 @@ use Rattle.sheet_line.specs.Rules.{rule3, rule5, rule6, rule8, rule9, ru
 use Rattle.sheet_line.specs.declared.codes.Coded.{Coded}
 use Rattle.sheet_line.specs.declared.codes.Coded.the-variants.{Known, Unknown}
 use Rattle.sheet_line.specs.declared.columns.Layout.{Layout}
-use Rattle.sheet_line.specs.declared.columns.Layout.the-variants.{Sound, Broken}
+use Rattle.sheet_line.specs.declared.columns.Layout.the-variants.{Kept, Broken}
 use Rattle.sheet_line.specs.declared.Entry.{Entry}
 use Rattle.sheet_line.specs.declared.Line.{Line}
 use Rattle.sheet_line.specs.declared.Line.the-variants.{Refused}
@@ -39,8 +39,8 @@ module _ (n : ℕ) where
 
   all-judge : (l : Layout) (c : Coded) → Judges (rule3 l c)
   all-judge Broken c = judges 3 refl refl refl
-  all-judge (Sound m) Unknown = judges 4 refl refl refl
-  all-judge (Sound m) (Known k) = rules-judge (entryOf k m)
+  all-judge (Kept m) Unknown = judges 4 refl refl refl
+  all-judge (Kept m) (Known k) = rules-judge (entryOf k m)
 
 -- a rule of a line is never 0 and never 14, and has two digits at most
 pub line-judging : (s : List ℕ) (n : ℕ) → parseLine s ≡ Refused n → Judging n

@@ -6,7 +6,7 @@ use mathlib.Core.Bool.{Bool, false}
 use lib.Dec.{eqb}
 use lib.ListN.{getD}
 use Rattle.search.specs.Pick.{pick}
-use Rattle.guideline.specs.Sizes.{blocks, risks, territories, volumeClasses}
+use Rattle.guideline.specs.Sizes.{blocks, risks, otherAmounts, territories, volumeClasses}
 use Rattle.sheet_line.specs.declared.Code.{Code}
 use Rattle.sheet_line.specs.declared.Code.the-variants.{Rsk, Oth, Vol, Gen}
 use Rattle.sheet_line.specs.declared.codes.Coded.{Coded}
@@ -34,7 +34,7 @@ expensesClass = 7
 
 -- OTH's classes: property and casualty, credit, market
 abbrev pub otherClasses : ℕ
-otherClasses = 3
+otherClasses = otherAmounts
 
 -- GEN's classes: gross components to credits
 abbrev pub generalClasses : ℕ

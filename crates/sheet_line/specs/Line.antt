@@ -12,7 +12,7 @@ use Rattle.field.specs.declared.Field.{Field}
 use Rattle.field.specs.declared.Field.the-variants.{Value, Bad}
 use Rattle.sheet_line.specs.Codes.{lettersOf}
 use Rattle.sheet_line.specs.declared.columns.Layout.{Layout}
-use Rattle.sheet_line.specs.declared.columns.Layout.the-variants.{Sound, Broken}
+use Rattle.sheet_line.specs.declared.columns.Layout.the-variants.{Kept, Broken}
 use Rattle.sheet_line.specs.declared.Entry.{Entry}
 
 -- the bytes of a line, its line feed with them
@@ -38,7 +38,7 @@ separatedOf s = spaced (4 ∷ 7 ∷ 10 ∷ 25 ∷ []) s
 
 -- the numbers of the four fields, where each field holds one
 abbrev pub fieldsOf : Field → Field → Field → Field → Layout
-fieldsOf (Value b) (Value c) (Value f) (Value g) = Sound (record { block = b; class = c; first = f; second = g })
+fieldsOf (Value b) (Value c) (Value f) (Value g) = Kept (record { block = b; class = c; first = f; second = g })
 fieldsOf (Value b) (Value c) (Value f) Bad = Broken
 fieldsOf (Value b) (Value c) Bad g = Broken
 fieldsOf (Value b) Bad f g = Broken

@@ -17,7 +17,7 @@ use Rattle.sheet_line.specs.declared.codes.Coded.{Coded}
 use Rattle.sheet_line.specs.declared.codes.Coded.the-variants.{Known, Unknown}
 use Rattle.sheet_line.specs.declared.columns.Numbers.{Numbers}
 use Rattle.sheet_line.specs.declared.columns.Layout.{Layout}
-use Rattle.sheet_line.specs.declared.columns.Layout.the-variants.{Sound, Broken}
+use Rattle.sheet_line.specs.declared.columns.Layout.the-variants.{Kept, Broken}
 use Rattle.sheet_line.specs.declared.Entry.{Entry}
 use Rattle.sheet_line.specs.declared.Line.{Line}
 use Rattle.sheet_line.specs.declared.Line.the-variants.{Good, Refused}
@@ -103,7 +103,7 @@ rule4 (Known k) n = rule5 (entryOf k n)
 -- rule 3: 'columns 4–40 break the layout', then rule 4
 abbrev pub rule3 : Layout → Coded → Line
 rule3 Broken c = Refused 3
-rule3 (Sound n) c = rule4 c n
+rule3 (Kept n) c = rule4 c n
 
 -- a line: its entry, or the number of the first rule that turns it away
 unfoldable pub parseLine : List ℕ → Line

@@ -5,6 +5,7 @@ ghost use lib.ListN.{length};
 ghost use Rattle.sheet_line.specs.Codes.{rangeOf, isCode, codeOf};
 use super::Code;
 use guideline::BLOCKS;
+use guideline::OTHER_AMOUNTS;
 use guideline::RISKS;
 use guideline::TERRITORIES;
 use guideline::VOLUME_CLASSES;
@@ -29,7 +30,7 @@ pub const RISK_CLASSES: usize = RISKS;
 pub(crate) const EXPENSES_CLASS: usize = 7;
 
 // OTH's classes: property and casualty, credit, market.
-pub const OTHER_CLASSES: usize = 3;
+pub const OTHER_CLASSES: usize = OTHER_AMOUNTS;
 
 // GEN's classes: gross components to credits.
 pub const GENERAL_CLASSES: usize = 5;

@@ -14,7 +14,7 @@ pub struct Numbers {
 
 // What columns 4 to 40 hold.
 pub enum Layout {
-    Sound(Numbers),
+    Kept(Numbers),
     Broken,
 }
 
@@ -69,7 +69,7 @@ fn fields_of(block: Field, class: Field, first: Field, second: Field) -> Layout
     let Field::Value(g) = second else {
         return Layout::Broken;
     };
-    Layout::Sound(Numbers {
+    Layout::Kept(Numbers {
         block: b,
         class: c,
         first: f,

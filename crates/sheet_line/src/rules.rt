@@ -1,6 +1,7 @@
 // The rules of a line, in document 01's order: each tests the line, and ends in the next one.
 ghost use mathlib.Core.Path.{_≡_};
-ghost use Rattle.sheet_line.specs.Rules.{outside, singleOf, secondBarred, hasTrend, trendAbove, isScalar, scalarOutside, rule3, rule4, rule5, rule6, rule8, rule9, rule10};
+ghost use Rattle.sheet_line.specs.Rules.{outside, singleOf, secondBarred, hasTrend, trendAbove, isScalar, scalarOutside};
+ghost use Rattle.sheet_line.specs.Rules.{rule3, rule4, rule5, rule6, rule8, rule9, rule10};
 use super::Code;
 use super::Entry;
 use super::Line;
@@ -15,7 +16,7 @@ use guideline::LARGEST_SCALAR;
 pub(crate) fn rule_3(layout: Layout, coded: Coded) -> Line
     ensures { λ r. ⌜ r ≡ rule3 layout coded ⌝ }
 {
-    let Layout::Sound(n) = layout else {
+    let Layout::Kept(n) = layout else {
         return Line::Refused(3);
     };
     rule_4(coded, n)

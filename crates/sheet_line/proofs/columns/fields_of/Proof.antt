@@ -3,17 +3,13 @@ use borrow.Author.Needs.{needs}
 use Rattle.sheet_line.proofs.columns.fields_of.Statement.{statement}
 use Rattle.sheet_line.proofs.columns.fields_of.Tie as tie
 
-returns-5 : tie.Need-returns-5
-returns-5 c =
-    let second = c .before in
-    let first = second .before .before .before in
-    let class = first .before .before .before in
-    let block = class .before .before .before in
-    rw (block .block .given .1, class .class .given .1, first .first .given .1, second .second .given .1)
-
 pub fields-of-spec : {M : Type 1} → statement M
 fields-of-spec =
     tie.close
     (tie.spec
-    (λ c. search needs) (λ c. search needs) (λ c. search needs) (λ c. search needs) (λ c. search needs) (λ c. search needs) (λ c. search needs) (λ c.
-    search needs) (λ c. search needs) (λ c. search needs) (λ c. search needs) (λ c. search needs) returns-5)
+    (λ c. search needs) (λ c. search needs) (λ c. search needs) (λ c. search needs) (λ c. search needs) (λ c. search needs) (λ c. search needs)
+    (λ c. search needs) (λ c. search needs) (λ c. search needs) (λ c. search needs) (λ c. search needs) (λ c.
+    let second = c .before in
+    let first = second .before .before .before in
+    let class = first .before .before .before in
+    let block = class .before .before .before in rw (block .block .given .1, class .class .given .1, first .first .given .1, second .second .given .1)))
