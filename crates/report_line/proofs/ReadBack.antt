@@ -36,29 +36,18 @@ unfolding reportLine key
 length-line code block item number h = simp (length-append, length-decimal, h)
 
 module _ (r : Row) (p : Printable r) where
-  line-key : (rest : List ℕ) → take 9 (printRow r ++ rest) ≡ keyOf r
+  -- columns 1–9, columns 11–28, and what follows the line
+  line-parts : (rest : List ℕ) → (take 9 (printRow r ++ rest) ≡ keyOf r) × (take 18 (drop 10 (printRow r ++ rest)) ≡ decimal 18 (r .number))
+      × (drop reportLineBytes (printRow r ++ rest) ≡ rest)
   unfolding values decimal leadingDigits reportLine key
-  line-key rest = rw (is-values 0 3 (r .code) (p .code))
+  line-parts rest = rw (is-values 0 3 (r .code) (p .code)) (refl, refl, refl)
 
-  line-number : (rest : List ℕ) → take 18 (drop 10 (printRow r ++ rest)) ≡ decimal 18 (r .number)
-  unfolding values decimal leadingDigits reportLine key
-  line-number rest = rw (is-values 0 3 (r .code) (p .code))
-
-  line-rest : (rest : List ℕ) → drop reportLineBytes (printRow r ++ rest) ≡ rest
-  unfolding values decimal leadingDigits reportLine key
-  line-rest rest = rw (is-values 0 3 (r .code) (p .code))
-
-  key-code : take 3 (keyOf r) ≡ r .code
+  -- code, block and item
+  key-parts : (take 3 (keyOf r) ≡ r .code) × (field (take 2 (drop 4 (keyOf r))) ≡ Value (r .block)) × (field (take 2 (drop 7 (keyOf r))) ≡ Value (r .item))
   unfolding values decimal leadingDigits key
-  key-code = rw (is-values 0 3 (r .code) (p .code))
-
-  key-block : field (take 2 (drop 4 (keyOf r))) ≡ Value (r .block)
-  unfolding values decimal leadingDigits key
-  key-block = rw (is-values 0 3 (r .code) (p .code)) (read-back 2 (r .block) (omega arith) (p .block))
-
-  key-item : field (take 2 (drop 7 (keyOf r))) ≡ Value (r .item)
-  unfolding values decimal leadingDigits key
-  key-item = rw (is-values 0 3 (r .code) (p .code)) (read-back 2 (r .item) (omega arith) (p .item))
+  key-parts =
+      rw (is-values 0 3 (r .code) (p .code))
+      (refl, read-back 2 (r .block) (omega arith) (p .block), read-back 2 (r .item) (omega arith) (p .item))
 
   -- a report that begins with a line: its number where its columns 1–9 are those looked for, else what the rest gives
   step : (rest code : List ℕ) (block item : ℕ)
@@ -67,7 +56,8 @@ module _ (r : Row) (p : Printable r) where
   step rest code block item =
       let n : length (printRow r ++ rest) ≡ reportLineBytes + length rest = rw (length-append, length-line (r .code) (r .block) (r .item) (r .number) (p .code)) in
       let e : length (printRow r ++ rest) / reportLineBytes ≡ suc (length rest / reportLineBytes) = omega arith in
-      rw (e, line-key rest, line-number rest, line-rest rest)
+      let t = line-parts rest in
+      rw (e, t .0, t .1, t .2)
 
 -- ---- columns 1–9 are the same where code, block and item are
 
@@ -96,13 +86,13 @@ module _ (r s : Row) (p : Printable r) (q : Printable s) where
   unfolding rowIs
   same-key =
       elim (List-discrete ℕ-discrete (r .code) (s .code)) [
-        | no n ↦ other-bytes (keyOf r) (keyOf s) (λ e. n (cc (key-code r p, key-code s q))) ∙ sym (if-false _ (other-bytes (r .code) (s .code) n))
+        | no n ↦ other-bytes (keyOf r) (keyOf s) (λ e. n (cc (key-parts r p .0, key-parts s q .0))) ∙ sym (if-false _ (other-bytes (r .code) (s .code) n))
         | yes x ↦
             let c : equalBytes (r .code) (s .code) ≡ true = rw x (same-bytes (s .code)) in
             elim (ℕ-discrete (r .item) (s .item)) [
-              | no n ↦ other-bytes (keyOf r) (keyOf s) (λ e. n (cc (key-item r p, key-item s q))) ∙ sym (if-true _ c ∙ if-ne _ n)
+              | no n ↦ other-bytes (keyOf r) (keyOf s) (λ e. n (cc (key-parts r p .2, key-parts s q .2))) ∙ sym (if-true _ c ∙ if-ne _ n)
               | yes y ↦ elim (ℕ-discrete (r .block) (s .block)) [
-                | no n ↦ other-bytes (keyOf r) (keyOf s) (λ e. n (cc (key-block r p, key-block s q))) ∙ sym (if-true _ c ∙ if-eq _ y ∙ ne-eqb _ _ n)
+                | no n ↦ other-bytes (keyOf r) (keyOf s) (λ e. n (cc (key-parts r p .1, key-parts s q .1))) ∙ sym (if-true _ c ∙ if-eq _ y ∙ ne-eqb _ _ n)
                 | yes z ↦ rw (x, y, z) (same-bytes (keyOf s)) ∙ sym (if-true _ c ∙ if-eq _ y ∙ eq-eqb _ _ z)
               ]
             ]

@@ -37,36 +37,23 @@ unfolding lettered
 length-print e = simp (length-append, length-decimal, three-letters)
 
 module _ (w : List ℕ) (h : length w ≡ 3) (e : Entry) where
-  printed-spaces : separatedOf (lettered w e) ≡ true
+  printed-columns : (separatedOf (lettered w e) ≡ true)
+      × (columns 5 6 (lettered w e) ≡ decimal 2 (e .block)) × (columns 8 9 (lettered w e) ≡ decimal 2 (e .class))
+      × (columns 11 24 (lettered w e) ≡ decimal 14 (e .first)) × (columns 26 39 (lettered w e) ≡ decimal 14 (e .second))
   unfolding lettered spaced values decimal leadingDigits pick
-  printed-spaces = rw (is-values 0 3 w h)
-
-  printed-block : columns 5 6 (lettered w e) ≡ decimal 2 (e .block)
-  unfolding lettered values decimal leadingDigits
-  printed-block = rw (is-values 0 3 w h)
-
-  printed-class : columns 8 9 (lettered w e) ≡ decimal 2 (e .class)
-  unfolding lettered values decimal leadingDigits
-  printed-class = rw (is-values 0 3 w h)
-
-  printed-first : columns 11 24 (lettered w e) ≡ decimal 14 (e .first)
-  unfolding lettered values decimal leadingDigits
-  printed-first = rw (is-values 0 3 w h)
-
-  printed-second : columns 26 39 (lettered w e) ≡ decimal 14 (e .second)
-  unfolding lettered values decimal leadingDigits
-  printed-second = rw (is-values 0 3 w h)
+  printed-columns = rw (is-values 0 3 w h) (refl, refl, refl, refl, refl)
 
   -- the layout is kept, whatever the letters are
   printed-layout : e .block < 100 → e .class < 100 → e .first ≤ limit → e .second ≤ limit
       → layoutOf (lettered w e) ≡ Kept (record { block = e .block; class = e .class; first = e .first; second = e .second })
   unfolding layoutOf
   printed-layout hb hc hf hg =
+      let c = printed-columns in
       let p = read-back 2 (e .block) (omega arith) (omega arith) in
       let q = read-back 2 (e .class) (omega arith) (omega arith) in
       let r = read-back 14 (e .first) (omega arith) (omega arith) in
       let s = read-back 14 (e .second) (omega arith) (omega arith) in
-      if-true _ printed-spaces ∙ rw (printed-block, printed-class, printed-first, printed-second, p, q, r, s)
+      if-true _ (c .0) ∙ rw (c .1, c .2, c .3, c .4, p, q, r, s)
 
 printed-code : (k : Code) (e : Entry) → codeOf (lettered (lettersOf k) e) ≡ Known k
 unfolding codeAmong isCode lettered decimal leadingDigits pick
