@@ -1,16 +1,15 @@
 -- What the rules leave of a sheet: its blocks and amounts are accepted, its totals fit; so the sheet of a sound judgement is an accepted sheet,
 -- and a refusal's number and place are as they must be. The rules are walked once, by `by-rules`. Assumes nothing.
-use mathlib.Core.Path.{_≡_, refl, sym, _∙_, subst}
-use mathlib.Core.Bool.{Bool, true, false, true≢false}
+use mathlib.Core.Path.{_≡_, refl, subst}
+use mathlib.Core.Bool.{true, false}
 use mathlib.Core.List.{List, [], _∷_}
 use Prim.Native.Nat.{ℕ, _≤_}
 use native.Mathlib.Omega.{arith}
 use lib.Dec.{eqb, ltb}
 use lib.ListN.{length}
 use borrow.Author.Tests.{ltb-true, ltb-false, eqb-true, eqb-false}
-use Rattle.search.specs.Pick.{pick}
 use Rattle.search.specs.Each.{Each}
-use Rattle.search.proofs.Picks.{by-test, never, if-true, if-false}
+use Rattle.search.proofs.Picks.{by-test, never}
 use Rattle.search.proofs.Ascents.{few, each-ascending}
 use Rattle.refusal.specs.Outcome.{printed, Judging}
 use Rattle.refusal.specs.declared.Place.{Place}
@@ -73,19 +72,20 @@ module _ (es : List Entry) (all : Each AcceptedLine es) where
 block-within : (k : Code) (b c : ℕ) → ofBlock k ≡ true → Key k b c → (1 ≤ b) × (b ≤ blocks)
 block-within Rsk b c e v = (v .low, v .high)
 block-within Oth b c e v = (v .low, v .high)
-block-within Vol b c e v = absurd (true≢false (sym e))
-block-within Gen b c e v = absurd (true≢false (sym e))
+block-within Vol b c e v = never (cc)
+block-within Gen b c e v = never (cc)
 
 pub exists-within : (es : List Entry) → Each AcceptedLine es → (b : ℕ) → exists es b ≡ true → (1 ≤ b) × (b ≤ blocks)
 unfolding exists
-exists-within [] all b e = absurd (true≢false (sym e))
-exists-within (l ∷ es) all b e = go (exists-within es (all .1) b) (ofBlock (l .code)) refl (eqb (l .block) b) refl e
-  where
-    go : (exists es b ≡ true → (1 ≤ b) × (b ≤ blocks)) → (t : Bool) → ofBlock (l .code) ≡ t → (u : Bool) → eqb (l .block) b ≡ u
-        → pick t (pick u true (exists es b)) (exists es b) ≡ true → (1 ≤ b) × (b ≤ blocks)
-    go rest false p u q h = rest (sym (if-false _ refl) ∙ h)
-    go rest true p false q h = rest (sym (if-true _ refl ∙ if-false _ refl) ∙ h)
-    go rest true p true q h = rw (← eqb-true (l .block) b q) (block-within (l .code) (l .block) (l .class) p (all .0 .key))
+exists-within [] all b = λ e. never (cc)
+exists-within (l ∷ es) all b =
+    let within = exists-within es (all .1) b in
+    by-test (λ t. t ≡ true → (1 ≤ b) × (b ≤ blocks)) _ _ _
+    (λ p.
+    by-test (λ t. t ≡ true → (1 ≤ b) × (b ≤ blocks)) _ _ _
+    (λ q e. rw (← eqb-true (l .block) b q) (block-within (l .code) (l .block) (l .class) p (all .0 .key)))
+    (λ q. within))
+    (λ p. within)
 
 -- ---- the rules in their order, walked once
 

@@ -49,15 +49,11 @@ module _ (s : List ℕ) where
       module _ (a : Answer) (f g m : List ℕ) (F : Filled (reading s) a f g m) where
         pub bad-line : (n : ℕ) (p : Place) → a ≡ answer.Refused n p → refusal n p ≡ findings (judgement s)
         unfolding ruleLines findings
-        bad-line n p e = go (reading s) refl (sym (F .answer) ∙ ap ledger.stated e)
+        bad-line n p e = go (reading s) (sym (F .answer) ∙ ap ledger.stated e) ∙ sym (ap findings lined)
           where
-            go : (o : Reading) → reading s ≡ o → outcomeOf (reading s) ≡ ledger.stated (answer.Refused n p) → refusal n p ≡ findings (judgement s)
-            go (complete es) q c = let d : outcomeOf (complete es) ≡ ledger.stated (answer.Refused n p) = rw q at c in never (cc)
-            go (stopped es k i) q c =
-                let d : outcomeOf (stopped es k i) ≡ ledger.stated (answer.Refused n p) = rw q at c in
-                let u : n ≡ k = cc in
-                let v : p ≡ place.Line i = cc in
-                rw (lined, q, u, v)
+            go : (o : Reading) → outcomeOf o ≡ ledger.stated (answer.Refused n p) → refusal n p ≡ findings (ruleLines o)
+            go (complete es) c = never (cc)
+            go (stopped es k i) c = cc
 
         -- all lines are good
         module _ (k : ℕ) (e : a ≡ answer.Accepted k) where
@@ -69,7 +65,7 @@ module _ (s : List ℕ) where
               go (stopped es n i) c = never (cc)
 
           pub holds : Holds (entriesOf (reading s)) f g m
-          holds = record { first = F .first; second = F .second; mark = F .mark; lines = all-read s }
+          holds = record { tables = F .tables; lines = all-read s }
 
           pub good-lines : findings (rule12 (entriesOf (reading s))) ≡ findings (judgement s)
           unfolding ruleLines

@@ -14,16 +14,16 @@ use Rattle.judgement.specs.Steps.{Holds}
 
 module _ {es : List Entry} {f s m : List ℕ} (H : Holds es f s m) where
   pub exists-is : (b : ℕ) → 1 ≤ b → b ≤ blocks → blockMarked m b ≡ exists es b
-  exists-is b l h = rw (H .mark) (exists-table es b (H .lines) (l, h))
+  exists-is b l h = rw (H .tables .mark) (exists-table es b (H .lines) (l, h))
 
   pub numbers-are : (b : ℕ) → 1 ≤ b → b ≤ blocks → blockBy (tabled f) (tabled s) b ≡ blockOf es b
-  numbers-are b l h = rw (H .first, H .second) (block-table es (H .lines) b (l, h))
+  numbers-are b l h = rw (H .tables .first, H .tables .second) (block-table es (H .lines) b (l, h))
 
   pub volumes-are : volumesBy (tabled f) (tabled s) ≡ volumesOf es
-  volumes-are = rw (H .first, H .second) (volumes-table es (H .lines))
+  volumes-are = rw (H .tables .first, H .tables .second) (volumes-table es (H .lines))
 
   pub general-is : (c : ℕ) → (1 ≤ c) × (c ≤ generalClasses) → tabled f Gen 0 c ≡ generalAmount es c
-  general-is c h = rw (H .first) (general-table es (H .lines) c h)
+  general-is c h = rw (H .tables .first) (general-table es (H .lines) c h)
 
   pub scalar-is : hasMark m Gen 0 scalarClass ≡ hasLine es Gen 0 scalarClass
-  scalar-is = rw (H .mark) (scalar-table es (H .lines))
+  scalar-is = rw (H .tables .mark) (scalar-table es (H .lines))

@@ -9,8 +9,7 @@ use Rattle.guideline.specs.Sizes.{rowNumbers, tableNumbers}
 use Rattle.guideline.specs.Buffer.{sumK}
 use Rattle.sheet_line.specs.declared.Entry.{Entry}
 use Rattle.sheet_line.specs.Rules.{AcceptedLine}
-use Rattle.ledger.specs.Entries.{firstOf, secondOf, markOf}
-use Rattle.ledger.specs.Tables.{table}
+use Rattle.ledger.specs.Tables.{TablesOf}
 use Rattle.judgement.specs.Sheet.{blocksTo, rowsTo}
 use Rattle.judgement.specs.Judgement.{Judgement}
 use Rattle.judgement.specs.Judgement.Judgement.{sound}
@@ -18,9 +17,7 @@ use Rattle.judgement.specs.declared.Worked.{Worked}
 
 -- the tables hold these lines, which no rule of a line turns away
 pub record Holds (es : List Entry) (firsts seconds marks : List ℕ) : Type 0 where
-  pub first : firsts ≡ table firstOf es
-  pub second : seconds ≡ table secondOf es
-  pub mark : marks ≡ table markOf es
+  pub tables : TablesOf es firsts seconds marks
   pub lines : Each AcceptedLine es
 
 -- the tables hold some lines

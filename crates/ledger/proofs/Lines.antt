@@ -19,10 +19,10 @@ use Rattle.sheet_line.specs.declared.Line.{Line}
 use Rattle.sheet_line.specs.declared.Line.the-variants.{Good, Refused}
 use Rattle.sheet_line.proofs.Accepted.{line-good}
 use Rattle.sheet_line.proofs.Refusals.{line-judging}
-use Rattle.ledger.specs.Entries.{firstOf, secondOf, markOf, hasLine, DistinctKeys}
+use Rattle.ledger.specs.Entries.{markOf, hasLine, DistinctKeys}
 use Rattle.ledger.specs.Reading.{Reading, onLine, readFrom, reading, entriesOf}
 use Rattle.ledger.specs.Reading.Reading.{complete, stopped}
-use Rattle.ledger.specs.Tables.{table, Empty, Filled, Entered, hasMark}
+use Rattle.ledger.specs.Tables.{table, TablesOf, Empty, Filled, Entered, hasMark}
 use Rattle.ledger.specs.declared.Answer.the-variants as answer
 use Rattle.ledger.proofs.Keys.{New, distinct}
 use Rattle.ledger.proofs.Indexes.{lookup-table}
@@ -111,15 +111,13 @@ pub record ReadTo (s f g m : List ℕ) (i : ℕ) : Type 0 where
   pub some : i ≤ length s / sheetLineBytes
   pub count : length seen ≡ i
   pub all : Each AcceptedLine seen
-  pub first : f ≡ table firstOf seen
-  pub second : g ≡ table secondOf seen
-  pub mark : m ≡ table markOf seen
+  pub tables : TablesOf seen f g m
   pub rest : readFrom (length s / sheetLineBytes - i) (i + 1) (drop (sheetLineBytes * i) s) seen ≡ reading s
 
 pub start : {f g m : List ℕ} (s : List ℕ) → Empty f g m → ReadTo s f g m 0
 start s p =
     let z : length s / sheetLineBytes - 0 ≡ length s / sheetLineBytes = omega arith in
-    record { seen = []; some = omega arith; count = refl; all = tt; first = p .first; second = p .second; mark = p .mark; rest = rw z }
+    record { seen = []; some = omega arith; count = refl; all = tt; tables = p; rest = rw z }
 
 -- the bytes of the line after i lines, as the code lends them
 abbrev pub lent : List ℕ → ℕ → List ℕ
@@ -133,7 +131,7 @@ module _ {s f g m : List ℕ} {i : ℕ} (B : ReadTo s f g m i) where
   done h =
       let e : reading s ≡ complete (B .seen) = sym (B .rest) ∙ read-none s (length s / sheetLineBytes) i (B .seen) h in
       let n : length s / sheetLineBytes ≡ length (B .seen) = omega (arith, B .count, B .some) in
-      rw e (record { answer = rw n; first = B .first; second = B .second; mark = B .mark })
+      rw e (record { answer = rw n; tables = B .tables })
 
   module _ (h : i < length s / sheetLineBytes) where
     more : readFrom (length s / sheetLineBytes - i) (i + 1) (drop (sheetLineBytes * i) s) (B .seen)
@@ -150,29 +148,28 @@ module _ {s f g m : List ℕ} {i : ℕ} (B : ReadTo s f g m i) where
     pub turned : {r : ℕ} → parseLine (lent s i) ≡ Refused r → Filled (reading s) (answer.Refused r (place.Line (i + 1))) f g m
     turned {r} q =
         let e : reading s ≡ stopped (B .seen) r (i + 1) = sym (B .rest) ∙ more ∙ on-refused _ _ _ q in
-        rw e (record { answer = refl; first = B .first; second = B .second; mark = B .mark })
+        rw e (record { answer = refl; tables = B .tables })
 
     module _ {e : Entry} (q : parseLine (lent s i) ≡ Good e) {t : Bool} (T : t ≡ hasMark m (e .code) (e .block) (e .class)) where
       -- the entry has a mark where its line stood before
       mark-is : hasLine (B .seen) (e .code) (e .block) (e .class) ≡ t
       mark-is =
-          sym (T ∙ rw (B .mark) (ap (λ (n : ℕ). ltb 0 n) (lookup-table markOf (B .seen) (e .code) (e .block) (e .class) (acceptable q .key) (B .all))))
+          sym (T ∙ rw (B .tables .mark) (ap (λ (n : ℕ). ltb 0 n) (lookup-table markOf (B .seen) (e .code) (e .block) (e .class) (acceptable q .key) (B .all))))
 
       pub twice : t ≡ true → Filled (reading s) (answer.Refused 11 (place.Line (i + 1))) f g m
       twice z =
           let r : reading s ≡ stopped (B .seen) 11 (i + 1) = sym (B .rest) ∙ more ∙ on-twice _ _ _ q (mark-is ∙ z) in
-          rw r (record { answer = refl; first = B .first; second = B .second; mark = B .mark })
+          rw r (record { answer = refl; tables = B .tables })
 
       pub again : t ≡ false → {f′ g′ m′ : List ℕ} → Entered e f g m f′ g′ m′ → ReadTo s f′ g′ m′ (i + 1)
       unfolding table
       again z E =
+          let held = B .tables in
           record {
             seen = e ∷ B .seen;
             some = omega arith;
             count = rw (B .count, add-one);
             all = (acceptable q, B .all);
-            first = E .first ∙ rw (B .first);
-            second = E .second ∙ rw (B .second);
-            mark = E .mark ∙ rw (B .mark);
+            tables = record { first = E .first ∙ rw (held .first); second = E .second ∙ rw (held .second); mark = E .mark ∙ rw (held .mark) };
             rest = sym (more ∙ on-new _ _ _ q (mark-is ∙ z)) ∙ B .rest;
           }

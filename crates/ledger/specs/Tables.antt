@@ -57,18 +57,20 @@ unfoldable pub table : (Entry → ℕ) → List Entry → List ℕ
 table f [] = replicate places 0
 table f (e ∷ es) = set (table f es) (indexFor e) (f e)
 
--- tables that hold no entry yet
-pub record Empty (firsts seconds marks : List ℕ) : Type 0 where
-  pub first : firsts ≡ table firstOf []
-  pub second : seconds ≡ table secondOf []
-  pub mark : marks ≡ table markOf []
+-- all that the three tables hold of some entries
+pub record TablesOf (es : List Entry) (firsts seconds marks : List ℕ) : Type 0 where
+  pub first : firsts ≡ table firstOf es
+  pub second : seconds ≡ table secondOf es
+  pub mark : marks ≡ table markOf es
 
--- the answer to a reading, and all that the tables hold after it
+-- tables that hold no entry yet
+abbrev pub Empty : List ℕ → List ℕ → List ℕ → Type 0
+Empty firsts seconds marks = TablesOf [] firsts seconds marks
+
+-- the answer to a reading, and the tables after it
 pub record Filled (o : Reading) (r : Answer) (firsts seconds marks : List ℕ) : Type 0 where
   pub answer : stated r ≡ outcomeOf o
-  pub first : firsts ≡ table firstOf (entriesOf o)
-  pub second : seconds ≡ table secondOf (entriesOf o)
-  pub mark : marks ≡ table markOf (entriesOf o)
+  pub tables : TablesOf (entriesOf o) firsts seconds marks
 
 -- an entry that is put into the tables, its mark with it
 pub record Entered (e : Entry) (f s m f′ s′ m′ : List ℕ) : Type 0 where

@@ -57,7 +57,8 @@ module _ (r : Row) (p : Printable r) where
       let n : length (printRow r ++ rest) ≡ reportLineBytes + length rest = rw (length-append, length-line (r .code) (r .block) (r .item) (r .number) (p .code)) in
       let e : length (printRow r ++ rest) / reportLineBytes ≡ suc (length rest / reportLineBytes) = omega arith in
       let t = line-parts rest in
-      rw (e, t .0, t .1, t .2)
+      let k = key code block item in
+      rw e (λ i. pick (equalBytes (t .0 i) k) (field (t .1 i)) (numberIn (length rest / reportLineBytes) (t .2 i) k))
 
 -- ---- columns 1–9 are the same where code, block and item are
 

@@ -87,9 +87,7 @@ record Read (f g : Field) (n : Numbers) : Type 0 where
   second : g ≡ Value (n .second)
 
 fields-read : (b c f g : Field) (n : Numbers) → fieldsOf b c f g ≡ Kept n → Read f g n
-fields-read (Value x) (Value y) (Value z) (Value w) n q =
-    let e : record { block = x; class = y; first = z; second = w } ≡ n = cc in
-    record { first = ap Value (ap (λ (m : Numbers). m .first) e); second = ap Value (ap (λ (m : Numbers). m .second) e) }
+fields-read (Value x) (Value y) (Value z) (Value w) n q = record { first = cc; second = cc }
 fields-read (Value x) (Value y) (Value z) Bad n q = never (cc)
 fields-read (Value x) (Value y) Bad g n q = never (cc)
 fields-read (Value x) Bad f g n q = never (cc)

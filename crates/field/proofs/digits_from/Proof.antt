@@ -23,12 +23,12 @@ loop-holds c = (search needs, (one-le-pow (c .before .args .from) 10 (omega arit
 returns : tie.Need-returns Inv-loop μ-loop
 returns c =
     let t = c .before .before in
-    sym (digits-low _ _ (t .loop-test .taken) _ (c .if1 .taken)) ∙ t .before .loop .inv .1 .1
+    sym (digits-low _ _ (t .loop-test .taken) _ (omega arith)) ∙ t .before .loop .inv .1 .1
 
 returns-2 : tie.Need-returns-2 Inv-loop μ-loop
 returns-2 c =
     let t = c .before .before .before in
-    sym (digits-high _ _ (t .loop-test .taken) _ (c .before .if1 .left) (c .if2 .taken)) ∙ t .before .loop .inv .1 .1
+    sym (digits-high _ _ (t .loop-test .taken) _ (omega arith) (omega arith)) ∙ t .before .loop .inv .1 .1
 
 mul-v : tie.Need-mul-v Inv-loop μ-loop
 mul-v c = omega (arith, columns-fit (c .before .before .before .before .loop .i) (omega arith))

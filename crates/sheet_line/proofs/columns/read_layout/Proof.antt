@@ -1,5 +1,6 @@
 -- Where the separators are right, the layout is that of the four fields, each read from its own columns. Assumes nothing.
-use Rattle.search.proofs.Sides.{tests}
+use mathlib.Core.Path.{_∙_}
+use Rattle.search.proofs.Sides.{side-not-not, tests}
 use Rattle.sheet_line.specs.Line.{layoutOf}
 use Rattle.sheet_line.proofs.columns.read_layout.Statement.{statement}
 use Rattle.sheet_line.proofs.columns.read_layout.Tie as tie
@@ -16,4 +17,6 @@ read-layout-spec =
     let first = second .before .before in
     let class = first .before .before in
     let block = class .before .before in
-    search (tests, ← block .read-field .ensures, ← class .read-field2 .ensures, ← first .read-field3 .ensures, ← second .read-field4 .ensures)))
+    let test = block .before .before in
+    side-not-not _ _ _ _ _ (test .before .separated .ensures) (test .if1 .left)
+    (c .fields-of .ensures ∙ rw (block .read-field .ensures, class .read-field2 .ensures, first .read-field3 .ensures, second .read-field4 .ensures))))
