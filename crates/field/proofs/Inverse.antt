@@ -4,14 +4,15 @@ use mathlib.Core.Path.{_≡_, refl, sym, ap, _∙_}
 use mathlib.Core.List.{List, [], _∷_, _++_, append-nil}
 use Prim.Native.Nat.{ℕ, zero, suc, _+_, _-_, _*_, _/_, _%_, _^_, _≤_, _<_}
 use native.Mathlib.Nat.{pow-le-pow-right, add-zero, zero-add, lt-of-lt-of-le, one-le-pow}
-use native.Mathlib.Decide.{decLe, ℕ-discrete}
+use native.Mathlib.Decide.{ℕ-discrete}
 use native.Mathlib.Omega.{arith}
 use lib.ListN.{length}
 use lib.Seq.{append-snoc}
-use Rattle.search.proofs.Picks.{if-true, if-false, if-eq, if-ne, if-lt, if-ge, never}
+use borrow.Author.Tests.{ltb-false, eqb-true, eqb-false}
+use Rattle.search.proofs.Picks.{if-true, if-false, if-eq, if-ne, if-ge, by-test, never}
 use Rattle.field.specs.Field.{field, digits, zeroOnly, digitOrSpace, leadingDigits, decimal}
 use Rattle.field.specs.declared.Field.{Field}
-use Rattle.field.specs.declared.Field.the-variants.{Value, Bad}
+use Rattle.field.specs.declared.Field.the-variants.{Value}
 use Rattle.field.proofs.Reading.{grows}
 
 -- ---- a digit, and what no digit is
@@ -31,17 +32,17 @@ record Spelled (u b : ℕ) (t : List ℕ) (r : ℕ) : Type 0 where
 
 spelled : (u b : ℕ) (t : List ℕ) (r : ℕ) → digits u (b ∷ t) ≡ Value r → Spelled u b t r
 unfolding digits
-spelled u b t r q =
-    elim (decLe 48 b) [
-      | no n ↦ let l : b < 48 = omega arith in bad (if-lt _ l)
-      | yes l ↦ elim (decLe b 57) [
-        | no n ↦ let h : 57 < b = omega arith in bad (if-ge _ l ∙ if-lt _ h)
-        | yes h ↦ record { low = l; high = h; rest = sym (digit-read u b t l h) ∙ q }
-      ]
-    ]
-  where
-    bad : digits u (b ∷ t) ≡ Bad → Spelled u b t r
-    bad p = never (cc)
+spelled u b t r =
+    by-test (λ f. f ≡ Value r → Spelled u b t r) _ _ _ (λ l q. never (cc)) λ l.
+    by-test (λ f. f ≡ Value r → Spelled u b t r) _ _ _ (λ h q. never (cc)) λ h q.
+    record { low = ltb-false _ _ l; high = ltb-false _ _ h; rest = q }
+
+-- what holds of what a field's first column leads to holds of its number: a space, a leading zero, another byte
+by-first : (P : Field → Type 0) (b : ℕ) (bs : List ℕ) → (b ≡ 32 → P (field bs)) → (b ≡ 48 → P (zeroOnly bs))
+    → ((b ≡ 48 → ⊥) → P (digits 0 (b ∷ bs))) → P (field (b ∷ bs))
+unfolding field
+by-first P b bs space zeros digit =
+    by-test P _ _ _ (λ x. space (eqb-true _ _ x)) λ x. by-test P _ _ _ (λ y. zeros (eqb-true _ _ y)) (λ y. digit (eqb-false _ _ y))
 
 -- ---- a field's number has no more digits than the field has columns
 
@@ -59,17 +60,12 @@ only-zero (b ∷ bs) r q = never (cc)
 
 pub field-bound : (s : List ℕ) (r : ℕ) → field s ≡ Value r → r < 10 ^ length s
 unfolding field
-field-bound [] r q = never (cc)
-field-bound (b ∷ bs) r q =
-    elim (ℕ-discrete b 32) [
-      | yes x ↦ lt-of-lt-of-le (field-bound bs r (sym (if-eq _ x) ∙ q)) (pow-le-pow-right (omega arith) (omega arith))
-      | no x ↦ elim (ℕ-discrete b 48) [
-        | yes y ↦ rw (only-zero bs r (sym (if-ne _ x ∙ if-eq _ y) ∙ q)) (one-le-pow (suc (length bs)) 10 (omega arith))
-        | no y ↦
-            let z : 0 < 10 ^ 0 = omega arith in
-            rw zero-add at (digits-bound (b ∷ bs) 0 0 r z (sym (if-ne _ x ∙ if-ne _ y) ∙ q))
-      ]
-    ]
+field-bound [] r = λ q. never (cc)
+field-bound (b ∷ bs) r =
+    by-first (λ f. f ≡ Value r → r < 10 ^ suc (length bs)) b bs
+    (λ x q. lt-of-lt-of-le (field-bound bs r q) (pow-le-pow-right (omega arith) (omega arith)))
+    (λ y q. rw (only-zero bs r q) (one-le-pow (suc (length bs)) 10 (omega arith)))
+    (λ y q. let z : 0 < 10 ^ 0 = omega arith in rw zero-add at (digits-bound (b ∷ bs) 0 0 r z q))
 
 -- ---- what is written is read back
 
@@ -174,14 +170,8 @@ some-column (b ∷ bs) r q = omega arith
 
 pub written-back : (s : List ℕ) (r : ℕ) → field s ≡ Value r → s ≡ decimal (length s) r
 unfolding field
-written-back [] r q = never (cc)
-written-back (b ∷ bs) r q =
-    elim (ℕ-discrete b 32) [
-      | yes x ↦
-          let p : field bs ≡ Value r = sym (if-eq _ x) ∙ q in
-          rw x (ap (λ (l : List ℕ). 32 ∷ l) (written-back bs r p) ∙ sym (space-decimal (length bs) r (some-column bs r p) (field-bound bs r p)))
-      | no x ↦ elim (ℕ-discrete b 48) [
-        | yes y ↦ rw y (zero-written bs r (sym (if-ne _ x ∙ if-eq _ y) ∙ q))
-        | no y ↦ digits-written b bs r y (sym (if-ne _ x ∙ if-ne _ y) ∙ q)
-      ]
-    ]
+written-back [] r = λ q. never (cc)
+written-back (b ∷ bs) r =
+    by-first (λ f. f ≡ Value r → b ∷ bs ≡ decimal (suc (length bs)) r) b bs
+    (λ x p. rw x (ap (λ (l : List ℕ). 32 ∷ l) (written-back bs r p) ∙ sym (space-decimal (length bs) r (some-column bs r p) (field-bound bs r p))))
+    (λ y q. rw y (zero-written bs r q)) (digits-written b bs r)

@@ -28,7 +28,7 @@ use Rattle.sheet_line.specs.Rules.{AcceptedLine}
 use Rattle.ledger.specs.Entries.{ofBlock, exists, hasLine, DistinctKeys, blockOf}
 use Rattle.ledger.specs.Reading.{Reading, reading}
 use Rattle.ledger.specs.Reading.Reading.{complete, stopped}
-use Rattle.ledger.proofs.Bounds.{block-sound, length-volumes, volumes-most, general-most, scalar-within}
+use Rattle.ledger.proofs.Bounds.{block-ruled, length-volumes, volumes-most, general-most, scalar-within}
 use Rattle.ledger.specs.Tables.{mostLines, longestSheet}
 use Rattle.ledger.proofs.Lines.{all-read, reading-distinct, reading-stopped}
 use Rattle.judgement.specs.Sheet.{blocksTo, sheetOf}
@@ -42,7 +42,7 @@ few-blocks es n = few (exists es) (blockOf es) n
 
 module _ (es : List Entry) (all : Each AcceptedLine es) where
   pub block-accepted : (b : ℕ) → AcceptedBlock (blockOf es b)
-  block-accepted b = let s = block-sound es all b in accepted-of (blockOf es b) (s .amounts) (s .last) (s .trend)
+  block-accepted b = let s = block-ruled es all b in accepted-of (blockOf es b) (s .amounts) (s .last) (s .trend)
 
   pub blocks-accepted : (n : ℕ) → Each AcceptedBlock (blocksTo es n)
   unfolding blocksTo

@@ -109,9 +109,9 @@ module _ (es : List Entry) (all : Each AcceptedLine es) where
       pairs-most _ _ (λ i. first-most es all Rsk b (i + 1)) (λ i. second-most es all Rsk b (i + 1)) riskClasses _
       (first-most es all Oth b 1, (first-most es all Oth b 2, (first-most es all Oth b 3, tt)))
 
-  pub block-sound : (b : ℕ) → RuledNumbers (blockOf es b)
+  pub block-ruled : (b : ℕ) → RuledNumbers (blockOf es b)
   unfolding blockBy
-  block-sound b =
+  block-ruled b =
       record {
         long = simp (length-append, length-pairs);
         amounts = each-at Amount 0 (omega arith) (blockOf es b) (block-amounts b);

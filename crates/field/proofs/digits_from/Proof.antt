@@ -30,12 +30,6 @@ returns-2 c =
     let t = c .before .before .before in
     sym (digits-high _ _ (t .loop-test .taken) _ (omega arith) (omega arith)) ∙ t .before .loop .inv .1 .1
 
-mul-v : tie.Need-mul-v Inv-loop μ-loop
-mul-v c = omega (arith, columns-fit (c .before .before .before .before .loop .i) (omega arith))
-
-add-v : tie.Need-add-v Inv-loop μ-loop
-add-v c = omega (arith, columns-fit (c .before .before .before .before .before .loop .i) (omega arith))
-
 loop-again : tie.Need-loop-again Inv-loop μ-loop
 loop-again c =
     let h = c .before in
@@ -57,5 +51,7 @@ pub digits-from-spec : {M : Type 1} → statement M
 digits-from-spec =
     tie.close
     (tie.spec
-    Inv-loop μ-loop loop-holds (λ c. search needs) returns returns-2 mul-v (λ c κs. search needs) (λ c. search needs) add-v (λ c. search needs) (λ c.
-    search needs) loop-again returns-3)
+    Inv-loop μ-loop loop-holds (λ c. search needs) returns returns-2
+    (λ c. omega (arith, columns-fit (c .before .before .before .before .loop .i) (omega arith))) (λ c κs. search needs) (λ c. search needs)
+    (λ c. omega (arith, columns-fit (c .before .before .before .before .before .loop .i) (omega arith))) (λ c. search needs)
+    (λ c. search needs) loop-again returns-3)

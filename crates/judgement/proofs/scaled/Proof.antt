@@ -10,11 +10,9 @@ use Rattle.judgement.proofs.scaled.Tie as tie
 room : (c : tie.Start) → (c .args .g * (c .args .bracket / tenThousandths) < 2 ^ 57) × (c .args .g * (c .args .bracket % tenThousandths) < 2 ^ 28)
 room c = split-fits _ _ (c .pre .0) (c .pre .1)
 
-returns : tie.Need-returns
-returns c = buffer-split _ _ (c .pre .0) (c .pre .1)
-
 pub scaled-spec : {M : Type 1} → statement M
 scaled-spec =
     tie.close
     (tie.spec
-    (λ c. omega (arith, room c)) (λ c. omega (arith, room c)) (λ c. search needs) (λ c. omega (arith, room c)) (λ c. omega (arith, room c)) returns)
+    (λ c. omega (arith, room c)) (λ c. omega (arith, room c)) (λ c. search needs) (λ c. omega (arith, room c)) (λ c. omega (arith, room c))
+    (λ c. buffer-split _ _ (c .pre .0) (c .pre .1)))

@@ -6,9 +6,6 @@ use Rattle.judgement.proofs.Figured.{row-put}
 use Rattle.judgement.proofs.store.Statement.{statement}
 use Rattle.judgement.proofs.store.Tie as tie
 
-returns : tie.Need-returns
-returns c = rw (c .word .ensures) (row-put _ _ _ _ _ _ _ _ (c .before .before .pre))
-
 pub store-spec : {M : Type 1} → statement M
 store-spec =
     tie.close
@@ -16,4 +13,5 @@ store-spec =
     (λ c κs. search needs) (λ c. search needs) (λ c. search needs) (λ c. search needs) (λ c. search needs) (λ c. simp length-set (omega arith))
     (λ c. search needs) (λ c. search needs) (λ c. simp length-set (omega arith)) (λ c. search needs) (λ c. search needs)
     (λ c. simp length-set (omega arith)) (λ c. search needs) (λ c. search needs) (λ c. simp length-set (omega arith)) (λ c. search needs)
-    (λ c. search needs) (λ c. simp length-set (omega arith)) (λ c. search needs) returns)
+    (λ c. search needs) (λ c. simp length-set (omega arith)) (λ c. search needs)
+    (λ c. rw (c .word .ensures) (row-put _ _ _ _ _ _ _ _ (c .before .before .pre))))

@@ -3,10 +3,5 @@ use borrow.Author.Needs.{needs}
 use Rattle.ledger.proofs.general_amount.Statement.{statement}
 use Rattle.ledger.proofs.general_amount.Tie as tie
 
-returns : tie.Need-returns
-returns c = rw (c .before .index-of .ensures .0)
-
 pub general-amount-spec : {M : Type 1} → statement M
-general-amount-spec =
-    tie.close (tie.spec
-    (λ c κs. search needs) (λ c. search needs) (λ c. search needs) returns)
+general-amount-spec = tie.close (tie.spec (λ c κs. search needs) (λ c. search needs) (λ c. search needs) (λ c. rw (c .before .index-of .ensures .0)))

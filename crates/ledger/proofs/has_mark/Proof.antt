@@ -3,8 +3,5 @@ use borrow.Author.Needs.{needs}
 use Rattle.ledger.proofs.has_mark.Statement.{statement}
 use Rattle.ledger.proofs.has_mark.Tie as tie
 
-returns : tie.Need-returns
-returns c = rw (c .before .index-of .ensures .0)
-
 pub has-mark-spec : {M : Type 1} → statement M
-has-mark-spec = tie.close (tie.spec (λ c κs. search needs) (λ c. search needs) returns)
+has-mark-spec = tie.close (tie.spec (λ c κs. search needs) (λ c. search needs) (λ c. rw (c .before .index-of .ensures .0)))

@@ -11,15 +11,6 @@ use Rattle.ledger.proofs.index_of.Tie as tie
 bounded : (s : tie.Start) → (s .args .block ≤ blocks) × (columnsBefore (s .args .code) + s .args .class ≤ rowPlaces)
 bounded s = (omega (arith, block-most (s .args .code)), omega (arith, column-most (s .args .code)))
 
-mul-result : tie.Need-mul-result
-mul-result c = omega (arith, bounded c .0)
-
-add-result : tie.Need-add-result
-add-result c = let b = bounded (c .before) in omega arith
-
-add-result-2 : tie.Need-add-result-2
-add-result-2 c = let b = bounded (c .before) in omega arith
-
 returns : tie.Need-returns
 unfolding indexOf
 returns c = let b = bounded (c .before) in (rw (c .columns-before .ensures), omega arith)
@@ -28,4 +19,5 @@ pub index-of-spec : {M : Type 1} → statement M
 index-of-spec =
     tie.close
     (tie.spec
-    mul-result (λ c κs. search needs) add-result add-result-2 (λ c. search needs) returns)
+    (λ c. omega (arith, bounded c .0)) (λ c κs. search needs) (λ c. let b = bounded (c .before) in omega arith)
+    (λ c. let b = bounded (c .before) in omega arith) (λ c. search needs) returns)

@@ -4,8 +4,9 @@ use borrow.Author.Needs.{needs}
 use Rattle.ledger.proofs.stood_before.Statement.{statement}
 use Rattle.ledger.proofs.stood_before.Tie as tie
 
-returns : tie.Need-returns
-returns c = c .has-mark .ensures ∙ rw (c .before .before .size .ensures, c .before .size2 .ensures)
-
 pub stood-before-spec : {M : Type 1} → statement M
-stood-before-spec = tie.close (tie.spec (λ c κs. search needs) (λ c κs. search needs) (λ c κs. search needs) returns)
+stood-before-spec =
+    tie.close
+    (tie.spec
+    (λ c κs. search needs) (λ c κs. search needs) (λ c κs. search needs)
+    (λ c. c .has-mark .ensures ∙ rw (c .before .before .size .ensures, c .before .size2 .ensures)))
