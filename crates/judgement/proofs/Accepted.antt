@@ -7,7 +7,7 @@ use Prim.Native.Nat.{ℕ, _≤_}
 use native.Mathlib.Omega.{arith}
 use lib.Dec.{eqb, ltb}
 use lib.ListN.{length}
-use borrow.Author.Tests.{ltb-true, ltb-false, eqb-true, eqb-false}
+use borrow.Author.Tests.{ltb-true, ltb-false, eqb-true}
 use Rattle.search.specs.Each.{Each}
 use Rattle.search.proofs.Picks.{by-test, never}
 use Rattle.search.proofs.Ascents.{few, each-ascending}
@@ -25,6 +25,7 @@ use Rattle.sheet_line.specs.declared.Code.{Code}
 use Rattle.sheet_line.specs.declared.Code.the-variants.{Rsk, Oth, Vol, Gen}
 use Rattle.sheet_line.specs.declared.Entry.{Entry}
 use Rattle.sheet_line.specs.Rules.{AcceptedLine}
+use Rattle.sheet_line.proofs.Refusals.{judging}
 use Rattle.ledger.specs.Entries.{ofBlock, exists, hasLine, DistinctKeys, blockOf}
 use Rattle.ledger.specs.Reading.{Reading, reading}
 use Rattle.ledger.specs.Reading.Reading.{complete, stopped}
@@ -100,7 +101,7 @@ module _ (s : List ℕ) (P : Judgement → Type 0) (refused : (n : ℕ) (p : Pla
     (passed : (es : List Entry) → Passed s es → P (sound es)) where
   -- a rule that has no place
   nowhere : (n : ℕ) → eqb n 0 ≡ false → eqb n 14 ≡ false → ltb n 100 ≡ true → P (turnedAway n Nowhere)
-  nowhere n z w h = refused n Nowhere (record { not-0 = eqb-false n 0 z; not-14 = eqb-false n 14 w; two-columns = ltb-true n 100 h }) (omega arith)
+  nowhere n z w h = refused n Nowhere (judging n z w h) (omega arith)
 
   after-12 : (es : List Entry) → reading s ≡ complete es → Each AcceptedLine es → P (rule12 es)
   unfolding rule12 rule13

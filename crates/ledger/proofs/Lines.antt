@@ -1,5 +1,5 @@
 -- The lines of a sheet read into the tables: what holds of every reading, and what the tables hold after i lines. Assumes nothing.
-use mathlib.Core.Path.{_≡_, refl, sym, ap, _∙_}
+use mathlib.Core.Path.{_≡_, refl, sym, ap, _∙_, subst}
 use mathlib.Core.List.{List, [], _∷_}
 use mathlib.Core.Bool.{Bool, true, false}
 use Prim.Native.Nat.{ℕ, zero, suc, _+_, _-_, _*_, _/_, _≤_, _<_}
@@ -18,7 +18,7 @@ use Rattle.sheet_line.specs.declared.Entry.{Entry}
 use Rattle.sheet_line.specs.declared.Line.{Line}
 use Rattle.sheet_line.specs.declared.Line.the-variants.{Good, Refused}
 use Rattle.sheet_line.proofs.Accepted.{line-good}
-use Rattle.sheet_line.proofs.Refusals.{line-judging}
+use Rattle.sheet_line.proofs.Refusals.{judging, line-judging}
 use Rattle.ledger.specs.Entries.{markOf, hasLine, DistinctKeys}
 use Rattle.ledger.specs.Reading.{Reading, onLine, readFrom, reading, entriesOf}
 use Rattle.ledger.specs.Reading.Reading.{complete, stopped}
@@ -94,10 +94,7 @@ module _ (es : List Entry) (r j : ℕ) where
   stopped-from (suc n) i s seen =
       by-line i seen _ (λ o. o ≡ stopped es r j → Judging r × (j < i + suc n)) (parseLine (take sheetLineBytes s))
       (λ m p q. let e : m ≡ r = cc in let k : i ≡ j = cc in (line-judging (take sheetLineBytes s) r (rw e at p), omega arith))
-      (λ q.
-      let e : 11 ≡ r = cc in
-      let k : i ≡ j = cc in
-      (record { not-0 = λ z. omega arith; not-14 = λ z. omega arith; two-columns = omega arith }, omega arith))
+      (λ q. let e : 11 ≡ r = cc in let k : i ≡ j = cc in (subst Judging e (judging 11 refl refl refl), omega arith))
       (λ e p t q. let w = stopped-from n (i + 1) (drop sheetLineBytes s) (e ∷ seen) q in (w .0, omega (arith, w .1)))
 
 pub reading-stopped : (s : List ℕ) (es : List Entry) (n i : ℕ) → reading s ≡ stopped es n i → Judging n × (i ≤ length s / sheetLineBytes)

@@ -18,15 +18,17 @@ use Rattle.sheet_line.specs.declared.Entry.{Entry}
 use Rattle.sheet_line.specs.declared.Line.{Line}
 use Rattle.sheet_line.specs.declared.Line.the-variants.{Refused}
 
+-- a rule's number, by three computed tests
+pub judging : (m : ℕ) → eqb m 0 ≡ false → eqb m 14 ≡ false → ltb m 100 ≡ true → Judging m
+judging m z w h = record { not-0 = eqb-false m 0 z; not-14 = eqb-false m 14 w; two-columns = ltb-true m 100 h }
+
 module _ (n : ℕ) where
   -- where a line is refused by n, n is the number of a rule
   abbrev Judges : Line → Type 0
   Judges l = l ≡ Refused n → Judging n
 
   judges : (m : ℕ) → eqb m 0 ≡ false → eqb m 14 ≡ false → ltb m 100 ≡ true → Judges (Refused m)
-  judges m z w h q =
-      let e : m ≡ n = cc in
-      subst Judging e (record { not-0 = eqb-false m 0 z; not-14 = eqb-false m 14 w; two-columns = ltb-true m 100 h })
+  judges m z w h q = let e : m ≡ n = cc in subst Judging e (judging m z w h)
 
   rules-judge : (e : Entry) → Judges (rule5 e)
   unfolding rule5 rule6 rule8 rule9 rule10
