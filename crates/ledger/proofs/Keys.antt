@@ -27,10 +27,6 @@ ranked-rank Vol = refl
 ranked-rank Gen = refl
 
 module _ (k : Code) (b c : ℕ) (e : Entry) where
-  pub has-key : SameKey k b c e → hasKey k b c e ≡ true
-  unfolding hasKey
-  has-key s = if-eq _ (ap rank (s .code)) ∙ if-eq _ (s .block) ∙ eq-eqb _ _ (s .class)
-
   rank-one : rank k ≡ rank (e .code) → k ≡ e .code
   rank-one q = sym (ranked-rank k) ∙ ap ranked q ∙ ranked-rank (e .code)
 
@@ -43,6 +39,10 @@ module _ (k : Code) (b c : ℕ) (e : Entry) where
       (λ q r. record { code = rank-one (eqb-true _ _ p); block = eqb-true _ _ q; class = eqb-true _ _ r })
       (λ q r. never (cc)))
       (λ p r. never (cc))
+
+  pub has-key : SameKey k b c e → hasKey k b c e ≡ true
+  unfolding hasKey
+  has-key s = if-eq _ (ap rank (s .code)) ∙ if-eq _ (s .block) ∙ eq-eqb _ _ (s .class)
 
   pub no-key : (SameKey k b c e → ⊥) → hasKey k b c e ≡ false
   no-key n = go (hasKey k b c e) refl

@@ -1,7 +1,7 @@
 -- What a line that no rule turns away guarantees of its entry: what each rule's test leaves, and the rules one after the other. Assumes nothing.
 use mathlib.Core.Path.{_≡_, refl, sym, _∙_, subst}
 use mathlib.Core.List.{List}
-use mathlib.Core.Bool.{true, false}
+use mathlib.Core.Bool.{false}
 use Prim.Native.Nat.{ℕ, _+_, _^_, _≤_, _<_}
 use native.Mathlib.Omega.{arith}
 use lib.ListN.{length, take, drop, length-drop}
@@ -13,12 +13,10 @@ use Rattle.field.specs.Field.{field}
 use Rattle.field.specs.declared.Field.{Field}
 use Rattle.field.specs.declared.Field.the-variants.{Value, Bad}
 use Rattle.field.proofs.Inverse.{field-bound}
-use Rattle.guideline.specs.Sizes.{largestScalar}
 use Rattle.sheet_line.specs.Codes.{Key, codeOf}
 use Rattle.sheet_line.specs.Line.{sheetLineBytes, columns, fieldsOf, layoutOf}
-use Rattle.sheet_line.specs.Rules.{outside, blockOutside, classOutside, singleOf, secondBarred, hasTrend, trendAbove, isScalar, scalarOutside}
+use Rattle.sheet_line.specs.Rules.{outside, blockOutside, classOutside, secondBarred, trendAbove, scalarOutside}
 use Rattle.sheet_line.specs.Rules.{rule3, rule5, rule6, rule8, rule9, rule10, entryOf, parseLine, AcceptedLine}
-use Rattle.sheet_line.specs.declared.Code.{Code}
 use Rattle.sheet_line.specs.declared.codes.Coded.{Coded}
 use Rattle.sheet_line.specs.declared.codes.Coded.the-variants.{Known, Unknown}
 use Rattle.sheet_line.specs.declared.columns.Numbers.{Numbers}
@@ -40,18 +38,6 @@ key-of e p q =
     let c = inside _ _ _ q in
     record { low = b .0; high = b .1; one = c .0; most = c .1 }
 
-single-of : (k : Code) (c second : ℕ) → secondBarred k c second ≡ false → singleOf k c ≡ true → second ≡ 0
-unfolding secondBarred
-single-of k c second q s = eqb-true _ _ (not-false _ (sym (if-true _ s) ∙ q))
-
-trend-of : (k : Code) (first second : ℕ) → trendAbove k first second ≡ false → hasTrend k ≡ true → second ≤ first
-unfolding trendAbove
-trend-of k first second q s = ltb-false _ _ (sym (if-true _ s) ∙ q)
-
-scalar-of : (k : Code) (c first : ℕ) → scalarOutside k c first ≡ false → isScalar k c ≡ true → (1 ≤ first) × (first ≤ largestScalar)
-unfolding scalarOutside
-scalar-of k c first q s = inside _ _ _ (sym (if-true _ s) ∙ q)
-
 -- ---- rules 5 to 10
 
 module _ (e : Entry) (a : e .first ≤ limit) (b : e .second ≤ limit) (d : Entry) where
@@ -60,7 +46,7 @@ module _ (e : Entry) (a : e .first ≤ limit) (b : e .second ≤ limit) (d : Ent
   Accepts l = l ≡ Good d → AcceptedLine d
 
   rules-leave : Accepts (rule5 e)
-  unfolding rule5 rule6 rule8 rule9 rule10
+  unfolding rule5 rule6 rule8 rule9 rule10 secondBarred trendAbove scalarOutside
   rules-leave =
       by-test Accepts _ _ _ (λ t q. never (cc)) λ r5.
       by-test Accepts _ _ _ (λ t q. never (cc)) λ r6.
@@ -74,9 +60,9 @@ module _ (e : Entry) (a : e .first ≤ limit) (b : e .second ≤ limit) (d : Ent
         amounts = record {
           first-most = a;
           second-most = b;
-          single = single-of (e .code) (e .class) (e .second) r8;
-          trend = trend-of (e .code) (e .first) (e .second) r9;
-          scalar = scalar-of (e .code) (e .class) (e .first) r10;
+          single = λ s. eqb-true _ _ (not-false _ (sym (if-true _ s) ∙ r8));
+          trend = λ s. ltb-false _ _ (sym (if-true _ s) ∙ r9);
+          scalar = λ s. inside _ _ _ (sym (if-true _ s) ∙ r10);
         };
       })
 
