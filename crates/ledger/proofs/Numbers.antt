@@ -6,7 +6,7 @@ use Prim.Native.Nat.{ℕ, zero, suc, _+_, _*_, _/_, _%_, _≤_, _<_}
 use native.Mathlib.Numerals.{add-one}
 use native.Mathlib.Omega.{arith}
 use lib.Dec.{ltb}
-use lib.ListN.{length, set}
+use lib.ListN.{length, getD, set}
 use Rattle.search.specs.Each.{Each}
 use Rattle.search.proofs.Stretches.{Wrote, nothing, next, all-written}
 use Rattle.guideline.specs.Sizes.{blocks, blockNumbers, volumeClasses, volumeNumbers, volumePairs}
@@ -16,43 +16,43 @@ use Rattle.sheet_line.specs.declared.Code.{Code}
 use Rattle.sheet_line.specs.declared.Code.the-variants.{Rsk, Oth, Vol, Gen}
 use Rattle.sheet_line.specs.declared.Entry.{Entry}
 use Rattle.ledger.specs.Entries.{lookup, firstOf, secondOf, markOf, hasLine, pairs, blockBy, volumesBy, blockOf, volumesOf, generalAmount}
-use Rattle.ledger.specs.Tables.{table, tabled, hasMark}
+use Rattle.ledger.specs.Tables.{indexOf, table, tabled, hasMark}
 use Rattle.ledger.proofs.Indexes.{lookup-table}
 
 -- ---- a list written pair by pair
 
--- i pairs are written
-abbrev pub WrotePairs : (ℕ → ℕ) → (ℕ → ℕ) → List ℕ → ℕ → List ℕ → Type 0
-WrotePairs f g l₀ i l = Wrote l₀ (2 * i) (pairs f g i) l
+-- i pairs of two tables are written, each taken at its own index
+pub record Copied (firsts seconds : List ℕ) (index : ℕ → ℕ) (l₀ : List ℕ) (i : ℕ) (l : List ℕ) : Type 0 where
+  pub wrote : Wrote l₀ (2 * i) (pairs (λ j. getD firsts (index j) 0) (λ j. getD seconds (index j) 0) i) l
 
-pub no-pair : (f g : ℕ → ℕ) (l : List ℕ) → WrotePairs f g l 0 l
-unfolding pairs
-no-pair f g l = nothing l
+module _ {firsts seconds : List ℕ} {index : ℕ → ℕ} {l₀ : List ℕ} where
+  pub no-pair : Copied firsts seconds index l₀ 0 l₀
+  unfolding pairs
+  no-pair = record { wrote = nothing l₀ }
 
-pub next-pair : (f g : ℕ → ℕ) {i : ℕ} {l₀ l : List ℕ} {x y : ℕ} → WrotePairs f g l₀ i l → 2 * i + 1 < length l₀ → x ≡ f i → y ≡ g i
-    → WrotePairs f g l₀ (i + 1) (set (set l (2 * i) x) (2 * i + 1) y)
-unfolding pairs
-next-pair f g {i} W h p q =
-    let e : 2 * (i + 1) ≡ suc (suc (2 * i)) = omega arith in
-    rw (e, add-one i, add-one (2 * i), p, q) (next (next W (f i) (omega arith)) (g i) (omega arith))
+  pub next-pair : {i at : ℕ} {l : List ℕ} → Copied firsts seconds index l₀ i l → 2 * i + 1 < length l₀ → at ≡ index i
+      → Copied firsts seconds index l₀ (i + 1) (set (set l (2 * i) (getD firsts at 0)) (2 * i + 1) (getD seconds at 0))
+  unfolding pairs
+  next-pair {i} W h p =
+      let e : 2 * (i + 1) ≡ suc (suc (2 * i)) = omega arith in
+      record { wrote = rw (e, add-one i, add-one (2 * i), p) (next (next (W .wrote) (getD firsts (index i) 0) (omega arith)) (getD seconds (index i) 0) (omega arith)) }
 
 -- the pairs of a block, and the three amounts after them
-pub block-written : (first second : Code → ℕ → ℕ → ℕ) {b : ℕ} {l₀ l : List ℕ} {x y z i : ℕ} → length l₀ ≡ blockNumbers
-    → WrotePairs (λ j. first Rsk b (j + 1)) (λ j. second Rsk b (j + 1)) l₀ i l → i ≡ riskClasses
-    → x ≡ first Oth b 1 → y ≡ first Oth b 2 → z ≡ first Oth b 3
-    → set (set (set l 14 x) 15 y) 16 z ≡ blockBy first second b
+pub block-written : (b : ℕ) {firsts seconds l₀ l : List ℕ} {x y z i : ℕ} → length l₀ ≡ blockNumbers
+    → Copied firsts seconds (λ j. indexOf Rsk b (j + 1)) l₀ i l → i ≡ riskClasses
+    → x ≡ tabled firsts Oth b 1 → y ≡ tabled firsts Oth b 2 → z ≡ tabled firsts Oth b 3
+    → set (set (set l 14 x) 15 y) 16 z ≡ blockBy (tabled firsts) (tabled seconds) b
 unfolding blockBy
-block-written first second {b} h W e p q r =
-    let W′ = next (next (next (rw e at W) (first Oth b 1) (omega arith)) (first Oth b 2) (omega arith)) (first Oth b 3) (omega arith) in
+block-written b {firsts} h W e p q r =
+    let W′ = next (next (next (rw e at (W .wrote)) (tabled firsts Oth b 1) (omega arith)) (tabled firsts Oth b 2) (omega arith)) (tabled firsts Oth b 3) (omega arith) in
     rw (p, q, r) (all-written W′ (omega arith) ∙ simp append-assoc)
 
 -- the pairs of all territories
-pub volumes-written : (first second : Code → ℕ → ℕ → ℕ) {l₀ l : List ℕ} {i : ℕ} → length l₀ ≡ volumeNumbers
-    → WrotePairs (λ j. first Vol (j / volumeClasses + 1) (j % volumeClasses + 1)) (λ j. second Vol (j / volumeClasses + 1) (j % volumeClasses + 1)) l₀ i l
-    → i ≡ volumePairs
-    → l ≡ volumesBy first second
+pub volumes-written : {firsts seconds l₀ l : List ℕ} {i : ℕ} → length l₀ ≡ volumeNumbers
+    → Copied firsts seconds (λ j. indexOf Vol (j / volumeClasses + 1) (j % volumeClasses + 1)) l₀ i l → i ≡ volumePairs
+    → l ≡ volumesBy (tabled firsts) (tabled seconds)
 unfolding volumesBy
-volumes-written first second h W e = all-written (rw e at W) (omega arith)
+volumes-written h W e = all-written (rw e at (W .wrote)) (omega arith)
 
 -- ---- the numbers of entries
 
