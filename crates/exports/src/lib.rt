@@ -1,5 +1,6 @@
 // The three calls for C and Rust: a number is given back, and the rest is written into what the caller lends. An accepted call gives
-// 0 and leaves the lent place as it was; a refused one gives its number and leaves all but the place as it was.
+// 0 and leaves the lent place as it was; a refused one gives its number and leaves all but the place as it was. Beside them the version of
+// these calls, for a caller to compare before it lends anything.
 ghost use mathlib.Core.Path.{_≡_};
 ghost use Rattle.refusal.specs.Outcome.Outcome.{accepted};
 ghost use Rattle.block.specs.Call.{blockCall};
@@ -8,6 +9,7 @@ ghost use Rattle.operational.specs.Call.{operationalCall};
 ghost use Rattle.aggregate.specs.Call.{sheetCall};
 ghost use Rattle.aggregate.specs.Demand.{Demand3};
 ghost use Rattle.exports.specs.Left.{placeOf, Leaves};
+ghost use Rattle.exports.specs.Version.{interfaceVersion};
 use aggregate::SheetAnswer;
 use block::BlockAnswer;
 use guideline::BLOCK_FIGURES;
@@ -27,6 +29,17 @@ const LINE: u64 = 1;
 
 // A position in the call's numbers.
 const POSITION: u64 = 2;
+
+// Of the calls as they are declared here.
+const VERSION: u64 = 1;
+
+// The version of these calls.
+#[no_mangle]
+pub extern "C" fn tsav_version() -> u64
+    ensures { λ r. ⌜ r ≡ interfaceVersion ⌝ }
+{
+    VERSION
+}
 
 // The figures are I and D in half cents, then U, LT and K in cents. Where 0 is given, they meet demand 3 for one block.
 #[no_mangle]
