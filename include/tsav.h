@@ -1,8 +1,9 @@
-/* The TSAV aggregation calculator (chapters 8 and 11 of the 2023 guideline), for C and C++: target/staticlib/libexports.a,
-   written by `rt staticlib exports`, for x86-64.
+/* The TSAV aggregation calculator (chapters 8 and 11 of the 2023 guideline), for C and C++ on x86-64: libtsav.a and
+   libtsav.so, as the install script names them; in a checkout `bindings/library` writes the archive, as
+   target/staticlib/libexports.a.
 
-   Three calls. Each is proved to answer every input as is said here; none allocates, keeps anything between calls, or can
-   fail in another way, and several threads may call at once.
+   Three calls, and the version of the three. Each is proved to answer every input as is said here; none allocates, keeps
+   anything between calls, or can fail in another way, and several threads may call at once.
 
    What is asked of a caller: every pointer is valid for the numbers or bytes that its parameter names, pointers to numbers
    are aligned to 8, and what is lent to be written overlaps nothing else that is lent. A length may be 0; a pointer is
@@ -35,7 +36,7 @@
      12  nowhere             there is no scalar line
      13  nowhere             the credits are above sum of K + guarantee requirement + RO
      14  nowhere             the lent report is shorter than the report
-     15  nowhere             the list of volumes is longer than 256 numbers, or not a multiple of 16 */
+     15  nowhere             the list of volumes is longer than TSAV_MOST_VOLUMES, or no multiple of TSAV_TERRITORY_NUMBERS */
 
 #ifndef TSAV_H
 #define TSAV_H
@@ -47,9 +48,27 @@
 extern "C" {
 #endif
 
+/* Of the calls as they are declared here: what is lent to each, and what it means. Compare it with what tsav_version() gives
+   before any other call: a library of another version may write more than a caller of this header has lent. */
+#define TSAV_VERSION 1
+
 #define TSAV_LARGEST_AMOUNT UINT64_C(99999999999999)
 
-/* 293 lines of 40 bytes. */
+/* The block call's numbers and figures. */
+#define TSAV_BLOCK_NUMBERS 17
+#define TSAV_BLOCK_FIGURES 5
+
+/* The operational call's volumes of a territory, its volumes at most, and its general figures. */
+#define TSAV_TERRITORY_NUMBERS 16
+#define TSAV_MOST_VOLUMES 256
+#define TSAV_GENERAL_FIGURES 3
+
+/* The blocks of a sheet, and the bytes of a sheet's line and of a report's. */
+#define TSAV_MOST_BLOCKS 16
+#define TSAV_SHEET_LINE 40
+#define TSAV_REPORT_LINE 29
+
+/* 293 lines. */
 #define TSAV_LONGEST_SHEET 11720
 
 /* The report of 16 blocks. With this room a sheet is never refused by 14. */
@@ -58,6 +77,9 @@ extern "C" {
 #define TSAV_NOWHERE 0
 #define TSAV_LINE 1
 #define TSAV_POSITION 2
+
+/* TSAV_VERSION, as the library was built. */
+uint64_t tsav_version(void);
 
 /* The block call, section 11.2.
 
@@ -68,24 +90,24 @@ extern "C" {
 
    Refusals, tested in this order: 7 at the first amount that is too large; 8 at position 13, where level and trend of
    expenses isn't 0; 9 at the first level and trend part above its component. */
-uint64_t tsav_block(const uint64_t numbers[17], uint64_t figures[5], uint64_t place[2]);
+uint64_t tsav_block(const uint64_t numbers[TSAV_BLOCK_NUMBERS], uint64_t figures[TSAV_BLOCK_FIGURES], uint64_t place[2]);
 
 /* The operational call, section 8.2.
 
-   volumes: count numbers, 16 for each territory: eight pairs, current and prior, of the volume classes 1 to 8. None is no
-   territory.
+   volumes: count numbers, TSAV_TERRITORY_NUMBERS for each territory: eight pairs, current and prior, of the volume classes 1
+   to 8. None is no territory.
    general: gross components, guarantee requirement, ceded premiums.
 
    Accepted, figure holds RO in cents.
 
    Refusals, tested in this order: 15; 7 at the first amount that is too large, positions running through volumes and then
    general. */
-uint64_t tsav_operational(const uint64_t *volumes, size_t count, const uint64_t general[3], uint64_t figure[1],
-                          uint64_t place[2]);
+uint64_t tsav_operational(const uint64_t *volumes, size_t count, const uint64_t general[TSAV_GENERAL_FIGURES],
+                          uint64_t figure[1], uint64_t place[2]);
 
 /* The sheet call: sections 11.2 and 8.2 for every block and territory of a sheet, and section 11.3, the buffer.
 
-   sheet: bytes bytes, a line for each 40.
+   sheet: bytes bytes, a line for each TSAV_SHEET_LINE.
    report: room bytes, of any content.
 
    Accepted, written holds the report's length, 29 * (5 * n + 3) for n blocks; so many bytes of report, from its start, are

@@ -1,7 +1,9 @@
 //! What the numbers that the library gives mean, by include/tsav.h. The library is proved to give no others; if others
 //! come all the same, another library was linked, and they are handed on as they are and not guessed at.
 
-use crate::{report_length, Breach, Error, Place, Refusal, BLOCK_NUMBERS, GENERAL_NUMBERS, MOST_BLOCKS, SHEET_LINE};
+use crate::{
+    report_length, Breach, Error, Place, Refusal, BLOCK_NUMBERS, GENERAL_NUMBERS, MOST_BLOCKS, SHEET_LINE, VERSION,
+};
 
 /// The kinds of a place.
 pub(crate) const NOWHERE: u64 = 0;
@@ -10,6 +12,11 @@ pub(crate) const POSITION: u64 = 2;
 
 /// Where the block call has level and trend of expenses, the last of the seven pairs.
 const EXPENSES_LT: usize = 13;
+
+/// The version that the library gives.
+pub(crate) fn version(found: u64) -> Result<(), Error> {
+    (found == VERSION).then_some(()).ok_or(Error::Contract(Breach::Version { found }))
+}
 
 /// The block call's answer: 0, or a refusal with the place that was written.
 pub(crate) fn block(answer: u64, place: [u64; 2]) -> Result<(), Error> {
@@ -101,6 +108,14 @@ mod tests {
 
     fn refused(number: u8, place: Place) -> Answer {
         Err(Error::Refused(Refusal { number, place }))
+    }
+
+    #[test]
+    fn versions() {
+        assert_eq!(version(VERSION), Ok(()));
+        for found in [0, VERSION + 1, u64::MAX] {
+            assert_eq!(version(found), Err(Error::Contract(Breach::Version { found })));
+        }
     }
 
     #[test]

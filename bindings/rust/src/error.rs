@@ -29,6 +29,8 @@ pub enum Place {
 /// What the library gave although include/tsav.h excludes it.
 #[derive(Clone, Copy, Debug, PartialEq, Eq)]
 pub enum Breach {
+    /// A library of another version than [`crate::VERSION`]. Nothing was lent to it.
+    Version { found: u64 },
     /// A refusal that the call doesn't have, or not at this place: the number, and the place's two numbers as written.
     Refusal { number: u64, place: [u64; 2] },
     /// A length that no report has, or that is longer than the lent room.
@@ -60,6 +62,7 @@ impl fmt::Display for Refusal {
 impl fmt::Display for Breach {
     fn fmt(&self, f: &mut fmt::Formatter) -> fmt::Result {
         match self {
+            Breach::Version { found } => write!(f, "its calls are of version {found}, not {}", crate::VERSION),
             Breach::Refusal { number, place: [kind, at] } => write!(f, "refusal {number} at a place {kind}, {at}"),
             Breach::Length { length, room } => write!(f, "a report of {length} bytes where {room} were lent"),
         }

@@ -2,12 +2,16 @@
 //! proved static library. What each call takes, gives and refuses is written in include/tsav.h.
 //!
 //! All amounts are whole cents, 0 to [`LARGEST_AMOUNT`]. Any numbers and bytes may be given: what is out of range is
-//! refused, and no call panics or allocates.
+//! refused, and no call panics or allocates. Each call compares the library's version with [`VERSION`] before it lends
+//! anything.
 
 mod contract;
 mod error;
 
 pub use error::{Breach, Error, Place, Refusal};
+
+/// Of the library's calls, as this wrapper knows them.
+pub const VERSION: u64 = 1;
 
 pub const LARGEST_AMOUNT: u64 = 99_999_999_999_999;
 
@@ -16,6 +20,10 @@ pub const BLOCK_NUMBERS: usize = 17;
 
 /// What the block call gives, and the report has of each block: I, D, U, LT and K.
 const FIGURES: usize = 5;
+
+/// The operational call's volumes of a territory, and its volumes at most.
+pub const TERRITORY_NUMBERS: usize = 16;
+pub const MOST_VOLUMES: usize = 16 * TERRITORY_NUMBERS;
 
 /// The general figures of the operational call.
 pub const GENERAL_NUMBERS: usize = 3;
@@ -54,6 +62,7 @@ pub struct Figures {
 /// The block call: seven pairs of a gross component and its level and trend part, then property and casualty, credit,
 /// market.
 pub fn block(numbers: &[u64; BLOCK_NUMBERS]) -> Result<Figures, Error> {
+    compare_versions()?;
     let (mut figures, mut place) = ([0; FIGURES], [0; 2]);
     // SAFETY: each reference is to as many numbers as the call names.
     let answer = unsafe { library::tsav_block(numbers, &mut figures, &mut place) };
@@ -65,6 +74,7 @@ pub fn block(numbers: &[u64; BLOCK_NUMBERS]) -> Result<Figures, Error> {
 /// The operational call: 16 numbers for each territory, eight pairs of current and prior volume; then gross components,
 /// guarantee requirement, ceded premiums. It gives RO.
 pub fn operational(volumes: &[u64], general: &[u64; GENERAL_NUMBERS]) -> Result<u64, Error> {
+    compare_versions()?;
     let (mut figure, mut place) = ([0; 1], [0; 2]);
     // SAFETY: the pointer and the length are of one slice, each reference is to as many numbers as the call names.
     let answer =
@@ -76,6 +86,7 @@ pub fn operational(volumes: &[u64], general: &[u64; GENERAL_NUMBERS]) -> Result<
 /// The sheet call: it gives the report's length, and writes so many bytes of `report`. The bytes behind them, and all of
 /// them where the sheet is refused, are left as they were.
 pub fn sheet(sheet: &[u8], report: &mut [u8]) -> Result<usize, Error> {
+    compare_versions()?;
     let (mut written, mut place) = ([0; 1], [0; 2]);
     // SAFETY: each pointer and the length after it are of one slice, each reference is to as many numbers as the call
     // names, and the borrows keep the report apart from the sheet.
@@ -86,11 +97,18 @@ pub fn sheet(sheet: &[u8], report: &mut [u8]) -> Result<usize, Error> {
     contract::length(written[0], report.len())
 }
 
+/// Another version may write more than is lent here.
+fn compare_versions() -> Result<(), Error> {
+    // SAFETY: nothing is lent.
+    contract::version(unsafe { library::tsav_version() })
+}
+
 /// include/tsav.h.
 mod library {
     use crate::{BLOCK_NUMBERS, FIGURES, GENERAL_NUMBERS};
 
     extern "C" {
+        pub fn tsav_version() -> u64;
         pub fn tsav_block(numbers: &[u64; BLOCK_NUMBERS], figures: &mut [u64; FIGURES], place: &mut [u64; 2]) -> u64;
         pub fn tsav_operational(
             volumes: *const u64,

@@ -76,6 +76,10 @@ fn errors_in_words() {
 
     let words = |breach: Breach| Error::Contract(breach).to_string();
     assert_eq!(
+        words(Breach::Version { found: 2 }),
+        "the library broke its contract: its calls are of version 2, not 1"
+    );
+    assert_eq!(
         words(Breach::Refusal { number: 16, place: [3, 5] }),
         "the library broke its contract: refusal 16 at a place 3, 5"
     );
@@ -85,17 +89,36 @@ fn errors_in_words() {
     );
 }
 
-/// The numbers that the header and the wrapper both name are the same.
+/// The numbers that the header defines are the wrapper's, and the library's version is one of them. That the header's are
+/// the source's is compared by tests/constants.
 #[test]
 fn the_headers_numbers() {
     let header = include_str!("../../../include/tsav.h");
-    let defined = |name: &str, number: String| header.lines().any(|line| line == format!("#define {name} {number}"));
-    assert!(defined("TSAV_LARGEST_AMOUNT", format!("UINT64_C({LARGEST_AMOUNT})")));
-    assert!(defined("TSAV_LONGEST_SHEET", LONGEST_SHEET.to_string()));
-    assert!(defined("TSAV_LONGEST_REPORT", LONGEST_REPORT.to_string()));
-    assert!(defined("TSAV_NOWHERE", NOWHERE.to_string()));
-    assert!(defined("TSAV_LINE", LINE.to_string()));
-    assert!(defined("TSAV_POSITION", POSITION.to_string()));
+    let defined: Vec<(&str, String)> = header
+        .lines()
+        .filter_map(|line| line.strip_prefix("#define TSAV_")?.split_once(' '))
+        .map(|(name, number)| (name, number.trim_start_matches("UINT64_C(").trim_end_matches(')').to_string()))
+        .collect();
+    let ours = [
+        ("VERSION", VERSION),
+        ("LARGEST_AMOUNT", LARGEST_AMOUNT),
+        ("BLOCK_NUMBERS", BLOCK_NUMBERS as u64),
+        ("BLOCK_FIGURES", FIGURES as u64),
+        ("TERRITORY_NUMBERS", TERRITORY_NUMBERS as u64),
+        ("MOST_VOLUMES", MOST_VOLUMES as u64),
+        ("GENERAL_FIGURES", GENERAL_NUMBERS as u64),
+        ("MOST_BLOCKS", MOST_BLOCKS as u64),
+        ("SHEET_LINE", SHEET_LINE as u64),
+        ("REPORT_LINE", REPORT_LINE as u64),
+        ("LONGEST_SHEET", LONGEST_SHEET as u64),
+        ("LONGEST_REPORT", LONGEST_REPORT as u64),
+        ("NOWHERE", NOWHERE),
+        ("LINE", LINE),
+        ("POSITION", POSITION),
+    ];
+    assert_eq!(defined, ours.map(|(name, number)| (name, number.to_string())));
+    // SAFETY: nothing is lent.
+    assert_eq!(unsafe { library::tsav_version() }, VERSION);
 }
 
 // What include/tsav.h says is untouched: place where a call accepts, everything else where it refuses.
