@@ -76,8 +76,8 @@ fn errors_in_words() {
 
     let words = |breach: Breach| Error::Contract(breach).to_string();
     assert_eq!(
-        words(Breach::Version { found: 2 }),
-        "the library broke its contract: its calls are of version 2, not 1"
+        words(Breach::Version { found: 0 }),
+        format!("the library broke its contract: its calls are of version 0, not {VERSION}")
     );
     assert_eq!(
         words(Breach::Refusal { number: 16, place: [3, 5] }),

@@ -1,0 +1,98 @@
+"""The Python module's own test: `python3 -m unittest` in this folder, after `bindings/shared`."""
+
+import re
+import unittest
+from pathlib import Path
+
+import tsav
+
+TOP = Path(__file__).resolve().parents[2]
+OVER = tsav.LARGEST_AMOUNT + 1
+BLOCK = [int(word) for word in (TOP / "examples" / "block.numbers").read_text().split()]
+SHEET = (TOP / "examples" / "example.sheet").read_bytes()
+REPORT = (TOP / "crates" / "tsav_sheet" / "stdout").read_bytes()
+
+
+class Calls(unittest.TestCase):
+    def refused(self, number, line, position, call, *lent):
+        with self.assertRaises(tsav.Refused) as caught:
+            call(*lent)
+        refusal = caught.exception
+        self.assertEqual((refusal.number, refusal.line, refusal.position), (number, line, position))
+
+    def test_block(self):
+        figures = tsav.block(BLOCK)
+        self.assertEqual(figures, (157884172, 191405437, 176550000, 90400000, 151765333))
+        self.assertEqual((figures.i, figures.d, figures.u, figures.lt, figures.k), tuple(figures))
+        self.assertEqual(tsav.block(tuple(BLOCK)), figures)
+        self.assertEqual(tsav.block(number for number in BLOCK), figures)
+
+    def test_block_refused(self):
+        def with_number(position, number):
+            return BLOCK[:position] + [number] + BLOCK[position + 1 :]
+
+        self.refused(7, None, 16, tsav.block, with_number(16, OVER))
+        self.refused(7, None, 0, tsav.block, with_number(0, 2**64 - 1))
+        self.refused(7, None, 0, tsav.block, with_number(0, 2**64))
+        self.refused(7, None, 3, tsav.block, with_number(3, 10**30))
+        self.refused(8, None, 13, tsav.block, with_number(13, 1))
+        self.refused(9, None, 3, tsav.block, with_number(3, 300_001))
+
+    def test_operational(self):
+        volumes = [15_000, 10_000] + [0] * 14
+        self.assertEqual(tsav.operational(volumes, [200_000_000, 0, 0]), 11_500_450)
+        self.assertEqual(tsav.operational([], [0, 0, 0]), 0)
+        self.refused(7, None, 18, tsav.operational, volumes, [0, 0, OVER])
+        self.refused(15, None, None, tsav.operational, volumes[1:], [0, 0, 0])
+        self.refused(15, None, None, tsav.operational, [0] * (tsav.MOST_VOLUMES + 16), [0, 0, 0])
+
+    def test_sheet(self):
+        for kind in (bytes, bytearray, memoryview):
+            self.assertEqual(tsav.sheet(kind(SHEET)), REPORT)
+        self.refused(1, None, None, tsav.sheet, bytes(tsav.LONGEST_SHEET + 1))
+        self.refused(2, None, None, tsav.sheet, b"x")
+        self.refused(3, 1, None, tsav.sheet, bytes(tsav.SHEET_LINE))
+        self.refused(11, 14, None, tsav.sheet, SHEET + SHEET[: tsav.SHEET_LINE])
+        self.refused(12, None, None, tsav.sheet, b"")
+
+    def test_the_longest_report(self):
+        lines = [b"GEN  0  4          10000              0\n"]
+        lines += [b"OTH %2d  1              1              0\n" % (block + 1) for block in range(tsav.MOST_BLOCKS)]
+        self.assertEqual(len(tsav.sheet(b"".join(lines))), tsav.LONGEST_REPORT)
+
+    def test_what_is_no_amount(self):
+        for wrong in (1.0, "1", None):
+            with self.assertRaises(TypeError):
+                tsav.block([wrong] + BLOCK[1:])
+        with self.assertRaises(ValueError):
+            tsav.block([-1] + BLOCK[1:])
+        for numbers in (BLOCK[1:], BLOCK + [0], []):
+            with self.assertRaises(ValueError):
+                tsav.block(numbers)
+        with self.assertRaises(ValueError):
+            tsav.operational([], [0, 0])
+        for wrong in (SHEET.decode(), 40, None):
+            with self.assertRaises(TypeError):
+                tsav.sheet(wrong)
+
+    def test_words(self):
+        self.assertEqual(str(tsav.Refused(9, line=2)), "refusal 9 at line 2")
+        self.assertEqual(str(tsav.Refused(7, position=0)), "refusal 7 at position 0")
+        self.assertEqual(str(tsav.Refused(12)), "refusal 12")
+
+    def test_a_broken_contract(self):
+        for place in ((3, 0), (0, 1), (2**64 - 1, 0)):
+            with self.assertRaises(tsav.ContractBroken):
+                tsav._answered(7, place)
+
+    def test_the_headers_numbers(self):
+        """That the header's are the source's is compared by tests/constants."""
+        header = (TOP / "include" / "tsav.h").read_text()
+        defined = re.findall(r"^#define TSAV_([A-Z_]+) (?:UINT64_C\()?([0-9]+)\)?$", header, re.MULTILINE)
+        self.assertEqual(len(defined), header.count("#define TSAV_") - 1)  # TSAV_H has no number
+        for name, number in defined:
+            self.assertEqual(getattr(tsav, name), int(number), name)
+
+
+if __name__ == "__main__":
+    unittest.main()

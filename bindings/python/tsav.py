@@ -1,0 +1,153 @@
+"""The TSAV aggregation calculator (chapters 8 and 11 of the 2023 guideline): the three calls of the proved library.
+
+What each call takes, gives and refuses is written in tsav.h. All amounts are whole cents, 0 to LARGEST_AMOUNT. A refusal
+is the exception Refused, with its number and place.
+
+    >>> import tsav
+    >>> print(tsav.sheet(open("my.sheet", "rb").read()).decode())
+
+The shared library is the file that the environment's TSAV_LIBRARY names; otherwise the one that was installed with this
+module or that `bindings/shared` has written beside it; otherwise the system's.
+"""
+
+import ctypes
+import operator
+import os
+from pathlib import Path
+from typing import NamedTuple, Optional
+
+# Of the library's calls, as this module knows them.
+VERSION = 1
+
+LARGEST_AMOUNT = 99_999_999_999_999
+
+# The block call's numbers: seven pairs and three more. Its figures are I, D, U, LT and K.
+BLOCK_NUMBERS = 17
+BLOCK_FIGURES = 5
+
+# The operational call's volumes of a territory, its volumes at most, and its general figures.
+TERRITORY_NUMBERS = 16
+MOST_VOLUMES = 16 * TERRITORY_NUMBERS
+GENERAL_FIGURES = 3
+
+# The blocks of a sheet; the bytes of a line of the sheet and of the report, the line feed among them.
+MOST_BLOCKS = 16
+SHEET_LINE = 40
+REPORT_LINE = 29
+
+# 293 lines; five report lines for each block, and three of totals.
+LONGEST_SHEET = 293 * SHEET_LINE
+LONGEST_REPORT = REPORT_LINE * (BLOCK_FIGURES * MOST_BLOCKS + 3)
+
+# The kinds of a place.
+NOWHERE = 0
+LINE = 1
+POSITION = 2
+
+
+class Figures(NamedTuple):
+    """A block's figures: I and D in half cents, U, LT and K in cents."""
+
+    i: int
+    d: int
+    u: int
+    lt: int
+    k: int
+
+
+class Refused(Exception):
+    """A call was refused: the refusal's number, and its line (counted from 1) or position (from 0), if it has one."""
+
+    def __init__(self, number: int, line: Optional[int] = None, position: Optional[int] = None):
+        self.number, self.line, self.position = number, line, position
+        super().__init__(number, line, position)
+
+    def __str__(self) -> str:
+        if self.line is not None:
+            return f"refusal {self.number} at line {self.line}"
+        if self.position is not None:
+            return f"refusal {self.number} at position {self.position}"
+        return f"refusal {self.number}"
+
+
+class ContractBroken(Exception):
+    """The library gave numbers that tsav.h excludes: what was loaded isn't the proved library."""
+
+
+def block(numbers) -> Figures:
+    """The block call: seven pairs of a gross component and its level and trend part, then property and casualty, credit
+    and market."""
+    lent = _lend(numbers)
+    if len(lent) != BLOCK_NUMBERS:
+        raise ValueError(f"{BLOCK_NUMBERS} numbers are asked for, not {len(lent)}")
+    figures, place = (ctypes.c_uint64 * BLOCK_FIGURES)(), (ctypes.c_uint64 * 2)()
+    _answered(_library.tsav_block(lent, figures, place), place)
+    return Figures(*figures)
+
+
+def operational(volumes, general) -> int:
+    """The operational call: 16 numbers for each territory, eight pairs of current and prior volume; and gross components,
+    guarantee requirement, ceded premiums. It gives RO in cents."""
+    volumes, general = _lend(volumes), _lend(general)
+    if len(general) != GENERAL_FIGURES:
+        raise ValueError(f"{GENERAL_FIGURES} general figures are asked for, not {len(general)}")
+    figure, place = (ctypes.c_uint64 * 1)(), (ctypes.c_uint64 * 2)()
+    _answered(_library.tsav_operational(volumes, len(volumes), general, figure, place), place)
+    return figure[0]
+
+
+def sheet(sheet) -> bytes:
+    """The sheet call: the report of a sheet, both as bytes."""
+    # A view of it, since bytes(5) would be five zeros.
+    lent = bytes(memoryview(sheet))
+    report, written, place = ctypes.create_string_buffer(LONGEST_REPORT), (ctypes.c_uint64 * 1)(), (ctypes.c_uint64 * 2)()
+    _answered(_library.tsav_sheet(lent, len(lent), report, LONGEST_REPORT, written, place), place)
+    if written[0] > LONGEST_REPORT:
+        raise ContractBroken(f"a report of {written[0]} bytes where {LONGEST_REPORT} were lent")
+    return report.raw[: written[0]]
+
+
+def _lend(numbers) -> ctypes.Array:
+    """Whole numbers as the library takes them. ctypes would cut a longer one off and turn a negative one round; what passes
+    64 bits is above the largest amount all the same, and is refused as such."""
+    lent = [operator.index(number) for number in numbers]
+    if any(number < 0 for number in lent):
+        raise ValueError("an amount is below zero")
+    return (ctypes.c_uint64 * len(lent))(*(min(number, 2**64 - 1) for number in lent))
+
+
+def _answered(answer: int, place) -> None:
+    """Raises the refusal that a call has given."""
+    if answer == 0:
+        return
+    kind, at = place
+    if kind == NOWHERE and at == 0:
+        raise Refused(answer)
+    if kind == LINE:
+        raise Refused(answer, line=at)
+    if kind == POSITION:
+        raise Refused(answer, position=at)
+    raise ContractBroken(f"refusal {answer} at a place {kind}, {at}")
+
+
+def _load() -> ctypes.CDLL:
+    name = f"libtsav.so.{VERSION}"
+    # Installed, this file is PREFIX/lib/tsav/python/tsav.py; in a checkout, bindings/python/tsav.py.
+    above = Path(__file__).resolve().parents[2]
+    beside = [path for path in (above / name, above / "target" / "shared" / name) if path.is_file()]
+    library = ctypes.CDLL(os.environ.get("TSAV_LIBRARY") or str((beside + [name])[0]))
+    numbers, size = ctypes.POINTER(ctypes.c_uint64), ctypes.c_size_t
+    for call, lent in (
+        (library.tsav_version, []),
+        (library.tsav_block, [numbers, numbers, numbers]),
+        (library.tsav_operational, [numbers, size, numbers, numbers, numbers]),
+        (library.tsav_sheet, [ctypes.c_char_p, size, ctypes.c_char_p, size, numbers, numbers]),
+    ):
+        call.argtypes, call.restype = lent, ctypes.c_uint64
+    # Another version may write more than is lent here.
+    if library.tsav_version() != VERSION:
+        raise ImportError(f"the library's calls are of version {library.tsav_version()}, not {VERSION}")
+    return library
+
+
+_library = _load()
