@@ -27,6 +27,15 @@ class Calls(unittest.TestCase):
         self.assertEqual(tsav.block(tuple(BLOCK)), figures)
         self.assertEqual(tsav.block(number for number in BLOCK), figures)
 
+        class Whole:
+            def __init__(self, number):
+                self.number = number
+
+            def __index__(self):
+                return self.number
+
+        self.assertEqual(tsav.block(map(Whole, BLOCK)), figures)
+
     def test_block_refused(self):
         def with_number(position, number):
             return BLOCK[:position] + [number] + BLOCK[position + 1 :]
