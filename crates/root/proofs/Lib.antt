@@ -1,3 +1,3 @@
--- The digits in base 4 of two words, and the root found by them. Assumes nothing.
+-- The laws behind the root: digits in base 4, and the root by them.
 pub mod Digits
 pub mod Rooted

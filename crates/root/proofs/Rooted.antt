@@ -1,13 +1,37 @@
 -- A root found one binary digit at a time: what holds between two steps, and the root rounded up. Assumes nothing.
 use mathlib.Core.Path.{_≡_, sym, ap, _∙_}
+use mathlib.Core.Bool.{true, false}
 use Prim.Native.Nat.{ℕ, suc, _+_, _-_, _*_, _/_, _%_, _^_, _≤_, _<_}
 use native.Mathlib.Nat.{pow-succ', div-le-self, div-div-eq-div-mul, div-eq-of-lt, mul-comm}
 use native.Mathlib.Omega.{arith}
 use lib.Dec.{leb}
+use borrow.Author.Tests.{leb-true, leb-false}
 use Rattle.search.specs.Least.{least}
+use Rattle.search.specs.Pick.{pick}
 use Rattle.search.proofs.LeastOf.{root-eq}
+use Rattle.search.proofs.Picks.{by-test}
 use Rattle.search.proofs.Roots.{lt-of-squares}
 use Rattle.root.specs.BaseFour.{digitCount, has-digits}
+
+-- one binary digit t more: the root is 2r + t, and t times the next odd number is taken off what is left with the digits brought down
+pub record Digit (r s d t : ℕ) : Type 0 where
+  pub bit : t ≤ 1
+  pub within : t * (4 * r + 1) ≤ 4 * s + d
+  pub square : (2 * r + t) * (2 * r + t) + (4 * s + d - t * (4 * r + 1)) ≡ 4 * (r * r + s) + d
+  pub small : 4 * s + d - t * (4 * r + 1) ≤ 2 * (2 * r + t)
+
+pub digit : (r s d t : ℕ) → s ≤ 2 * r → d < 4 → t ≡ pick (leb (4 * r + 1) (4 * s + d)) 1 0 → Digit r s d t
+digit r s d t h k e = rw e (by-test (Digit r s d) (leb (4 * r + 1) (4 * s + d)) 1 0 taken left)
+  where
+    taken : leb (4 * r + 1) (4 * s + d) ≡ true → Digit r s d 1
+    taken b =
+        let l : 4 * r + 1 ≤ 4 * s + d = leb-true _ _ b in
+        record { bit = omega arith; within = omega arith; square = omega arith; small = omega arith }
+
+    left : leb (4 * r + 1) (4 * s + d) ≡ false → Digit r s d 0
+    left b =
+        let l : 4 * s + d < 4 * r + 1 = leb-false _ _ b in
+        record { bit = omega arith; within = omega arith; square = omega arith; small = omega arith }
 
 -- with `left` steps to go, r is the rounded-down root of n's digits above the last `left` in base 4, and s what its
 -- square leaves of them

@@ -3,6 +3,7 @@ ghost use mathlib.Core.Path.{_≡_};
 ghost use Prim.Native.Nat.{_+_, _*_, _/_, _%_, _^_, _<_, _≤_};
 ghost use lib.Dec.{leb};
 ghost use Rattle.search.specs.Least.{least};
+ghost use Rattle.search.specs.Pick.{pick};
 ghost use Rattle.wide.specs.Value.{value};
 ghost use Rattle.root.specs.BaseFour.{digitCount};
 use wide::Wide;
@@ -37,17 +38,18 @@ fn root_step(root: u64, rest: u64, digits: u64) -> PartialRoot
 {
     let next = 4 * rest + digits;
     let odd = 4 * root + 1;
-    if odd <= next {
-        PartialRoot {
-            root: 2 * root + 1,
-            rest: next - odd,
-        }
-    } else {
-        PartialRoot {
-            root: 2 * root,
-            rest: next,
-        }
+    let digit = one_if_within(odd, next);
+    PartialRoot {
+        root: 2 * root + digit,
+        rest: next - digit * odd,
     }
+}
+
+// 1 where the odd number is within what is left, else 0: a number to reckon with, as a jump on it would be foretold wrong half the time.
+fn one_if_within(odd: u64, next: u64) -> u64
+    ensures { λ r. ⌜ r ≡ pick (leb odd next) 1 0 ⌝ }
+{
+    (odd <= next) as u64
 }
 
 // The digit of n in base 4 above its last m: two binary digits, which stand in one word.
