@@ -30,7 +30,7 @@ module _ (u l d : ℕ) (s : FigureBounds u l d) where
       lt-of-le-of-lt {m = 60 * (20 * limit * (10 * limit))} (omega (arith, numerator-within)) (lit< tt)
 
   -- 60V divides it into a word
-  pub numerator-divides : 0 < u → (n : ℕ) → n ≡ kNumerator u l v d → (0 < 60 * v) × (60 * v ≤ 2 ^ 63) × (n ≤ 60 * v * (2 ^ 64 - 1))
+  pub numerator-divides : 0 < u → (n : ℕ) → n ≡ kNumerator u l v d → (0 < 60 * v) × (60 * v < 2 ^ 63) × (n ≤ 60 * v * (2 ^ 64 - 1))
   numerator-divides h n e =
       let w : v * u ≤ v * (2 ^ 64 - 1) = mul-le-mul-left v (omega (arith, s .small)) in
       (omega (arith, s .within), omega (arith, s .small), omega (arith, numerator-within))

@@ -1,72 +1,90 @@
-// The quotient of a number of two words by a word, rounded up.
+// The quotient and the rest of a number of two words by a word, and the quotient rounded up.
 ghost use mathlib.Core.Path.{_≡_};
-ghost use Prim.Native.Nat.{_+_, _-_, _*_, _^_, _<_, _≤_};
+ghost use Prim.Native.Nat.{_+_, _-_, _*_, _/_, _%_, _^_, _<_, _≤_};
 ghost use lib.Dec.{leb};
 ghost use Rattle.search.specs.Least.{least};
 ghost use Rattle.wide.specs.Value.{value};
 use crate::Wide;
 
-// n over d, rounded up, where that fits a word. A number of one word, the usual case, takes one division of the machine's.
-pub fn divide_up(n: Wide, d: u64) -> u64
-    requires { ⌜ (0 < d) × (d ≤ 2 ^ 63) × (value n ≤ d * (2 ^ 64 - 1)) ⌝ }
-    ensures { λ r. ⌜ r ≡ least (λ q. leb (value n) (d * q)) ⌝ }
-{
-    let high = n.high;
-    if high == 0 {
-        divide_word(n.low, d)
-    } else {
-        divide_long(n, d)
-    }
+// A quotient of two words, and its rest.
+pub struct Division {
+    pub quotient: Wide,
+    pub rest: u64,
 }
 
-// The same for a number of one word.
-fn divide_word(n: u64, d: u64) -> u64
-    requires { ⌜ 0 < d ⌝ }
-    ensures { λ r. ⌜ r ≡ least (λ q. leb n (d * q)) ⌝ }
-{
-    let quotient = n / d;
-    if n % d == 0 { quotient } else { quotient + 1 }
-}
-
-// The same for any n, one binary digit of the quotient a step. d has at most 63 binary digits, so that twice a rest and a digit fit.
-fn divide_long(n: Wide, d: u64) -> u64
-    requires { ⌜ (0 < d) × (d ≤ 2 ^ 63) × (value n ≤ d * (2 ^ 64 - 1)) ⌝ }
-    ensures { λ r. ⌜ r ≡ least (λ q. leb (value n) (d * q)) ⌝ }
-{
-    let low = n.low;
-    let mut rest = n.high;
-    let mut quotient = 0u64;
-    let mut left = 64u32;
-    while 0 < left {
-        left -= 1;
-        let s = divide_step(quotient, rest, (low >> left) % 2, d);
-        quotient = s.quotient;
-        rest = s.rest;
-    }
-    if rest == 0 { quotient } else { quotient + 1 }
-}
-
-// What is held between two steps of a long division.
-struct Division {
+// A quotient of one word, and its rest.
+struct WordDivision {
     quotient: u64,
     rest: u64,
 }
 
-// One binary digit of a long division by d: the quotient and the rest after `bit` is brought down.
-fn divide_step(quotient: u64, rest: u64, bit: u64, d: u64) -> Division
-    requires { ⌜ (rest < d) × (d ≤ 2 ^ 63) × (bit < 2) × (2 * quotient + 1 < 2 ^ 64) ⌝ }
-    ensures { λ r. ⌜ (r .rest < d) × (r .quotient * d + r .rest ≡ 2 * (quotient * d + rest) + bit) ⌝ }
+// n over d, rounded up, where that fits a word.
+pub fn divide_up(n: Wide, d: u64) -> u64
+    requires { ⌜ (0 < d) × (d < 2 ^ 63) × (value n ≤ d * (2 ^ 64 - 1)) ⌝ }
+    ensures { λ r. ⌜ r ≡ least (λ q. leb (value n) (d * q)) ⌝ }
 {
-    let next = 2 * rest + bit;
-    if d <= next {
-        Division {
-            quotient: 2 * quotient + 1,
-            rest: next - d,
-        }
-    } else {
-        Division {
-            quotient: 2 * quotient,
-            rest: next,
-        }
+    let by = divide(n, d);
+    let down = by.quotient;
+    let low = down.low;
+    let rest = by.rest;
+    if rest == 0 { low } else { low + 1 }
+}
+
+// n over any d of at most 63 binary digits, with its rest: the upper word by the machine's division, then the lower one.
+pub fn divide(n: Wide, d: u64) -> Division
+    requires { ⌜ (0 < d) × (d < 2 ^ 63) ⌝ }
+    ensures { λ r. ⌜ (r .rest < d) × (value (r .quotient) * d + r .rest ≡ value n) ⌝ }
+{
+    let high = n.high;
+    let low = n.low;
+    let lower = divide_lower(high % d, low, d);
+    Division {
+        quotient: Wide {
+            high: high / d,
+            low: lower.quotient,
+        },
+        rest: lower.rest,
     }
+}
+
+// A word below a rest, over d: as many binary digits a step as d leaves free in a word, and in the last step those that are left.
+fn divide_lower(above: u64, low: u64, d: u64) -> WordDivision
+    requires { ⌜ (above < d) × (d < 2 ^ 63) ⌝ }
+    ensures { λ r. ⌜ (r .rest < d) × (r .quotient * d + r .rest ≡ above * 2 ^ 64 + low) ⌝ }
+{
+    let width = u64::leading_zeros(d);
+    let mut left = 64u32;
+    let mut held = WordDivision {
+        quotient: 0,
+        rest: above,
+    };
+    while width < left {
+        left -= width;
+        held = divide_step(held, low, left, width, d);
+    }
+    divide_step(held, low, 0, left, d)
+}
+
+// One step of a long division by d: the `width` binary digits of low above its last `left` are brought down to the rest so far.
+fn divide_step(before: WordDivision, low: u64, left: u32, width: u32, d: u64) -> WordDivision
+    requires { ⌜ (left < 64) × (width < 64) × (2 ^ width * d ≤ 2 ^ 64) ⌝ }
+    requires { ⌜ (before .rest < d) × ((before .quotient + 1) * 2 ^ width ≤ 2 ^ 64) ⌝ }
+    ensures { λ r. ⌜ (r .rest < d) × (r .quotient + 1 ≤ (before .quotient + 1) * 2 ^ width) ⌝ }
+    ensures { λ r. ⌜ r .quotient * d + r .rest ≡ (before .quotient * d + before .rest) * 2 ^ width + low / 2 ^ left % 2 ^ width ⌝ }
+{
+    let quotient = before.quotient;
+    let rest = before.rest;
+    let base = power_of_two(width);
+    let next = rest * base + (low >> left) % base;
+    WordDivision {
+        quotient: quotient * base + next / d,
+        rest: next % d,
+    }
+}
+
+fn power_of_two(k: u32) -> u64
+    requires { ⌜ k < 64 ⌝ }
+    ensures { λ r. ⌜ r ≡ 2 ^ k ⌝ }
+{
+    1 << k
 }

@@ -1,92 +1,127 @@
--- A quotient rounded up. In base 2 by hand: what holds between two steps, and the quotient at the end; and by the machine's quotient and rest.
--- Assumes nothing.
+-- Long division: how many binary digits fit a step, one step, what holds between two, and the quotient rounded up. Assumes nothing.
 use mathlib.Core.Path.{_≡_, sym, ap, _∙_}
 use Prim.Native.Nat.{ℕ, suc, _+_, _-_, _*_, _/_, _%_, _^_, _≤_, _<_}
-use native.Mathlib.Nat.{mul-le-mul-left, mod-lt, div-le-self, div-add-mod', lt-of-mul-lt-mul-right, le-of-mul-le-mul-right, mod-eq-of-lt, mod-one, pow-succ'}
-use native.Mathlib.Numerals.{one-add}
+use native.Mathlib.Nat.{mul-le-mul-left, mul-le-mul-right, div-add-mod', lt-of-mul-lt-mul-right, lt-of-mul-lt-mul-left}
+use native.Mathlib.Decide.{decLe}
 use native.Mathlib.Omega.{arith}
+use lib.Count.{leadingZeros, leading-length}
 use lib.Dec.{leb}
-use lib.Pow.{pow-pos, mod-pow-add}
+use lib.Pow.{pow-add, pow-mono, mod-pow-add}
 use Rattle.search.specs.Least.{least}
 use Rattle.search.proofs.LeastOf.{ceil-eq}
+use Rattle.search.proofs.Tests.{leb-same}
 
--- a quotient q and a rest r by d of what stands above the last m binary digits of n, whose low word is given
+-- ---- how many binary digits a step can bring down
+
+-- w of them below a rest by d fit a word
+pub record Width (d w : ℕ) : Type 0 where
+  pub some : 0 < w
+  pub below : w < 64
+  pub fits : 2 ^ w * d ≤ 2 ^ 64
+
+-- as many as d leaves free
+pub width-of : (d : ℕ) → 0 < d → d < 2 ^ 63 → Width d (leadingZeros 64 d)
+width-of d h k =
+    let l = leading-length 64 d (omega arith) in
+    go (leadingZeros 64 d) (l .0) (l .1) (l .2) (l .3)
+  where
+    some : (w m : ℕ) → w + m ≡ 64 → 2 ^ m ≤ 2 * d + 1 → Dec (1 ≤ w) → 0 < w
+    some w m e g (yes l) = l
+    some w m e g (no l) =
+        let f : m ≡ 64 = omega arith in
+        absurd (omega (arith, rw f at g))
+
+    below : (w m : ℕ) → w + m ≡ 64 → d < 2 ^ m → Dec (1 ≤ m) → w < 64
+    below w m e g (yes l) = omega arith
+    below w m e g (no l) =
+        let f : m ≡ 0 = omega arith in
+        absurd (omega (arith, rw f at g))
+
+    go : (w m : ℕ) → w + m ≡ 64 → d < 2 ^ m → 2 ^ m ≤ 2 * d + 1 → Width d w
+    go w m e f g = record {
+      some = some w m e g (decLe 1 w);
+      below = below w m e f (decLe 1 m);
+      fits = omega (arith, mul-le-mul-left (2 ^ w) f, pow-add 2 w m, ap (λ (x : ℕ). 2 ^ x) e);
+    }
+
+-- and fewer do, too
+pub fewer : (d w m : ℕ) → Width d w → m ≤ w → 2 ^ m * d ≤ 2 ^ 64
+fewer d w m k h = omega (arith, k .fits, mul-le-mul-right d (pow-mono h))
+
+-- ---- one step: a rest r by d and a digit c in base B
+
+pub next-below : (r c B d : ℕ) → r < d → c < B → r * B + c < B * d
+next-below r c B d h k = omega (arith, mul-le-mul-right B h)
+
+pub digit-below : (x B d : ℕ) → x < B * d → x / d < B
+digit-below x B d k = lt-of-mul-lt-mul-right d (omega (arith, div-add-mod' x d))
+
+pub stepped : (d q B c t r s : ℕ) → t * d + s ≡ r * B + c → (q * B + t) * d + s ≡ (q * d + r) * B + c
+stepped d q B c t r s e = omega arith
+
+-- ---- between two steps, with m binary digits of the lower word to go
+
 pub record Between (n low d q r m : ℕ) : Type 0 where
   pub small : r < d
-  pub within : m ≤ 64
+  pub room : (q + 1) * 2 ^ m ≤ 2 ^ 64
   pub adds-up : (q * d + r) * 2 ^ m + low % 2 ^ m ≡ n
 
--- where the quotient has one digit in base P, the upper digit of n is a rest
-high-small : (P N high low d : ℕ) → P ≡ suc N → 0 < d → high * P + low ≤ d * N → high < d
-high-small P N high low d e h k = lt-of-mul-lt-mul-right P (omega (arith, ap (λ (x : ℕ). x * d) e))
+pub start : (above low d : ℕ) → above < d → low < 2 ^ 64 → Between (above * 2 ^ 64 + low) low d 0 above 64
+start above low d h k = record { small = h; room = omega arith; adds-up = omega arith }
 
-first : (P high low d : ℕ) → low < P → (0 * d + high) * P + low % P ≡ high * P + low
-first P high low d h = omega (arith, mod-eq-of-lt h)
+-- a step of fewer digits has room, too
+pub narrower : (q w k : ℕ) → w ≤ k → (q + 1) * 2 ^ k ≤ 2 ^ 64 → (q + 1) * 2 ^ w ≤ 2 ^ 64
+narrower q w k h r = omega (arith, mul-le-mul-left (q + 1) (pow-mono h))
 
-pub start : (high low d : ℕ) → low < 2 ^ 64 → 0 < d → high * 2 ^ 64 + low ≤ d * (2 ^ 64 - 1) → Between (high * 2 ^ 64 + low) low d 0 high 64
-start high low d h k l = record {
-  small = high-small (2 ^ 64) (2 ^ 64 - 1) high low d (omega arith) k l;
-  within = omega arith;
-  adds-up = first (2 ^ 64) high low d h;
-}
+brought-down : (d q r q′ r′ B p c t n : ℕ) → (q * d + r) * (B * p) + (c * p + t) ≡ n → q′ * d + r′ ≡ (q * d + r) * B + c → (q′ * d + r′) * p + t ≡ n
+brought-down d q r q′ r′ B p c t n e f = omega (arith, ap (λ (x : ℕ). x * p) f)
 
--- one digit more is twice the power
-double : (s m t n : ℕ) → s * 2 ^ suc m + t ≡ n → s * (2 * 2 ^ m) + t ≡ n
-double s m t n e = rw (pow-succ' 2 m) at e
+pub step : (n low d q r k w q′ r′ : ℕ) → w ≤ k → Between n low d q r k →
+    r′ < d → q′ + 1 ≤ (q + 1) * 2 ^ w → q′ * d + r′ ≡ (q * d + r) * 2 ^ w + low / 2 ^ (k - w) % 2 ^ w → Between n low d q′ r′ (k - w)
+step n low d q r k w q′ r′ l b h g e =
+    let m : ℕ = k - w in
+    let s : k ≡ w + m = omega arith in
+    let p : 2 ^ k ≡ 2 ^ w * 2 ^ m = ap (λ (x : ℕ). 2 ^ x) s ∙ pow-add 2 w m in
+    let t : low % 2 ^ k ≡ low / 2 ^ m % 2 ^ w * 2 ^ m + low % 2 ^ m = ap (λ (x : ℕ). low % 2 ^ x) s ∙ mod-pow-add low w m in
+    record {
+      small = h;
+      room = omega (arith, mul-le-mul-right (2 ^ m) g, b .room, ap (λ (x : ℕ). (q + 1) * x) p);
+      adds-up = brought-down d q r q′ r′ (2 ^ w) (2 ^ m) _ _ n (sym (λ i. (q * d + r) * p i + t i) ∙ b .adds-up) e;
+    }
 
-next-digit : (low m : ℕ) → low % 2 ^ suc m ≡ low / 2 ^ m % 2 * 2 ^ m + low % 2 ^ m
-next-digit low m = ap (λ (k : ℕ). low % 2 ^ k) (sym (one-add m)) ∙ mod-pow-add low 1 m
+-- the last step brings down all that is left
+pub last : (n low d q r k x : ℕ) → Between n low d q r k → x ≡ (q * d + r) * 2 ^ k + low / 2 ^ 0 % 2 ^ k → x ≡ n
+last n low d q r k x b e = e ∙ ap (λ (y : ℕ). (q * d + r) * 2 ^ k + y % 2 ^ k) (omega arith) ∙ b .adds-up
 
-fold-step : (p s s′ b t t′ n : ℕ) → s′ ≡ 2 * s + b → t ≡ b * p + t′ → s * (2 * p) + t ≡ n → s′ * p + t′ ≡ n
-fold-step p s s′ b t t′ n e f g = omega (arith, ap (λ (x : ℕ). x * p) e)
+-- the quotient by the upper word and by what is below its rest
+pub two-words : (P h l d q r : ℕ) → q * d + r ≡ h % d * P + l → (h / d * P + q) * d + r ≡ h * P + l
+two-words P h l d q r e = omega (arith, ap (λ (x : ℕ). x * P) (div-add-mod' h d))
 
-pub step : (n low d q r m q′ r′ : ℕ) → Between n low d q r (suc m) → r′ < d → q′ * d + r′ ≡ 2 * (q * d + r) + low / 2 ^ m % 2 → Between n low d q′ r′ m
-step n low d q r m q′ r′ w h e =
-    record { small = h; within = omega arith; adds-up = fold-step (2 ^ m) _ _ _ _ _ n e (next-digit low m) (double _ m _ n (w .adds-up)) }
+-- ---- the quotient rounded up, from the quotient and the rest
 
--- the quotient so far has room for another digit
-pub room : (n low d q r m : ℕ) → 0 < d → n ≤ d * (2 ^ 64 - 1) → Between n low d q r (suc m) → 2 * q + 1 < 2 ^ 64
-room n low d q r m h k w =
-    let b = below (2 ^ m) _ (2 ^ 64 - 1) (mul-le-mul-left (q * d) (pow-pos m)) (double _ m _ n (w .adds-up)) k in
-    last (le-of-mul-le-mul-right b h)
-  where
-    below : (p t N : ℕ) → q * d * 1 ≤ q * d * p → (q * d + r) * (2 * p) + t ≡ n → n ≤ d * N → 2 * q * d ≤ N * d
-    below p t N f e k = omega arith
+module _ (n d q r : ℕ) (whole : q * d + r ≡ n) (small : r < d) (fits : n ≤ d * (2 ^ 64 - 1)) where
+  pub quotient-below : q < 2 ^ 64
+  quotient-below = lt-of-mul-lt-mul-right d (omega arith)
 
-    last : 2 * q ≤ 2 ^ 64 - 1 → 2 * q + 1 < 2 ^ 64
-    last h = omega arith
-
--- the quotient rounded up, from the quotient and the rest of all digits
-module _ (n low d q r m : ℕ) (ends : m ≤ 0) (between : Between n low d q r m) (fits : n ≤ d * (2 ^ 64 - 1)) where
-  ended : n ≡ q * d + r
-  ended =
-      let e : m ≡ 0 = omega arith in
-      omega (arith, rw e at (between .adds-up), mod-one low)
-
-  pub exact-quotient : r ≤ 0 → q ≡ least (λ x. leb n (d * x))
-  exact-quotient h =
-      let k : q < 2 ^ 64 = lt-of-mul-lt-mul-right d (omega (arith, ended, between .small)) in
-      sym (ceil-eq n d q k (omega (arith, ended)) (omega (arith, ended, between .small)))
+  pub exact-quotient : r ≡ 0 → q ≡ least (λ x. leb n (d * x))
+  exact-quotient h = sym (ceil-eq n d q quotient-below (omega arith) (omega arith))
 
   pub quotient-room : 0 < r → q + 1 < 2 ^ 64
   quotient-room h =
-      let k : q < 2 ^ 64 - 1 = lt-of-mul-lt-mul-right d (omega (arith, ended)) in
+      let k : q < 2 ^ 64 - 1 = lt-of-mul-lt-mul-right d (omega arith) in
       omega arith
 
   pub next-quotient : 0 < r → q + 1 ≡ least (λ x. leb n (d * x))
-  next-quotient h = sym (ceil-eq n d (q + 1) (quotient-room h) (omega (arith, ended, between .small)) (omega (arith, ended)))
+  next-quotient h = sym (ceil-eq n d (q + 1) (quotient-room h) (omega arith) (omega arith))
 
--- ---- a number of one word, by the machine's quotient and rest
+-- ---- rounding up twice is rounding up once by the product, for any divisors: of one that passes a word, one factor after the other
 
-module _ (n d : ℕ) (fits : n < 2 ^ 64) (h : 0 < d) where
-  pub word-exact : n % d ≡ 0 → least (λ q. leb n (d * q)) ≡ n / d
-  word-exact z = ceil-eq n d (n / d) (omega (arith, div-le-self n d)) (omega (arith, div-add-mod' n d)) (omega (arith, div-add-mod' n d))
+rounded : (n a m x : ℕ) → n ≤ a * m → a * m < n + a → leb m x ≡ leb n (a * x)
+rounded n a m x h k =
+    leb-same m x n (a * x) (λ l. omega (arith, mul-le-mul-left a l))
+    (λ l.
+    let s : m < suc x = lt-of-mul-lt-mul-left a (omega arith) in
+    omega arith)
 
-  -- the quotient is below n where there is a rest
-  pub quotient-below : 0 < n % d → n / d < n
-  quotient-below r =
-      let two : 2 ≤ d = omega (arith, mod-lt n h) in
-      omega (arith, div-add-mod' n d, mul-le-mul-left (n / d) two)
-
-  pub word-next : 0 < n % d → least (λ q. leb n (d * q)) ≡ n / d + 1
-  word-next r = ceil-eq n d (n / d + 1) (omega (arith, quotient-below r)) (omega (arith, div-add-mod' n d, mod-lt n h)) (omega (arith, div-add-mod' n d))
+pub twice-rounded : (n a b m : ℕ) → n ≤ a * m → a * m < n + a → least (λ q. leb m (b * q)) ≡ least (λ q. leb n (a * (b * q)))
+twice-rounded n a b m h k = λ i. least (λ q. rounded n a m (b * q) h k i)

@@ -1,22 +1,37 @@
--- Where the upper word is 0, n is its lower word. Assumes nothing.
-use mathlib.Core.Path.{_≡_, _∙_}
-use Prim.Native.Nat.{ℕ, _+_, _*_, _^_}
+-- A quotient that fits a word is its lower word; it is rounded up by its rest. Assumes nothing.
+use mathlib.Core.Path.{_≡_, ap, _∙_}
+use Prim.Native.Nat.{ℕ, _+_}
 use native.Mathlib.Omega.{arith}
 use borrow.Author.Needs.{needs}
-use lib.Dec.{leb}
-use Rattle.search.specs.Least.{least}
 use Rattle.wide.specs.Value.{value}
+use Rattle.wide.proofs.division.Quotients.{quotient-below, exact-quotient, quotient-room, next-quotient}
 use Rattle.wide.proofs.division.divide_up.Statement.{statement}
 use Rattle.wide.proofs.division.divide_up.Tie as tie
 
-one-word : (h l : ℕ) → h ≡ 0 → l ≡ h * 2 ^ 64 + l
-one-word h l e = rw e (omega arith)
+-- the quotient is its lower word
+low-word : (c : tie.After-divide) → c .divide .result .quotient .low ≡ value (c .divide .result .quotient)
+unfolding value
+low-word c =
+    let e = c .divide .ensures in
+    omega (arith, quotient-below _ _ _ _ (e .1) (e .0) (c .before .pre .2))
+
+add-result : tie.Need-add-result
+add-result c =
+    let b = c .before .before in
+    let e = b .divide .ensures in
+    omega (arith, low-word b, quotient-room _ _ _ _ (e .1) (e .0) (b .before .pre .2) (search needs))
 
 returns : tie.Need-returns
-unfolding value
 returns c =
-    let a = c .before .before .args in
-    c .divide-word .ensures ∙ (λ i. least (λ q. leb (one-word (a .n .high) (a .n .low) (c .before .if1 .taken) i) (a .d * q)))
+    let b = c .before .before in
+    let e = b .divide .ensures in
+    low-word b ∙ exact-quotient _ _ _ _ (e .1) (e .0) (b .before .pre .2) (search needs)
+
+returns-2 : tie.Need-returns-2
+returns-2 c =
+    let b = c .before .before in
+    let e = b .divide .ensures in
+    ap (λ (x : ℕ). x + 1) (low-word b) ∙ next-quotient _ _ _ _ (e .1) (e .0) (b .before .pre .2) (search needs)
 
 pub divide-up-spec : {M : Type 1} → statement M
-divide-up-spec = tie.close (tie.spec (λ c κs. search needs) (λ c κs. search needs) returns (λ c. search needs))
+divide-up-spec = tie.close (tie.spec (λ c κs. search needs) add-result returns returns-2)
