@@ -1,3 +1,4 @@
+-- The laws behind the block call: the running sum, the radicands, the numerator of K, the rules and what they leave.
 pub mod Running
 pub mod Radicands
 pub mod Numerator

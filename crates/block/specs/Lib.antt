@@ -1,3 +1,4 @@
+-- What the block call is said by: what its steps hand on, the call itself, and what it accepts.
 pub mod Parts
 pub mod Call
 pub mod Accepted

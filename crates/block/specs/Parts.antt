@@ -1,10 +1,15 @@
 -- What the block call's steps hand on to one another. Assumes nothing.
 use mathlib.Core.Path.{_≡_}
 use mathlib.Core.List.{List, [], _∷_}
-use Prim.Native.Nat.{ℕ, _-_, _*_, _≤_}
+use Prim.Native.Nat.{ℕ, _+_, _-_, _*_, _^_, _≤_}
+use lib.IntN.{ℤ}
 use Rattle.search.specs.Each.{Each}
 use Rattle.amount.specs.Amount.{limit}
+use Rattle.guideline.specs.Sizes.{risks}
+use Rattle.guideline.specs.Factors.{factor, soFar}
 use Rattle.guideline.specs.Block.{I, D, U, LT, K, figuresOf}
+use Rattle.wide.specs.declared.Sum.{Sum}
+use Rattle.wide.specs.Sum.{held, filled}
 use Rattle.block.specs.declared.Figures.{Figures}
 
 -- the figures of the struct in document 01's order: I, D, U, LT, K
@@ -19,6 +24,17 @@ figures-are f b e = ((cc), (cc), (cc), (cc), (cc))
 -- y(1) to y(7) of an accepted block: none is above twice the limit
 abbrev pub SmallYs : List ℕ → Type 0
 SmallYs ys = Each (λ y. y ≤ 2 * limit) ys
+
+-- after k products the held sum is that of the products so far, and its columns have room for more
+pub record SoFar (ys : List ℕ) (k : ℕ) (s : Sum) : Type 0 where
+  pub sum : held s ≡ soFar ys k
+  pub room : filled s ≤ k * 2 ^ 52
+
+-- the factors of a row, counted from 0
+abbrev pub Row : (row : ℕ) (f₁ f₂ f₃ f₄ f₅ f₆ f₇ : ℤ) → Type 0
+Row row f₁ f₂ f₃ f₄ f₅ f₆ f₇ =
+    (f₁ ≡ factor (risks * row + 0)) × (f₂ ≡ factor (risks * row + 1)) × (f₃ ≡ factor (risks * row + 2)) × (f₄ ≡ factor (risks * row + 3))
+    × (f₅ ≡ factor (risks * row + 4)) × (f₆ ≡ factor (risks * row + 5)) × (f₇ ≡ factor (risks * row + 6))
 
 -- U, LT and D of an accepted block: LT within U, U of at most ten amounts, D between a third of V and V
 pub record FigureBounds (u l d : ℕ) : Type 0 where

@@ -4,18 +4,17 @@ ghost use Prim.Native.Nat.{_+_, _-_, _*_, _^_, _≤_, _<_, max};
 ghost use lib.Dec.{leb};
 ghost use Rattle.search.specs.Least.{least};
 ghost use Rattle.amount.specs.Amount.{limit};
-ghost use Rattle.guideline.specs.Factors.{quarterSum, soFar};
-ghost use Rattle.guideline.specs.Sizes.{risks};
+ghost use Rattle.guideline.specs.Factors.{factor};
+ghost use Rattle.guideline.specs.Sizes.{risks, products};
 ghost use Rattle.guideline.specs.Block.{AcceptedBlock, U, LT, ys, largestOf, I, radicand, requirement, figuresOf};
-ghost use Rattle.wide.specs.Sum.{held};
 ghost use Rattle.block.specs.Call.{stated, blockCall, firstLtAbove};
 ghost use Rattle.block.specs.Accepted.{BlockDemand3};
-ghost use Rattle.block.specs.Parts.{figureList, SmallYs, FigureBounds};
+ghost use Rattle.block.specs.Parts.{figureList, SmallYs, SoFar, Row, FigureBounds};
 use guideline::BLOCK_NUMBERS;
 use guideline::RISKS;
 use refusal::Place;
+use wide::Columns;
 use wide::Sum;
-use wide::Wide;
 use wide::division;
 use wide::running;
 use wide::words;
@@ -116,39 +115,197 @@ fn half_cents(b: &[u64; BLOCK_NUMBERS]) -> [u64; RISKS]
 // The sum over all pairs of risks, four times Q, row by row in the order of section 11.2.1.
 fn correlated(y: &[u64; RISKS]) -> Sum
     requires { ⌜ SmallYs (now y) ⌝ }
-    ensures { λ r. ⌜ held r ≡ quarterSum (now (y .entry)) ⌝ }
+    ensures { λ r. ⌜ SoFar (now (y .entry)) products r ⌝ }
 {
-    let mut s = Sum {
-        negative: false,
-        size: Wide { high: 0, low: 0 },
+    let nothing = Columns {
+        ones: 0,
+        middle: 0,
+        upper: 0,
     };
-    let mut row = 0usize;
-    while row < RISKS {
-        s = with_row(s, y, row);
-        row += 1;
-    }
-    s
+    let s0 = Sum {
+        added: nothing,
+        taken: nothing,
+    };
+    let s1 = mortality(s0, y);
+    let s2 = longevity(s1, y);
+    let s3 = incidence(s2, y);
+    let s4 = termination(s3, y);
+    let s5 = lapse_sensitive(s4, y);
+    let s6 = lapse_supported(s5, y);
+    expenses(s6, y)
 }
 
-// The sum with the seven products of a row added: after each product it is that of the products so far.
-fn with_row(before: Sum, y: &[u64; RISKS], row: usize) -> Sum
+// The rows. Each factor is read at a place that is written out, so that the compiler works with it as with a number.
+fn mortality(before: Sum, y: &[u64; RISKS]) -> Sum
+    requires { ⌜ SmallYs (now y) ⌝ }
+    requires { ⌜ SoFar (now y) 0 before ⌝ }
+    ensures { λ r. ⌜ SoFar (now (y .entry)) 7 r ⌝ }
+{
+    with_row(
+        before,
+        y,
+        0,
+        guideline::factor_at(0),
+        guideline::factor_at(1),
+        guideline::factor_at(2),
+        guideline::factor_at(3),
+        guideline::factor_at(4),
+        guideline::factor_at(5),
+        guideline::factor_at(6),
+    )
+}
+
+fn longevity(before: Sum, y: &[u64; RISKS]) -> Sum
+    requires { ⌜ SmallYs (now y) ⌝ }
+    requires { ⌜ SoFar (now y) 7 before ⌝ }
+    ensures { λ r. ⌜ SoFar (now (y .entry)) 14 r ⌝ }
+{
+    with_row(
+        before,
+        y,
+        1,
+        guideline::factor_at(7),
+        guideline::factor_at(8),
+        guideline::factor_at(9),
+        guideline::factor_at(10),
+        guideline::factor_at(11),
+        guideline::factor_at(12),
+        guideline::factor_at(13),
+    )
+}
+
+fn incidence(before: Sum, y: &[u64; RISKS]) -> Sum
+    requires { ⌜ SmallYs (now y) ⌝ }
+    requires { ⌜ SoFar (now y) 14 before ⌝ }
+    ensures { λ r. ⌜ SoFar (now (y .entry)) 21 r ⌝ }
+{
+    with_row(
+        before,
+        y,
+        2,
+        guideline::factor_at(14),
+        guideline::factor_at(15),
+        guideline::factor_at(16),
+        guideline::factor_at(17),
+        guideline::factor_at(18),
+        guideline::factor_at(19),
+        guideline::factor_at(20),
+    )
+}
+
+fn termination(before: Sum, y: &[u64; RISKS]) -> Sum
+    requires { ⌜ SmallYs (now y) ⌝ }
+    requires { ⌜ SoFar (now y) 21 before ⌝ }
+    ensures { λ r. ⌜ SoFar (now (y .entry)) 28 r ⌝ }
+{
+    with_row(
+        before,
+        y,
+        3,
+        guideline::factor_at(21),
+        guideline::factor_at(22),
+        guideline::factor_at(23),
+        guideline::factor_at(24),
+        guideline::factor_at(25),
+        guideline::factor_at(26),
+        guideline::factor_at(27),
+    )
+}
+
+fn lapse_sensitive(before: Sum, y: &[u64; RISKS]) -> Sum
+    requires { ⌜ SmallYs (now y) ⌝ }
+    requires { ⌜ SoFar (now y) 28 before ⌝ }
+    ensures { λ r. ⌜ SoFar (now (y .entry)) 35 r ⌝ }
+{
+    with_row(
+        before,
+        y,
+        4,
+        guideline::factor_at(28),
+        guideline::factor_at(29),
+        guideline::factor_at(30),
+        guideline::factor_at(31),
+        guideline::factor_at(32),
+        guideline::factor_at(33),
+        guideline::factor_at(34),
+    )
+}
+
+fn lapse_supported(before: Sum, y: &[u64; RISKS]) -> Sum
+    requires { ⌜ SmallYs (now y) ⌝ }
+    requires { ⌜ SoFar (now y) 35 before ⌝ }
+    ensures { λ r. ⌜ SoFar (now (y .entry)) 42 r ⌝ }
+{
+    with_row(
+        before,
+        y,
+        5,
+        guideline::factor_at(35),
+        guideline::factor_at(36),
+        guideline::factor_at(37),
+        guideline::factor_at(38),
+        guideline::factor_at(39),
+        guideline::factor_at(40),
+        guideline::factor_at(41),
+    )
+}
+
+fn expenses(before: Sum, y: &[u64; RISKS]) -> Sum
+    requires { ⌜ SmallYs (now y) ⌝ }
+    requires { ⌜ SoFar (now y) 42 before ⌝ }
+    ensures { λ r. ⌜ SoFar (now (y .entry)) 49 r ⌝ }
+{
+    with_row(
+        before,
+        y,
+        6,
+        guideline::factor_at(42),
+        guideline::factor_at(43),
+        guideline::factor_at(44),
+        guideline::factor_at(45),
+        guideline::factor_at(46),
+        guideline::factor_at(47),
+        guideline::factor_at(48),
+    )
+}
+
+// The sum with the seven products of a row added, each by its factor.
+fn with_row(
+    before: Sum,
+    y: &[u64; RISKS],
+    row: usize,
+    f1: i64,
+    f2: i64,
+    f3: i64,
+    f4: i64,
+    f5: i64,
+    f6: i64,
+    f7: i64,
+) -> Sum
     requires { ⌜ row < risks ⌝ }
     requires { ⌜ SmallYs (now y) ⌝ }
-    requires { ⌜ held before ≡ soFar (now y) (risks * row) ⌝ }
-    ensures { λ r. ⌜ held r ≡ soFar (now (y .entry)) (risks * row + risks) ⌝ }
+    requires { ⌜ SoFar (now y) (risks * row) before ⌝ }
+    requires { ⌜ Row row f1 f2 f3 f4 f5 f6 f7 ⌝ }
+    ensures { λ r. ⌜ SoFar (now (y .entry)) (risks * row + risks) r ⌝ }
 {
-    let mut s = before;
-    let mut column = 0usize;
-    while column < RISKS {
-        s = running::add_term(
-            s,
-            guideline::factor_at(RISKS * row + column),
-            y[row],
-            y[column],
-        );
-        column += 1;
-    }
-    s
+    let s1 = with_product(before, y, row, 0, f1);
+    let s2 = with_product(s1, y, row, 1, f2);
+    let s3 = with_product(s2, y, row, 2, f3);
+    let s4 = with_product(s3, y, row, 3, f4);
+    let s5 = with_product(s4, y, row, 4, f5);
+    let s6 = with_product(s5, y, row, 5, f6);
+    with_product(s6, y, row, 6, f7)
+}
+
+// The sum with one product more: from that of the first k products, k = 7 × row + column, to that of the first k + 1.
+fn with_product(before: Sum, y: &[u64; RISKS], row: usize, column: usize, f: i64) -> Sum
+    requires { ⌜ (row < risks) × (column < risks) ⌝ }
+    requires { ⌜ SmallYs (now y) ⌝ }
+    requires { ⌜ SoFar (now y) (risks * row + column) before ⌝ }
+    requires { ⌜ f ≡ factor (risks * row + column) ⌝ }
+    ensures { λ r. ⌜ SoFar (now (y .entry)) (risks * row + (column + 1)) r ⌝ }
+{
+    running::add_term(before, f, y[row], y[column])
 }
 
 // The larger of two.

@@ -1,3 +1,3 @@
--- What the proofs of the running sum share: laws of signs and of sizes.
+-- What the proofs of the running sum share: laws of signs and of columns.
 pub mod Sign
-pub mod Size
+pub mod Column

@@ -1,7 +1,6 @@
-// Numbers of two machine words: products, sums, differences, order and quarters.
+// Numbers of two machine words: products, sums, differences and quarters.
 ghost use mathlib.Core.Path.{_≡_};
 ghost use Prim.Native.Nat.{_+_, _*_, _/_, _^_, _<_, _≤_};
-ghost use lib.Dec.{leb};
 ghost use Rattle.wide.specs.Value.{value};
 use crate::Wide;
 
@@ -89,21 +88,4 @@ pub(crate) fn subtract(a: Wide, b: Wide) -> Wide
             low: LARGEST_WORD - (bl - al) + 1,
         }
     }
-}
-
-// Whether a is at most b.
-pub(crate) fn at_most(a: Wide, b: Wide) -> bool
-    ensures { λ r. ⌜ r ≡ leb (value a) (value b) ⌝ }
-{
-    let ah = a.high;
-    let al = a.low;
-    let bh = b.high;
-    let bl = b.low;
-    if ah < bh {
-        return true;
-    }
-    if bh < ah {
-        return false;
-    }
-    al <= bl
 }

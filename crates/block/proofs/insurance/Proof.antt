@@ -22,10 +22,10 @@ correlated-requires c κs = subst (λ (l : List ℕ). SmallYs l) (sym (c .before
 summed : (c : tie.After-correlated) → held (c .correlated .result) ≡ pos (q (c .before .before .before .args .b .now))
 summed c =
     let y = c .before .before in
-    sum-is _ (y .before .pre) _ _ (c .correlated .ensures) (y .half-cents .ensures)
+    sum-is _ (y .before .pre) _ _ (c .correlated .ensures .sum) (y .half-cents .ensures)
 
 unsigned-requires : tie.Need-unsigned-requires
-unsigned-requires c κs = (q (c .before .before .before .args .b .now), summed c)
+unsigned-requires c κs = ((q (c .before .before .before .args .b .now), summed c), omega (arith, c .correlated .ensures .room))
 
 -- its quarter, rounded up
 quarter : (c : tie.After-quarter-up) → let s = c .before .before .before .before .before in value (c .quarter-up .result) ≡ (q (s .args .b .now) + 3) / 4

@@ -1,59 +1,15 @@
--- Numbers with a sign: their sums, and an integer by its sign and its size. Assumes nothing.
-use mathlib.Core.Path.{_≡_, refl, sym, ap, _∙_, subst}
-use mathlib.Core.Bool.{Bool, true, false, not, Bool·beq}
-use Prim.Native.Nat.{ℕ, _+_, _*_, _<_}
+-- Integers by their sign and their size, as differences of naturals. Assumes nothing.
+use mathlib.Core.Path.{_≡_, sym, ap, _∙_, subst}
+use mathlib.Core.Bool.{true, false}
+use Prim.Native.Nat.{ℕ, suc, _+_, _*_, _≤_, _<_}
+use native.Mathlib.Nat.{lt-of-not-le}
+use native.Mathlib.Decide.{decLe}
 use native.Mathlib.Omega.{arith}
 use lib.Dec.{T}
-use lib.IntN.{ℤ, pos, negsuc, natAbs, subℕ, _+ℤ_, _-ℤ_, _*ℤ_}
+use lib.IntN.{ℤ, pos, negsuc, natAbs, subℕ, pos-ne-negsuc, _+ℤ_, _-ℤ_, _*ℤ_}
 use lib.Signed.{ltZ, nonNeg}
-use borrow.Author.Tests.{ltb-true, le-ltb}
-use Rattle.wide.specs.Sum.{signed}
-use Rattle.integer.proofs.Integer.{as-diff, neg-as-diff, diff-add, diff-eq}
-
--- what a number with a sign adds above and below 0
-abbrev plus : Bool → ℕ → ℕ
-plus false n = n
-plus true n = 0
-
-abbrev minus : Bool → ℕ → ℕ
-minus false n = 0
-minus true n = n
-
-signed-diff : (b : Bool) (n : ℕ) → signed b n ≡ subℕ (plus b n) (minus b n)
-signed-diff false n = as-diff n
-signed-diff true n = neg-as-diff n
-
--- an equation of three numbers with signs is one of naturals
-sum-of : (b b₁ b₂ : Bool) (z x y : ℕ) → plus b z + (minus b₁ x + minus b₂ y) ≡ plus b₁ x + plus b₂ y + minus b z → signed b z ≡ signed b₁ x +ℤ signed b₂ y
-sum-of b b₁ b₂ z x y e =
-    signed-diff b z ∙ diff-eq (plus b z) (minus b z) (plus b₁ x + plus b₂ y) (minus b₁ x + minus b₂ y) e
-    ∙ sym (diff-add (plus b₁ x) (minus b₁ x) (plus b₂ y) (minus b₂ y)) ∙ sym (λ i. signed-diff b₁ x i +ℤ signed-diff b₂ y i)
-
--- the sum of two numbers with one sign, and with two signs, where the first or the second has the larger size
-pub together : (b : Bool) (z x y : ℕ) → z ≡ x + y → signed b z ≡ signed b x +ℤ signed b y
-together false z x y e = sum-of false false false z x y (omega arith)
-together true z x y e = sum-of true true true z x y (omega arith)
-
-pub against : (b : Bool) (z x y : ℕ) → z + y ≡ x → signed b z ≡ signed b x +ℤ signed (not b) y
-against false z x y e = sum-of false false true z x y (omega arith)
-against true z x y e = sum-of true true false z x y (omega arith)
-
-pub across : (b : Bool) (z x y : ℕ) → z + x ≡ y → signed (not b) z ≡ signed b x +ℤ signed (not b) y
-across false z x y e = sum-of true false true z x y (omega arith)
-across true z x y e = sum-of false true false z x y (omega arith)
-
--- what a test of two signs says
-pub same-sign : (a b : Bool) → Bool·beq a b ≡ true → b ≡ a
-same-sign true true e = refl
-same-sign true false e = e
-same-sign false true e = sym e
-same-sign false false e = refl
-
-pub other-sign : (a b : Bool) → Bool·beq a b ≡ false → b ≡ not a
-other-sign true true e = e
-other-sign true false e = refl
-other-sign false true e = refl
-other-sign false false e = sym e
+use borrow.Author.Tests.{ltb-true}
+use Rattle.integer.proofs.Integer.{below, as-diff, neg-as-diff, diff-add, diff-eq}
 
 -- what a test against 0 says
 pub negated : (z : ℤ) → ltZ z (pos 0) ≡ true → pos 0 -ℤ z ≡ pos (natAbs z)
@@ -64,7 +20,31 @@ pub not-below : (z : ℤ) → ltZ z (pos 0) ≡ false → T (nonNeg z)
 not-below (pos n) e = tt
 not-below (negsuc n) e = subst T e tt
 
--- an integer times a natural, by its sign and its size
-pub signed-mul : (z : ℤ) (n : ℕ) → signed (ltZ z (pos 0)) (natAbs z * n) ≡ z *ℤ pos n
-signed-mul (pos k) n = ap (λ (b : Bool). signed b (k * n)) (le-ltb k 0 (omega arith))
-signed-mul (negsuc k) n = refl
+-- a product with an integer below 0, and with one that is not
+times-below : (z : ℤ) (n : ℕ) → ltZ z (pos 0) ≡ true → z *ℤ pos n ≡ subℕ 0 (natAbs z * n)
+times-below (pos k) n e = absurd (let h : k < 0 = ltb-true k 0 e in let x : ⊥ = omega arith in x)
+times-below (negsuc k) n e = neg-as-diff (suc k * n)
+
+times-above : (z : ℤ) (n : ℕ) → ltZ z (pos 0) ≡ false → z *ℤ pos n ≡ subℕ (natAbs z * n) 0
+times-above (pos k) n e = as-diff (k * n)
+times-above (negsuc k) n e = absurd (subst T e tt)
+
+-- so the one is taken away, and the other added
+pub taken-away : (z : ℤ) (a b c n : ℕ) → ltZ z (pos 0) ≡ true → c ≡ b + natAbs z * n → subℕ a c ≡ subℕ a b +ℤ z *ℤ pos n
+taken-away z a b c n t e =
+    diff-eq a c (a + 0) (b + natAbs z * n) (omega arith) ∙ sym (diff-add a b 0 (natAbs z * n)) ∙ ap (λ (x : ℤ). subℕ a b +ℤ x) (sym (times-below z n t))
+
+pub added-to : (z : ℤ) (a b c n : ℕ) → ltZ z (pos 0) ≡ false → c ≡ a + natAbs z * n → subℕ c b ≡ subℕ a b +ℤ z *ℤ pos n
+added-to z a b c n t e =
+    diff-eq c b (a + natAbs z * n) (b + 0) (omega arith) ∙ sym (diff-add a b (natAbs z * n) 0) ∙ ap (λ (x : ℤ). subℕ a b +ℤ x) (sym (times-above z n t))
+
+-- a difference that is a natural
+pub not-more : (a b q : ℕ) → subℕ a b ≡ pos q → b ≤ a
+not-more a b q e = go (decLe b a)
+  where
+    go : Dec (b ≤ a) → b ≤ a
+    go (yes h) = h
+    go (no n) = absurd (pos-ne-negsuc _ _ (sym e ∙ below (lt-of-not-le n)))
+
+pub as-natural : (a b n : ℕ) → n + b ≡ a → pos n ≡ subℕ a b
+as-natural a b n e = as-diff n ∙ diff-eq n 0 a b (omega arith)

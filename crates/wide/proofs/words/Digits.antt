@@ -1,4 +1,4 @@
--- Numbers of two digits in any base: products, carries, borrows, order and quarters. Assumes nothing.
+-- Numbers of two digits in any base: products, carries, borrows and quarters. Assumes nothing.
 use mathlib.Core.Path.{_≡_, sym, ap, _∙_}
 use Prim.Native.Nat.{ℕ, suc, _+_, _-_, _*_, _/_, _%_, _^_, _≤_, _<_}
 use native.Mathlib.Nat.{mul-le-mul, mul-le-mul-right, lt-of-mul-lt-mul-right, div-add-mod'}
@@ -74,10 +74,6 @@ minus-borrow P ah al bh bl h k l =
     let d : ℕ = ah - bh - 1 in
     let e : d + bh + 1 ≡ ah = omega arith in
     omega (arith, ap (λ (x : ℕ). x * P) e)
-
--- a larger upper digit decides
-pub by-high : (P ah al bh bl : ℕ) → al < P → ah < bh → ah * P + al < bh * P + bl
-by-high P ah al bh bl h k = omega (arith, mul-le-mul-right P k)
 
 -- a quarter, rounded down, and what is left: the last two binary digits of the upper digit go down
 pub quarter : (Q h l : ℕ) → 4 * (h / 4 * (4 * Q) + (h % 4 * Q + l / 4)) + l % 4 ≡ h * (4 * Q) + l

@@ -1,5 +1,4 @@
 -- A shift of 1 by less than a word loses nothing. Assumes nothing.
-use native.Mathlib.Nat.{mod-eq-of-lt}
 use native.Mathlib.Omega.{arith}
 use borrow.Author.Needs.{needs}
 use lib.Pow.{pow-lt}

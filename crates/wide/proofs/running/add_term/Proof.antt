@@ -1,46 +1,67 @@
--- The factor's size times a and b is a size, and the factor's sign its sign: together they are factor × a × b. Assumes nothing.
-use mathlib.Core.Path.{_≡_, ap, _∙_}
-use Prim.Native.Nat.{ℕ, _+_, _*_, _^_, _≤_, _<_}
-use native.Mathlib.Nat.{mul-le-mul-right}
+-- A product by a factor below 0 goes to what is taken away, another to what is added. A signed local holds bits, and each read gives
+-- toZ w64 (ofZ w64 x),  which is x. Assumes nothing.
+use mathlib.Core.Path.{_≡_, ap, _∙_, subst}
+use mathlib.Core.Bool.{true, false}
+use Prim.Native.Nat.{ℕ, _+_, _*_, _^_, _≤_}
+use native.Mathlib.Nat.{mul-le-mul}
 use native.Mathlib.Omega.{arith}
 use borrow.Author.Needs.{needs}
-use lib.IntN.{ℤ, pos, natAbs, _+ℤ_}
+use lib.IntN.{ℤ, pos, natAbs}
 use lib.Signed.{ltZ}
 use mir.Syntax.{w64}
+use mir.Val.{toZ, ofZ}
 use mir.ValLaws.{toZ-ofZ}
-use Rattle.wide.specs.Value.{value}
-use Rattle.wide.specs.Sum.{held, signed}
-use Rattle.wide.proofs.running.Sign.{signed-mul}
+use Rattle.wide.specs.Sum.{number, fill, held, filled}
+use Rattle.wide.proofs.running.Sign.{taken-away, added-to}
 use Rattle.wide.proofs.running.add_term.Statement.{statement}
 use Rattle.wide.proofs.running.add_term.Tie as tie
 
--- the factor is passed as the machine reads it
-sized : (c : tie.After-size-of) → c .size-of .result ≡ natAbs (c .before .args .factor)
-sized c = c .size-of .ensures ∙ ap natAbs (toZ-ofZ w64 (c .before .args .factor) (c .before .fits .factor))
+-- the factor as the machine reads it
+same : (c : tie.After-columns-of) → let f = c .before .before .before .before .args .factor in toZ w64 (ofZ w64 f) ≡ f
+same c = let s = c .before .before .before .before in toZ-ofZ w64 (s .args .factor) (s .fits .factor)
 
-small : (c : tie.After-size-of) → c .size-of .result ≤ 4
-small c = omega (arith, sized c, c .before .pre .0)
+sized : (c : tie.After-columns-of) → c .before .size-of .result ≡ natAbs (c .before .before .before .before .args .factor)
+sized c = c .before .size-of .ensures ∙ ap natAbs (same c)
 
-mul-product : tie.Need-mul-product
-mul-product c = omega (arith, mul-le-mul-right (c .before .args .a) (small c), c .before .pre .1)
+-- four times a product's columns at most
+small : (c : tie.After-columns-of) → c .before .size-of .result * fill (c .columns-of .result) ≤ 2 ^ 52
+small c =
+    let m : c .before .size-of .result ≤ 4 = omega (arith, sized c, c .before .before .before .before .pre .0) in
+    mul-le-mul m (c .columns-of .ensures .1)
 
-bound : (m a b p v N : ℕ) → m ≤ 4 → p ≡ m * a * b → v + 4 * (a * b) < N → v + p < N
-bound m a b p v N h e k = omega (arith, mul-le-mul-right (a * b) h)
+parts : (c : tie.After-columns-of) → let s = c .before .before .before .before .args .s in (fill (s .added) ≤ 2 ^ 63) × (fill (s .taken) ≤ 2 ^ 63)
+unfolding filled
+parts c = omega (arith, c .before .before .before .before .pre .3)
 
-add-signed-requires : tie.Need-add-signed-requires
-add-signed-requires c κs =
-    let s = c .before .before in
-    bound _ (s .args .a) (s .args .b) _ (value (s .args .s .size)) (2 ^ 128) (small (c .before)) (c .product .ensures) (s .pre .2)
+term : (c : tie.After-columns-of) →
+    let a = c .before .before .before .before .args in
+    c .before .size-of .result * number (c .columns-of .result) ≡ natAbs (a .factor) * (a .a * a .b)
+term c = λ i. sized c i * c .columns-of .ensures .0 i
 
 returns : tie.Need-returns
+unfolding held filled
 returns c =
-    let s = c .before .before .before in
-    let n : ℕ = s .args .a * s .args .b in
-    let e : value (c .before .product .result) ≡ natAbs (s .args .factor) * n =
-    c .before .product .ensures ∙ ap (λ (x : ℕ). x * s .args .a * s .args .b) (sized (c .before .before)) ∙ omega arith in
-    c .add-signed .ensures
-    ∙ (λ i. held (s .args .s) +ℤ signed (ltZ (toZ-ofZ w64 (s .args .factor) (s .fits .factor) i) (pos 0)) (e i))
-    ∙ ap (λ (z : ℤ). held (s .args .s) +ℤ z) (signed-mul (s .args .factor) n)
+    let p = c .before .before in
+    let a = p .before .before .before .before .args in
+    let t = subst (λ (z : ℤ). ltZ z (pos 0) ≡ true) (same p) (c .before .if1 .taken) in
+    let e = c .add-columns .ensures in (
+      taken-away (a .factor) (number (a .s .added)) (number (a .s .taken)) _ (a .a * a .b) t (e .0 ∙ ap (λ (x : ℕ). number (a .s .taken) + x) (term p)),
+      omega (arith, small p, e .1),
+    )
+
+returns-2 : tie.Need-returns-2
+unfolding held filled
+returns-2 c =
+    let p = c .before .before in
+    let a = p .before .before .before .before .args in
+    let t = subst (λ (z : ℤ). ltZ z (pos 0) ≡ false) (same p) (c .before .if1 .left) in
+    let e = c .add-columns2 .ensures in (
+      added-to (a .factor) (number (a .s .added)) (number (a .s .taken)) _ (a .a * a .b) t (e .0 ∙ ap (λ (x : ℕ). number (a .s .added) + x) (term p)),
+      omega (arith, small p, e .1),
+    )
 
 pub add-term-spec : {M : Type 1} → statement M
-add-term-spec = tie.close (tie.spec (λ c κs. search needs) mul-product (λ c κs. search needs) add-signed-requires returns)
+add-term-spec =
+    tie.close
+    (tie.spec (λ c κs. search needs) (λ c κs. search needs) (λ c κs. omega (arith, small (c .before), parts (c .before)))
+    (λ c κs. omega (arith, small (c .before), parts (c .before))) returns returns-2)

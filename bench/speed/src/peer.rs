@@ -1,0 +1,286 @@
+//! The calculator of document 01 as a good programmer writes it with u128: no allocation, every figure worked out once, and
+//! everything tested that document 01 has tested. It is here for its speed; tests/reference, written to be plain, is the
+//! independent calculation.
+//!
+//! The root is left to the caller: one binary digit a step, as ours goes, or Newton's.
+
+use reference::{
+    Refusal, BLOCK_NUMBERS, FIGURES, GENERAL_CLASSES, GENERAL_NUMBERS, LARGEST_AMOUNT, LARGEST_SCALAR, LINE_BYTES, LONGEST_SHEET,
+    MOST_BLOCKS, MOST_VOLUMES, REPORT_LINE_BYTES, RISKS, TERRITORY_NUMBERS, VOLUME_CLASSES,
+};
+
+/// The least whole number whose square is at least the radicand.
+pub type Root = fn(u128) -> u64;
+
+/// The root one binary digit a step: two digits of the radicand are brought down in each.
+pub fn root_by_digits(radicand: u128) -> u64 {
+    let (mut root, mut rest) = (0_u128, radicand);
+    let mut bit = 1_u128 << ((127 - (radicand | 1).leading_zeros()) & !1);
+    while bit != 0 {
+        let odd = root + bit;
+        root >>= 1;
+        if odd <= rest {
+            rest -= odd;
+            root += bit;
+        }
+        bit >>= 2;
+    }
+    root as u64 + u64::from(rest != 0)
+}
+
+/// The root by Newton's way: from the machine's square root of the rounded number, one step and a correction.
+pub fn root_by_newton(radicand: u128) -> u64 {
+    if radicand == 0 {
+        return 0;
+    }
+    let guess = (radicand as f64).sqrt() as u128;
+    let mut root = (guess + radicand / guess) / 2;
+    while root * root > radicand {
+        root -= 1;
+    }
+    while root * root < radicand {
+        root += 1;
+    }
+    root as u64
+}
+
+/// The correlation factors, in quarters, above the diagonal twice: they are symmetric.
+const FACTORS: [[i128; RISKS]; RISKS] = [
+    [4, -2, 4, -2, 2, 0, 4],
+    [0, 4, -2, 4, 2, -2, 2],
+    [0, 0, 4, 2, 4, 0, 4],
+    [0, 0, 0, 4, 4, -2, 4],
+    [0, 0, 0, 0, 4, -4, 4],
+    [0, 0, 0, 0, 0, 4, -2],
+    [0, 0, 0, 0, 0, 0, 4],
+];
+
+/// The block call.
+pub fn block(b: &[u64; BLOCK_NUMBERS], root: Root) -> Result<[u64; FIGURES], Refusal> {
+    if let Some(position) = b.iter().position(|&amount| amount > LARGEST_AMOUNT) {
+        return Err(Refusal::at_position(7, position));
+    }
+    if b[2 * RISKS - 1] != 0 {
+        return Err(Refusal::at_position(8, 2 * RISKS - 1));
+    }
+    if let Some(risk) = (0..RISKS).find(|&i| b[2 * i] < b[2 * i + 1]) {
+        return Err(Refusal::at_position(9, 2 * risk + 1));
+    }
+    Ok(figures(b, root))
+}
+
+/// I, D, U, LT and K of a block that rules 7, 8 and 9 let pass.
+fn figures(b: &[u64; BLOCK_NUMBERS], root: Root) -> [u64; FIGURES] {
+    let [pc, credit, market] = [b[14], b[15], b[16]];
+    let (mut u, mut lt, mut largest) = (pc + credit + market, 0, 0);
+    let mut y = [0; RISKS];
+    for (i, y) in y.iter_mut().enumerate() {
+        *y = 2 * b[2 * i] - b[2 * i + 1];
+        largest = largest.max(*y);
+        u += b[2 * i];
+        lt += b[2 * i + 1];
+    }
+    let mut sum = 0_i128;
+    for i in 0..RISKS {
+        for j in i..RISKS {
+            sum += FACTORS[i][j] * (i128::from(y[i]) * i128::from(y[j]));
+        }
+    }
+    let i = root((sum as u128).div_ceil(4)).max(largest) + 2 * pc;
+    let (a, wide_i) = (u128::from(2 * (credit + market)), u128::from(i));
+    let d = root(a * a + a * wide_i + wide_i * wide_i);
+    [i, d, u, lt, requirement(u.into(), lt.into(), d.into())]
+}
+
+/// K.
+fn requirement(u: u128, lt: u128, d: u128) -> u64 {
+    if u == 0 {
+        return 0;
+    }
+    let v = 2 * u - lt;
+    let m = (7 * v * v + 30 * d * d).saturating_sub(31 * d * v);
+    (48 * u * v + 6 * lt * v + m).div_ceil(60 * v) as u64
+}
+
+/// The factors of the volume classes and of the general figures, in ten-thousandths.
+const VOLUME_FACTORS: [u64; VOLUME_CLASSES] = [250, 250, 250, 175, 40, 15, 10, 10];
+const GENERAL_FACTORS: [u64; GENERAL_NUMBERS] = [575, 450, 250];
+
+/// RO of amounts within the limit.
+fn operational(volumes: &[u64; MOST_VOLUMES], general: &[u64; GENERAL_CLASSES]) -> u64 {
+    let mut sum = 0_u128;
+    for territory in volumes.chunks_exact(TERRITORY_NUMBERS) {
+        for (pair, factor) in territory.chunks_exact(2).zip(VOLUME_FACTORS) {
+            let current = 5 * pair[0];
+            sum += u128::from(factor * (current + current.saturating_sub(6 * pair[1])));
+        }
+    }
+    for (factor, amount) in GENERAL_FACTORS.iter().zip(general) {
+        sum += u128::from(factor * 5 * amount);
+    }
+    sum.div_ceil(50_000) as u64
+}
+
+/// What the lines of a sheet say: tables of the amounts, and which lines and blocks there were.
+struct Sheet {
+    blocks: [[u64; BLOCK_NUMBERS]; MOST_BLOCKS],
+    volumes: [u64; MOST_VOLUMES],
+    general: [u64; GENERAL_CLASSES],
+    /// A bit for each class: of RSK, then OTH, then VOL, for each block; of GEN in the last.
+    seen: [u32; MOST_BLOCKS + 1],
+}
+
+/// The sheet call.
+pub fn sheet(bytes: &[u8], report: &mut [u8], root: Root) -> Result<usize, Refusal> {
+    if bytes.len() > LONGEST_SHEET {
+        return Err(Refusal::nowhere(1));
+    }
+    if bytes.len() % LINE_BYTES != 0 {
+        return Err(Refusal::nowhere(2));
+    }
+    let mut sheet = Sheet {
+        blocks: [[0; BLOCK_NUMBERS]; MOST_BLOCKS],
+        volumes: [0; MOST_VOLUMES],
+        general: [0; GENERAL_CLASSES],
+        seen: [0; MOST_BLOCKS + 1],
+    };
+    for (at, line) in bytes.chunks_exact(LINE_BYTES).enumerate() {
+        if let Some(number) = sheet.enter(line.try_into().unwrap()) {
+            return Err(Refusal::at_line(number, at + 1));
+        }
+    }
+    sheet.report(report, root)
+}
+
+/// The bits of `seen` that say that a block exists, those of RSK and OTH; where those of OTH and of VOL begin.
+const EXISTS: u32 = (1 << VOLUMES_FROM) - 1;
+const OTHERS_FROM: usize = RISKS;
+const VOLUMES_FROM: usize = RISKS + 3;
+
+impl Sheet {
+    /// A line: the number of the rule that turns it away, if there is one.
+    fn enter(&mut self, line: &[u8; LINE_BYTES]) -> Option<u8> {
+        if line[3] != b' ' || line[6] != b' ' || line[9] != b' ' || line[24] != b' ' || line[39] != b'\n' {
+            return Some(3);
+        }
+        let (Some(block), Some(class), Some(first), Some(second)) =
+            (number(&line[4..6]), number(&line[7..9]), number(&line[10..24]), number(&line[25..39]))
+        else {
+            return Some(3);
+        };
+        let (block, class) = (block as usize, class as usize);
+        let (blocks, classes, bits_from) = match &line[..3] {
+            b"RSK" => (1..=MOST_BLOCKS, RISKS, 0),
+            b"OTH" => (1..=MOST_BLOCKS, 3, OTHERS_FROM),
+            b"VOL" => (1..=MOST_BLOCKS, VOLUME_CLASSES, VOLUMES_FROM),
+            b"GEN" => (0..=0, GENERAL_CLASSES, 0),
+            _ => return Some(4),
+        };
+        if !blocks.contains(&block) {
+            return Some(5);
+        }
+        if class < 1 || classes < class {
+            return Some(6);
+        }
+        let at = class - 1;
+        let bit = 1 << (bits_from + at);
+        let seen = block.wrapping_sub(1).min(MOST_BLOCKS);
+        match line[0] {
+            b'R' if class == RISKS && second != 0 => return Some(8),
+            b'R' if first < second => return Some(9),
+            b'O' | b'G' if second != 0 => return Some(8),
+            b'G' if class == 4 && !(1..=LARGEST_SCALAR).contains(&first) => return Some(10),
+            _ => {}
+        }
+        if self.seen[seen] & bit != 0 {
+            return Some(11);
+        }
+        self.seen[seen] |= bit;
+        match line[0] {
+            b'R' => self.blocks[seen][2 * at..2 * at + 2].copy_from_slice(&[first, second]),
+            b'O' => self.blocks[seen][2 * RISKS + at] = first,
+            b'V' => {
+                let from = TERRITORY_NUMBERS * seen + 2 * at;
+                self.volumes[from..from + 2].copy_from_slice(&[first, second]);
+            }
+            _ => self.general[at] = first,
+        }
+        None
+    }
+
+    /// Rules 12 to 14, and the report.
+    fn report(&self, report: &mut [u8], root: Root) -> Result<usize, Refusal> {
+        let [_, guarantee, _, scalar, credits] = self.general;
+        if scalar == 0 {
+            return Err(Refusal::nowhere(12));
+        }
+        let mut rows = [(0, [0; FIGURES]); MOST_BLOCKS];
+        let (mut blocks, mut sum) = (0, 0);
+        for (number, (numbers, seen)) in self.blocks.iter().zip(self.seen).enumerate() {
+            if seen & EXISTS != 0 {
+                rows[blocks] = (number as u64 + 1, figures(numbers, root));
+                sum += rows[blocks].1[4];
+                blocks += 1;
+            }
+        }
+        let ro = operational(&self.volumes, &self.general);
+        let Some(bracket) = (sum + guarantee + ro).checked_sub(credits) else {
+            return Err(Refusal::nowhere(13));
+        };
+        let length = REPORT_LINE_BYTES * (FIGURES * blocks + 3);
+        if report.len() < length {
+            return Err(Refusal::nowhere(14));
+        }
+        let buffer = (u128::from(scalar) * u128::from(bracket)).div_ceil(10_000) as u64;
+        let (lines, totals) = report[..length].split_at_mut(REPORT_LINE_BYTES * FIGURES * blocks);
+        for ((number, figures), lines) in rows.iter().zip(lines.chunks_exact_mut(REPORT_LINE_BYTES * FIGURES)) {
+            write_items(lines, b"BLK", *number, figures);
+        }
+        write_items(totals, b"TOT", 0, &[sum, ro, buffer]);
+        Ok(length)
+    }
+}
+
+/// A number: decimal, right-justified, spaces before, at least one digit, no leading zero except 0 itself.
+fn number(field: &[u8]) -> Option<u64> {
+    let mut at = 0;
+    while at < field.len() && field[at] == b' ' {
+        at += 1;
+    }
+    let digits = &field[at..];
+    if digits.is_empty() || (digits.len() > 1 && digits[0] == b'0') {
+        return None;
+    }
+    let mut value = 0;
+    for &byte in digits {
+        let digit = byte.wrapping_sub(b'0');
+        if digit > 9 {
+            return None;
+        }
+        value = 10 * value + u64::from(digit);
+    }
+    Some(value)
+}
+
+/// A line for each figure, the items counted from 1.
+fn write_items(lines: &mut [u8], code: &[u8; 3], block: u64, figures: &[u64]) {
+    for ((line, item), &figure) in lines.chunks_exact_mut(REPORT_LINE_BYTES).zip(1..).zip(figures) {
+        line.fill(b' ');
+        line[..3].copy_from_slice(code);
+        write_number(&mut line[4..6], block);
+        write_number(&mut line[7..9], item);
+        write_number(&mut line[10..28], figure);
+        line[28] = b'\n';
+    }
+}
+
+/// A number at the end of a field of spaces.
+fn write_number(field: &mut [u8], mut number: u64) {
+    for byte in field.iter_mut().rev() {
+        *byte = b'0' + (number % 10) as u8;
+        number /= 10;
+        if number == 0 {
+            break;
+        }
+    }
+}
