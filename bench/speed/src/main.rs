@@ -1,135 +1,136 @@
-//! The library's calls, through the Rust wrapper, beside the calls of tests/reference (u128, written to be plain), in one
-//! run. Samples of ours and samples of theirs take turns, and so do the things measured, so that whatever else the machine
-//! does falls on all of them; the median of each is printed.
+//! The library's calls, through the Rust wrapper, beside those of a good u128 program (peer.rs) with two roots, one binary
+//! digit a step and Newton's, on figures that change (figures.rs).
 //!
-//! Both are treated alike: the same sheet, and a lent report of the same length that is cleared before no call, of
-//! either side. What a call itself clears or allocates is part of its time.
+//! A sample is one pass over all the blocks or sheets of a kind. Samples of the three sides take turns, and so do the kinds, so
+//! that whatever else the machine does falls on all of them; the shortest of each is printed. The answers are compared first.
+//!
+//! All are treated alike: the same sheets, and a lent report of the same length that is cleared before no call, of
+//! any side. What a call itself clears is part of its time.
 
+mod figures;
+mod peer;
+
+use figures::{small_lines, Draws, Line, Size};
+use peer::{root_by_digits, root_by_newton};
+use reference::{all_lines, BLOCK_NUMBERS, FIGURES};
 use std::hint::black_box;
-use std::time::{Duration, Instant};
+use std::time::Instant;
+use tsav::{LONGEST_REPORT, MOST_BLOCKS};
 
-use reference::{all_lines, example, sheet_line, CREDITS, EXPENSES, SCALAR, WHOLE_RUN};
-use tsav::{BLOCK_NUMBERS, LARGEST_AMOUNT, LONGEST_REPORT, MOST_BLOCKS, SHEET_LINE};
+/// Samples of each side.
+const SAMPLES: usize = 400;
 
-/// Samples of each side, and what one should at least last, so that reading the clock doesn't count.
-const SAMPLES: usize = 2001;
-const SAMPLE: Duration = Duration::from_micros(100);
-const WARM_UP: Duration = Duration::from_millis(50);
+/// How many there are of each kind: blocks, full sheets, small sheets, and sheets for each line of the table.
+const BLOCKS: usize = 4096;
+const FULL_SHEETS: usize = 64;
+const SMALL_SHEETS: usize = 1024;
+const TABLE_SHEETS: usize = 64;
 
-/// The blocks of the sheets in the table; the last is the full sheet.
+/// The blocks of the sheets in the table, each with every line that so many blocks can have. The last are full sheets, of 293.
 const TABLE: [usize; 6] = [0, 1, 2, 4, 8, MOST_BLOCKS];
 
+const SIZES: [(&str, Size); 2] = [("", Size::Middling), (", near the limit", Size::NearTheLimit)];
+
 fn main() {
-    let (sheets, example) = (TABLE.map(sheet), example());
-    let mut pairs: Vec<Pair> = sheets.iter().map(|sheet| sheet_pair(sheet)).collect();
-    // The small sheet is the paper's whole run, of one block.
-    pairs.extend([sheet_pair(WHOLE_RUN), block_pair(&example)]);
+    let mut draws = Draws::new();
+    let mut named = Vec::new();
+    for (size_name, size) in SIZES {
+        named.push((format!("full sheet{size_name}"), sheets(&mut draws, FULL_SHEETS, &all_lines(MOST_BLOCKS), size)));
+        named.push((format!("small sheet{size_name}"), sheets(&mut draws, SMALL_SHEETS, &small_lines(), size)));
+        named.push((format!("block call{size_name}"), blocks(&mut draws, size)));
+    }
+    let mut table = TABLE.map(|blocks| sheets(&mut draws, TABLE_SHEETS, &all_lines(blocks), Size::Middling));
     for _ in 0..SAMPLES {
-        for pair in &mut pairs {
-            pair.ours.sample();
-            pair.theirs.sample();
+        for (_, kind) in &mut named {
+            kind.sample();
+        }
+        for kind in &mut table {
+            kind.sample();
         }
     }
-    let medians: Vec<(f64, f64)> = pairs.iter().map(|pair| (pair.ours.median(), pair.theirs.median())).collect();
-    let (table, rest) = medians.split_at(TABLE.len());
-    let named = [table[TABLE.len() - 1], rest[0], rest[1]];
-    for (name, (ours, theirs)) in ["full sheet", "small sheet", "block call"].iter().zip(named) {
-        println!("{name}: ours {ours:.3} us, u128 {theirs:.3} us, ratio {:.3}", ours / theirs);
+    for (name, kind) in &named {
+        let [ours, digits, newton] = kind.shortest();
+        let (ratio, newtons) = (ours / digits, ours / newton);
+        println!("{name}: ours {ours:.3} us, u128 {digits:.3} us, ratio {ratio:.3}; to Newton's root {newtons:.3}");
     }
     println!("\nblocks  lines  ours us  u128 us  ratio");
-    for ((blocks, sheet), (ours, theirs)) in TABLE.iter().zip(&sheets).zip(table) {
-        println!("{blocks:>6} {:>6} {ours:>8.2} {theirs:>8.2} {:>6.3}", sheet.len() / SHEET_LINE, ours / theirs);
+    for (blocks, kind) in TABLE.iter().zip(&table) {
+        let [ours, digits, _] = kind.shortest();
+        println!("{blocks:>6} {:>6} {ours:>8.2} {digits:>8.2} {:>6.3}", kind.lines, ours / digits);
     }
 }
 
-/// A sheet with every line that this many blocks can have; of 16 blocks it is the longest, 293 lines.
-fn sheet(blocks: usize) -> Vec<u8> {
-    let mut drawn = 0;
-    // Multiples of the golden section spread over the whole range: most amounts have 13 or 14 digits.
-    let mut amount = || {
-        drawn += 1;
-        drawn * 61_803_398_874_989 % (LARGEST_AMOUNT + 1)
-    };
-    let line = |(code, block, class)| {
-        let (first, second) = match (code, class) {
-            ("GEN", SCALAR) => (10_000, 0),
-            ("GEN", CREDITS) => (1_000_000, 0),
-            ("RSK", EXPENSES) | ("OTH" | "GEN", _) => (amount(), 0),
-            ("RSK", _) => {
-                let ir = amount();
-                (ir, ir / class)
-            }
-            _ => (amount(), amount()),
-        };
-        sheet_line(code, block, class, first, second)
-    };
-    all_lines(blocks).into_iter().flat_map(line).collect()
+/// One kind of call, measured on each of three sides: ours, the peer with a root by digits, and with Newton's.
+struct Kind {
+    /// One pass of a side, which is called with its number.
+    pass: Box<dyn FnMut(usize)>,
+    /// How many calls a pass has, and the lines of one's sheet.
+    calls: usize,
+    lines: usize,
+    /// The shortest pass of each side, in microseconds.
+    best: [f64; 3],
 }
 
-/// One thing measured: a call of ours, and the same call of theirs.
-struct Pair<'a> {
-    ours: Side<'a>,
-    theirs: Side<'a>,
-}
-
-fn sheet_pair(sheet: &[u8]) -> Pair<'_> {
-    let (mut one, mut two) = ([0; LONGEST_REPORT], [0; LONGEST_REPORT]);
-    assert_eq!(tsav::sheet(sheet, &mut one).ok(), reference::sheet_call(sheet, &mut two).ok());
-    assert!(one == two && one[0] != 0, "both accept the sheet, with the same report");
-    Pair {
-        ours: Side::new(move || {
-            let _ = black_box(tsav::sheet(black_box(sheet), black_box(&mut one)));
-        }),
-        theirs: Side::new(move || {
-            let _ = black_box(reference::sheet_call(black_box(sheet), black_box(&mut two)));
-        }),
-    }
-}
-
-fn block_pair(numbers: &[u64; BLOCK_NUMBERS]) -> Pair<'_> {
-    assert_eq!(tsav::block(numbers).unwrap().k, reference::block_call(numbers).unwrap()[4]);
-    Pair {
-        ours: Side::new(|| {
-            let _ = black_box(tsav::block(black_box(numbers)));
-        }),
-        theirs: Side::new(|| {
-            let _ = black_box(reference::block_call(black_box(numbers)));
-        }),
-    }
-}
-
-struct Side<'a> {
-    call: Box<dyn FnMut() + 'a>,
-    /// How many calls make a sample.
-    calls: u32,
-    /// Of each sample, the time of a call in microseconds.
-    times: Vec<f64>,
-}
-
-impl<'a> Side<'a> {
-    /// Calls it for a while, which also tells how many calls make a sample.
-    fn new(mut call: impl FnMut() + 'a) -> Side<'a> {
-        let start = Instant::now();
-        let mut calls = 0;
-        while start.elapsed() < WARM_UP {
-            call();
-            calls += 1;
-        }
-        let calls = (SAMPLE.as_nanos() * calls / start.elapsed().as_nanos()) as u32 + 1;
-        Side { call: Box::new(call), calls, times: Vec::new() }
+impl Kind {
+    fn new(calls: usize, lines: usize, pass: impl FnMut(usize) + 'static) -> Kind {
+        Kind { pass: Box::new(pass), calls, lines, best: [f64::INFINITY; 3] }
     }
 
     fn sample(&mut self) {
-        let start = Instant::now();
-        for _ in 0..self.calls {
-            (self.call)();
+        for side in 0..self.best.len() {
+            let start = Instant::now();
+            (self.pass)(side);
+            self.best[side] = self.best[side].min(start.elapsed().as_secs_f64() * 1e6);
         }
-        self.times.push(start.elapsed().as_secs_f64() * 1e6 / f64::from(self.calls));
     }
 
-    fn median(&self) -> f64 {
-        let mut times = self.times.clone();
-        times.sort_by(f64::total_cmp);
-        times[times.len() / 2]
+    /// The shortest time of a call of each side.
+    fn shortest(&self) -> [f64; 3] {
+        self.best.map(|pass| pass / self.calls as f64)
+    }
+}
+
+fn sheets(draws: &mut Draws, count: usize, lines: &[Line], size: Size) -> Kind {
+    let sheets: Vec<Vec<u8>> = (0..count).map(|_| draws.sheet(lines, size)).collect();
+    let (mut one, mut two) = ([0; LONGEST_REPORT], [0; LONGEST_REPORT]);
+    for sheet in &sheets {
+        let ours = tsav::sheet(sheet, &mut one).expect("the sheet is accepted");
+        for root in [root_by_digits, root_by_newton] {
+            assert_eq!(peer::sheet(sheet, &mut two, root), Ok(ours));
+            assert_eq!(one[..ours], two[..ours], "the same report");
+        }
+    }
+    let mut report = [0; LONGEST_REPORT];
+    Kind::new(count, lines.len(), move |side| match side {
+        0 => each(&sheets, |sheet| tsav::sheet(sheet, black_box(&mut report)).ok()),
+        1 => each(&sheets, |sheet| peer::sheet(sheet, black_box(&mut report), root_by_digits).ok()),
+        _ => each(&sheets, |sheet| peer::sheet(sheet, black_box(&mut report), root_by_newton).ok()),
+    })
+}
+
+fn blocks(draws: &mut Draws, size: Size) -> Kind {
+    let blocks: Vec<[u64; BLOCK_NUMBERS]> = (0..BLOCKS).map(|_| draws.block(size)).collect();
+    for numbers in &blocks {
+        for root in [root_by_digits, root_by_newton] {
+            assert_eq!(peer::block(numbers, root), Ok(ours(numbers)), "the same figures");
+        }
+    }
+    Kind::new(BLOCKS, 0, move |side| match side {
+        0 => each(&blocks, |numbers| tsav::block(numbers).ok()),
+        1 => each(&blocks, |numbers| peer::block(numbers, root_by_digits).ok()),
+        _ => each(&blocks, |numbers| peer::block(numbers, root_by_newton).ok()),
+    })
+}
+
+/// Our figures of a block.
+fn ours(numbers: &[u64; BLOCK_NUMBERS]) -> [u64; FIGURES] {
+    let figures = tsav::block(numbers).expect("the block is accepted");
+    [figures.i, figures.d, figures.u, figures.lt, figures.k]
+}
+
+/// A call for each, none of which may be left out.
+fn each<T, R>(items: &[T], mut call: impl FnMut(&T) -> R) {
+    for item in items {
+        black_box(call(black_box(item)));
     }
 }

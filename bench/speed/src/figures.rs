@@ -1,0 +1,85 @@
+//! Blocks and sheets that change: amounts of a few digits less or more in every one, so that no jump can be learnt by heart.
+
+use reference::{
+    all_lines, sheet_line, BLOCK_NUMBERS, CREDITS, EXPENSES, LARGEST_AMOUNT, LARGEST_SCALAR, RISKS, SCALAR,
+};
+
+/// Code, block and class of a line.
+pub type Line = (&'static str, u64, u64);
+
+/// How large the amounts are.
+#[derive(Clone, Copy)]
+pub enum Size {
+    /// From 10,000 dollars to 10 billion, as many of each length.
+    Middling,
+    /// The last hundredth below the limit.
+    NearTheLimit,
+}
+
+/// A drawn sequence: the same one in every run.
+pub struct Draws(u64);
+
+impl Draws {
+    pub fn new() -> Draws {
+        Draws(0x9e37_79b9_7f4a_7c15)
+    }
+
+    /// A number below this one.
+    fn below(&mut self, n: u64) -> u64 {
+        self.0 ^= self.0 << 13;
+        self.0 ^= self.0 >> 7;
+        self.0 ^= self.0 << 17;
+        self.0 % n
+    }
+
+    fn amount(&mut self, size: Size) -> u64 {
+        match size {
+            Size::Middling => {
+                let length = 10_u64.pow(6 + self.below(6) as u32);
+                length + self.below(9 * length)
+            }
+            Size::NearTheLimit => LARGEST_AMOUNT - self.below(LARGEST_AMOUNT / 100),
+        }
+    }
+
+    /// A part of an amount.
+    fn part(&mut self, amount: u64) -> u64 {
+        self.below(amount + 1)
+    }
+
+    /// A block that is accepted.
+    pub fn block(&mut self, size: Size) -> [u64; BLOCK_NUMBERS] {
+        let mut numbers = [0; BLOCK_NUMBERS].map(|_: u64| self.amount(size));
+        for risk in 0..RISKS {
+            numbers[2 * risk + 1] = if risk + 1 == EXPENSES as usize { 0 } else { self.part(numbers[2 * risk]) };
+        }
+        numbers
+    }
+
+    /// A sheet that is accepted, of these lines.
+    pub fn sheet(&mut self, lines: &[Line], size: Size) -> Vec<u8> {
+        let line = |&(code, block, class): &Line| {
+            let amount = self.amount(size);
+            let (first, second) = match (code, class) {
+                ("GEN", SCALAR) => (1 + self.below(LARGEST_SCALAR), 0),
+                // The credits are within what there is, which is at least RO.
+                ("GEN", CREDITS) => (self.below(1_000), 0),
+                ("RSK", EXPENSES) | ("OTH" | "GEN", _) => (amount, 0),
+                ("RSK", _) => (amount, self.part(amount)),
+                _ => (amount, self.amount(size)),
+            };
+            sheet_line(code, block, class, first, second)
+        };
+        lines.iter().flat_map(line).collect()
+    }
+}
+
+/// The lines of document 01's whole run: one block, one volume, the first general figure and the scalar.
+pub fn small_lines() -> Vec<Line> {
+    let in_run = |&(code, _, class): &Line| match code {
+        "VOL" => class == 1,
+        "GEN" => class == 1 || class == SCALAR,
+        _ => true,
+    };
+    all_lines(1).into_iter().filter(in_run).collect()
+}
