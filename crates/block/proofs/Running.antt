@@ -43,7 +43,7 @@ read-factor : (r : ℤ) (k : ℕ) → r ≡ factor k → readBack r ≡ factor k
 read-factor r k e = ap readBack e ∙ toZ-ofZ w64 _ (small-fits _ (factor-small k) .1)
 
 -- what `with_row` asks, from a row's factors as the table gives them
-pub row-asked : (row : ℕ) {f₁ f₂ f₃ f₄ f₅ f₆ f₇ : ℤ} {ys : List ℕ} {s : Sum} → row < risks → SmallYs ys × SoFar ys (risks * row) s → Row row f₁ f₂ f₃ f₄ f₅ f₆ f₇ →
-    (row < risks) × (SmallYs ys × (SoFar ys (risks * row) s × Row row (readBack f₁) (readBack f₂) (readBack f₃) (readBack f₄) (readBack f₅) (readBack f₆) (readBack f₇)))
+pub row-asked : (row : ℕ) {f₁ f₂ f₃ f₄ f₅ f₆ f₇ : ℤ} {ys : List ℕ} {s : Sum} → row < risks → SoFar ys (risks * row) s → Row row f₁ f₂ f₃ f₄ f₅ f₆ f₇ →
+    (row < risks) × (SoFar ys (risks * row) s × Row row (readBack f₁) (readBack f₂) (readBack f₃) (readBack f₄) (readBack f₅) (readBack f₆) (readBack f₇))
 row-asked row h w r =
-    (h, (w .0, (w .1, (read-factor _ _ (r .0), read-factor _ _ (r .1), read-factor _ _ (r .2), read-factor _ _ (r .3), read-factor _ _ (r .4), read-factor _ _ (r .5), read-factor _ _ (r .6)))))
+    (h, (w, (read-factor _ _ (r .0), read-factor _ _ (r .1), read-factor _ _ (r .2), read-factor _ _ (r .3), read-factor _ _ (r .4), read-factor _ _ (r .5), read-factor _ _ (r .6))))

@@ -27,6 +27,7 @@ SmallYs ys = Each (λ y. y ≤ 2 * limit) ys
 
 -- after k products the held sum is that of the products so far, and its columns have room for more
 pub record SoFar (ys : List ℕ) (k : ℕ) (s : Sum) : Type 0 where
+  pub small : SmallYs ys
   pub sum : held s ≡ soFar ys k
   pub room : filled s ≤ k * 2 ^ 52
 

@@ -12,6 +12,7 @@ ghost use Rattle.block.specs.Accepted.{BlockDemand3};
 ghost use Rattle.block.specs.Parts.{figureList, SmallYs, SoFar, Row, FigureBounds};
 use guideline::BLOCK_NUMBERS;
 use guideline::RISKS;
+use guideline::factor_at as f;
 use refusal::Place;
 use wide::Columns;
 use wide::Sum;
@@ -112,7 +113,8 @@ fn half_cents(b: &[u64; BLOCK_NUMBERS]) -> [u64; RISKS]
     ]
 }
 
-// The sum over all pairs of risks, four times Q, row by row in the order of section 11.2.1.
+// The sum over all pairs of risks, four times Q, row by row in the order of section 11.2.1. f(k) is the factor of the k-th product: read
+// at places that are written out, the compiler works with the factors as with numbers.
 fn correlated(y: &[u64; RISKS]) -> Sum
     requires { ⌜ SmallYs (now y) ⌝ }
     ensures { λ r. ⌜ SoFar (now (y .entry)) products r ⌝ }
@@ -126,147 +128,13 @@ fn correlated(y: &[u64; RISKS]) -> Sum
         added: nothing,
         taken: nothing,
     };
-    let s1 = mortality(s0, y);
-    let s2 = longevity(s1, y);
-    let s3 = incidence(s2, y);
-    let s4 = termination(s3, y);
-    let s5 = lapse_sensitive(s4, y);
-    let s6 = lapse_supported(s5, y);
-    expenses(s6, y)
-}
-
-// The rows. Each factor is read at a place that is written out, so that the compiler works with it as with a number.
-fn mortality(before: Sum, y: &[u64; RISKS]) -> Sum
-    requires { ⌜ SmallYs (now y) ⌝ }
-    requires { ⌜ SoFar (now y) 0 before ⌝ }
-    ensures { λ r. ⌜ SoFar (now (y .entry)) 7 r ⌝ }
-{
-    with_row(
-        before,
-        y,
-        0,
-        guideline::factor_at(0),
-        guideline::factor_at(1),
-        guideline::factor_at(2),
-        guideline::factor_at(3),
-        guideline::factor_at(4),
-        guideline::factor_at(5),
-        guideline::factor_at(6),
-    )
-}
-
-fn longevity(before: Sum, y: &[u64; RISKS]) -> Sum
-    requires { ⌜ SmallYs (now y) ⌝ }
-    requires { ⌜ SoFar (now y) 7 before ⌝ }
-    ensures { λ r. ⌜ SoFar (now (y .entry)) 14 r ⌝ }
-{
-    with_row(
-        before,
-        y,
-        1,
-        guideline::factor_at(7),
-        guideline::factor_at(8),
-        guideline::factor_at(9),
-        guideline::factor_at(10),
-        guideline::factor_at(11),
-        guideline::factor_at(12),
-        guideline::factor_at(13),
-    )
-}
-
-fn incidence(before: Sum, y: &[u64; RISKS]) -> Sum
-    requires { ⌜ SmallYs (now y) ⌝ }
-    requires { ⌜ SoFar (now y) 14 before ⌝ }
-    ensures { λ r. ⌜ SoFar (now (y .entry)) 21 r ⌝ }
-{
-    with_row(
-        before,
-        y,
-        2,
-        guideline::factor_at(14),
-        guideline::factor_at(15),
-        guideline::factor_at(16),
-        guideline::factor_at(17),
-        guideline::factor_at(18),
-        guideline::factor_at(19),
-        guideline::factor_at(20),
-    )
-}
-
-fn termination(before: Sum, y: &[u64; RISKS]) -> Sum
-    requires { ⌜ SmallYs (now y) ⌝ }
-    requires { ⌜ SoFar (now y) 21 before ⌝ }
-    ensures { λ r. ⌜ SoFar (now (y .entry)) 28 r ⌝ }
-{
-    with_row(
-        before,
-        y,
-        3,
-        guideline::factor_at(21),
-        guideline::factor_at(22),
-        guideline::factor_at(23),
-        guideline::factor_at(24),
-        guideline::factor_at(25),
-        guideline::factor_at(26),
-        guideline::factor_at(27),
-    )
-}
-
-fn lapse_sensitive(before: Sum, y: &[u64; RISKS]) -> Sum
-    requires { ⌜ SmallYs (now y) ⌝ }
-    requires { ⌜ SoFar (now y) 28 before ⌝ }
-    ensures { λ r. ⌜ SoFar (now (y .entry)) 35 r ⌝ }
-{
-    with_row(
-        before,
-        y,
-        4,
-        guideline::factor_at(28),
-        guideline::factor_at(29),
-        guideline::factor_at(30),
-        guideline::factor_at(31),
-        guideline::factor_at(32),
-        guideline::factor_at(33),
-        guideline::factor_at(34),
-    )
-}
-
-fn lapse_supported(before: Sum, y: &[u64; RISKS]) -> Sum
-    requires { ⌜ SmallYs (now y) ⌝ }
-    requires { ⌜ SoFar (now y) 35 before ⌝ }
-    ensures { λ r. ⌜ SoFar (now (y .entry)) 42 r ⌝ }
-{
-    with_row(
-        before,
-        y,
-        5,
-        guideline::factor_at(35),
-        guideline::factor_at(36),
-        guideline::factor_at(37),
-        guideline::factor_at(38),
-        guideline::factor_at(39),
-        guideline::factor_at(40),
-        guideline::factor_at(41),
-    )
-}
-
-fn expenses(before: Sum, y: &[u64; RISKS]) -> Sum
-    requires { ⌜ SmallYs (now y) ⌝ }
-    requires { ⌜ SoFar (now y) 42 before ⌝ }
-    ensures { λ r. ⌜ SoFar (now (y .entry)) 49 r ⌝ }
-{
-    with_row(
-        before,
-        y,
-        6,
-        guideline::factor_at(42),
-        guideline::factor_at(43),
-        guideline::factor_at(44),
-        guideline::factor_at(45),
-        guideline::factor_at(46),
-        guideline::factor_at(47),
-        guideline::factor_at(48),
-    )
+    let s1 = with_row(s0, y, 0, f(0), f(1), f(2), f(3), f(4), f(5), f(6));
+    let s2 = with_row(s1, y, 1, f(7), f(8), f(9), f(10), f(11), f(12), f(13));
+    let s3 = with_row(s2, y, 2, f(14), f(15), f(16), f(17), f(18), f(19), f(20));
+    let s4 = with_row(s3, y, 3, f(21), f(22), f(23), f(24), f(25), f(26), f(27));
+    let s5 = with_row(s4, y, 4, f(28), f(29), f(30), f(31), f(32), f(33), f(34));
+    let s6 = with_row(s5, y, 5, f(35), f(36), f(37), f(38), f(39), f(40), f(41));
+    with_row(s6, y, 6, f(42), f(43), f(44), f(45), f(46), f(47), f(48))
 }
 
 // The sum with the seven products of a row added, each by its factor.
@@ -283,7 +151,6 @@ fn with_row(
     f7: i64,
 ) -> Sum
     requires { ⌜ row < risks ⌝ }
-    requires { ⌜ SmallYs (now y) ⌝ }
     requires { ⌜ SoFar (now y) (risks * row) before ⌝ }
     requires { ⌜ Row row f1 f2 f3 f4 f5 f6 f7 ⌝ }
     ensures { λ r. ⌜ SoFar (now (y .entry)) (risks * row + risks) r ⌝ }
@@ -300,7 +167,6 @@ fn with_row(
 // The sum with one product more: from that of the first k products, k = 7 × row + column, to that of the first k + 1.
 fn with_product(before: Sum, y: &[u64; RISKS], row: usize, column: usize, f: i64) -> Sum
     requires { ⌜ (row < risks) × (column < risks) ⌝ }
-    requires { ⌜ SmallYs (now y) ⌝ }
     requires { ⌜ SoFar (now y) (risks * row + column) before ⌝ }
     requires { ⌜ f ≡ factor (risks * row + column) ⌝ }
     ensures { λ r. ⌜ SoFar (now (y .entry)) (risks * row + (column + 1)) r ⌝ }

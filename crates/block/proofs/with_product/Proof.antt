@@ -17,17 +17,17 @@ use Rattle.block.proofs.with_product.Tie as tie
 
 -- the factor as the machine reads it
 read : (c : tie.Start) → toZ w64 (ofZ w64 (c .args .f)) ≡ factor (risks * c .args .row + c .args .column)
-read c = toZ-ofZ w64 (c .args .f) (c .fits .f) ∙ c .pre .1 .1 .1
+read c = toZ-ofZ w64 (c .args .f) (c .fits .f) ∙ c .pre .1 .1
 
 add-term-requires : tie.Need-add-term-requires
 add-term-requires c κs =
     let s = c .before .before in
     let y = s .args .y .now in
-    let small = s .pre .1 .0 in (
+    let w = s .pre .1 .0 in (
       subst (λ (z : ℤ). natAbs z ≤ 4) (sym (read s)) (factor-small _),
-      omega (arith, y-small y small (s .args .row)),
-      omega (arith, y-small y small (s .args .column)),
-      omega (arith, s .pre .0, s .pre .1 .1 .0 .room),
+      omega (arith, y-small y (w .small) (s .args .row)),
+      omega (arith, y-small y (w .small) (s .args .column)),
+      omega (arith, s .pre .0, w .room),
     )
 
 returns : tie.Need-returns
@@ -36,9 +36,10 @@ returns c =
     let y = s .args .y .now in
     let i : ℕ = s .args .row in
     let j : ℕ = s .args .column in
-    let w = s .pre .1 .1 .0 in
+    let w = s .pre .1 .0 in
     let e = c .add-term .ensures in
     record {
+      small = w .small;
       sum = e .0 ∙ (λ t. w .sum t +ℤ read s t *ℤ pos (getD y i 0 * getD y j 0)) ∙ sym (so-far-next y i j (s .pre .0 .1));
       room = omega (arith, w .room, e .1);
     }

@@ -29,14 +29,16 @@ times-above : (z : ℤ) (n : ℕ) → ltZ z (pos 0) ≡ false → z *ℤ pos n �
 times-above (pos k) n e = as-diff (k * n)
 times-above (negsuc k) n e = absurd (subst T e tt)
 
--- so the one is taken away, and the other added
-pub taken-away : (z : ℤ) (a b c n : ℕ) → ltZ z (pos 0) ≡ true → c ≡ b + natAbs z * n → subℕ a c ≡ subℕ a b +ℤ z *ℤ pos n
-taken-away z a b c n t e =
-    diff-eq a c (a + 0) (b + natAbs z * n) (omega arith) ∙ sym (diff-add a b 0 (natAbs z * n)) ∙ ap (λ (x : ℤ). subℕ a b +ℤ x) (sym (times-below z n t))
+-- so the one is taken away, and the other added; the test is of the number as it is read
+pub taken-away : (z r : ℤ) → r ≡ z → ltZ r (pos 0) ≡ true → (a b c n : ℕ) → c ≡ b + natAbs z * n → subℕ a c ≡ subℕ a b +ℤ z *ℤ pos n
+taken-away z r h t a b c n e =
+    let l = times-below z n (subst (λ (x : ℤ). ltZ x (pos 0) ≡ true) h t) in
+    diff-eq a c (a + 0) (b + natAbs z * n) (omega arith) ∙ sym (diff-add a b 0 (natAbs z * n)) ∙ ap (λ (x : ℤ). subℕ a b +ℤ x) (sym l)
 
-pub added-to : (z : ℤ) (a b c n : ℕ) → ltZ z (pos 0) ≡ false → c ≡ a + natAbs z * n → subℕ c b ≡ subℕ a b +ℤ z *ℤ pos n
-added-to z a b c n t e =
-    diff-eq c b (a + natAbs z * n) (b + 0) (omega arith) ∙ sym (diff-add a b (natAbs z * n) 0) ∙ ap (λ (x : ℤ). subℕ a b +ℤ x) (sym (times-above z n t))
+pub added-to : (z r : ℤ) → r ≡ z → ltZ r (pos 0) ≡ false → (a b c n : ℕ) → c ≡ a + natAbs z * n → subℕ c b ≡ subℕ a b +ℤ z *ℤ pos n
+added-to z r h t a b c n e =
+    let l = times-above z n (subst (λ (x : ℤ). ltZ x (pos 0) ≡ false) h t) in
+    diff-eq c b (a + natAbs z * n) (b + 0) (omega arith) ∙ sym (diff-add a b (natAbs z * n) 0) ∙ ap (λ (x : ℤ). subℕ a b +ℤ x) (sym l)
 
 -- a difference that is a natural
 pub not-more : (a b q : ℕ) → subℕ a b ≡ pos q → b ≤ a

@@ -1,13 +1,11 @@
 -- A product by a factor below 0 goes to what is taken away, another to what is added. A signed local holds bits, and each read gives
 -- toZ w64 (ofZ w64 x),  which is x. Assumes nothing.
-use mathlib.Core.Path.{_≡_, ap, _∙_, subst}
-use mathlib.Core.Bool.{true, false}
+use mathlib.Core.Path.{_≡_, ap, _∙_}
 use Prim.Native.Nat.{ℕ, _+_, _*_, _^_, _≤_}
 use native.Mathlib.Nat.{mul-le-mul}
 use native.Mathlib.Omega.{arith}
 use borrow.Author.Needs.{needs}
-use lib.IntN.{ℤ, pos, natAbs}
-use lib.Signed.{ltZ}
+use lib.IntN.{natAbs}
 use mir.Syntax.{w64}
 use mir.Val.{toZ, ofZ}
 use mir.ValLaws.{toZ-ofZ}
@@ -42,23 +40,17 @@ returns : tie.Need-returns
 unfolding held filled
 returns c =
     let p = c .before .before in
-    let a = p .before .before .before .before .args in
-    let t = subst (λ (z : ℤ). ltZ z (pos 0) ≡ true) (same p) (c .before .if1 .taken) in
-    let e = c .add-columns .ensures in (
-      taken-away (a .factor) (number (a .s .added)) (number (a .s .taken)) _ (a .a * a .b) t (e .0 ∙ ap (λ (x : ℕ). number (a .s .taken) + x) (term p)),
-      omega (arith, small p, e .1),
-    )
+    let s = p .before .before .before .before .args .s in
+    let e = c .add-columns .ensures in
+    (taken-away _ _ (same p) (c .before .if1 .taken) (number (s .added)) _ _ _ (e .0 ∙ ap (λ (x : ℕ). number (s .taken) + x) (term p)), omega (arith, small p, e .1))
 
 returns-2 : tie.Need-returns-2
 unfolding held filled
 returns-2 c =
     let p = c .before .before in
-    let a = p .before .before .before .before .args in
-    let t = subst (λ (z : ℤ). ltZ z (pos 0) ≡ false) (same p) (c .before .if1 .left) in
-    let e = c .add-columns2 .ensures in (
-      added-to (a .factor) (number (a .s .added)) (number (a .s .taken)) _ (a .a * a .b) t (e .0 ∙ ap (λ (x : ℕ). number (a .s .added) + x) (term p)),
-      omega (arith, small p, e .1),
-    )
+    let s = p .before .before .before .before .args .s in
+    let e = c .add-columns2 .ensures in
+    (added-to _ _ (same p) (c .before .if1 .left) _ (number (s .taken)) _ _ (e .0 ∙ ap (λ (x : ℕ). number (s .added) + x) (term p)), omega (arith, small p, e .1))
 
 pub add-term-spec : {M : Type 1} → statement M
 add-term-spec =
