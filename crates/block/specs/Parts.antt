@@ -25,7 +25,7 @@ figures-are f b e = ((cc), (cc), (cc), (cc), (cc))
 abbrev pub SmallYs : List ℕ → Type 0
 SmallYs ys = Each (λ y. y ≤ 2 * limit) ys
 
--- after k products the held sum is that of the products so far, and its columns have room for more
+-- after k products: the held sum is that of the products so far, and the y(i) and the columns leave room for another
 pub record SoFar (ys : List ℕ) (k : ℕ) (s : Sum) : Type 0 where
   pub small : SmallYs ys
   pub sum : held s ≡ soFar ys k

@@ -52,17 +52,19 @@ fn one_if_within(odd: u64, next: u64) -> u64
     (odd <= next) as u64
 }
 
-// The digit of n in base 4 above its last m: two binary digits, which stand in one word.
+// The digit of n in base 4 above its last m: two binary digits, which stand in one word. Its place is the same in both, so that only the
+// word is chosen.
 fn digit_at(n: Wide, m: u32) -> u64
     requires { ⌜ m < 64 ⌝ }
     ensures { λ r. ⌜ r ≡ value n / 4 ^ m % 4 ⌝ }
 {
     let high = n.high;
     let low = n.low;
+    let place = 2 * m % 64;
     if 32 <= m {
-        (high >> (2 * m - 64)) % 4
+        (high >> place) % 4
     } else {
-        (low >> (2 * m)) % 4
+        (low >> place) % 4
     }
 }
 

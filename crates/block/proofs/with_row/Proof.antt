@@ -9,8 +9,7 @@ use Rattle.block.proofs.with_row.Tie as tie
 
 with-product-requires : tie.Need-with-product-requires
 with-product-requires c κs =
-    let s = c in
-    ((s .pre .0, omega arith), (row-start (s .pre .1 .0), toZ-ofZ w64 (s .args .f1) (s .fits .f1) ∙ s .pre .1 .1 .0))
+    ((c .pre .0, omega arith), (row-start (c .pre .1 .0), toZ-ofZ w64 (c .args .f1) (c .fits .f1) ∙ c .pre .1 .1 .0))
 
 with-product-requires-2 : tie.Need-with-product-requires-2
 with-product-requires-2 c κs =
