@@ -135,7 +135,7 @@ pub fn sheet(bytes: &[u8], report: &mut [u8], root: Root) -> Result<usize, Refus
     if bytes.len() > LONGEST_SHEET {
         return Err(Refusal::nowhere(1));
     }
-    if bytes.len() % LINE_BYTES != 0 {
+    if !bytes.len().is_multiple_of(LINE_BYTES) {
         return Err(Refusal::nowhere(2));
     }
     let mut sheet = Sheet {
@@ -281,6 +281,29 @@ fn write_number(field: &mut [u8], mut number: u64) {
         number /= 10;
         if number == 0 {
             break;
+        }
+    }
+}
+
+#[cfg(test)]
+mod tests {
+    use super::*;
+    use reference::generate;
+
+    const CASES: u64 = 20_000;
+
+    /// It refuses and answers as the independent calculation does, with either root.
+    #[test]
+    fn it_answers_as_the_reference_does() {
+        for index in 0..CASES {
+            let (lines, room) = generate::case(1, index);
+            let numbers = generate::block_numbers(1, index);
+            for root in [root_by_digits, root_by_newton] {
+                let (mut one, mut two) = (vec![0; room], vec![0; room]);
+                assert_eq!(sheet(&lines, &mut one, root), reference::sheet_call(&lines, &mut two), "sheet {index}");
+                assert_eq!(one, two, "report {index}");
+                assert_eq!(block(&numbers, root), reference::block_call(&numbers), "block {index}");
+            }
         }
     }
 }
