@@ -18,8 +18,8 @@ in-place (accepted ws) x vs e = cc
 in-place (refused n p) x vs e = never (cc)
 
 pub pc-in-risk-met : (k : ℕ) → 1 ≤ k → k ≤ risks → PcInOneRisk (λ b. inPlace (blockCall b) (pcInRisk k b))
-pc-in-risk-met k l h b vs n e = (k, l, h, in-place (blockCall b) _ vs e)
+pc-in-risk-met k l h b vs n e = (k, l, h, cc (in-place (blockCall b) (pcInRisk k b) vs e))
 
 -- of whichever figure in place of RO: netted, each class rounded, 120 % in whole cents
 pub ro-met : (wrong : List ℕ → List ℕ → ℕ) → GivesRO (λ l g. inPlace (operationalCall l g) (wrong l g)) wrong
-ro-met wrong l g vs m n e = in-place (operationalCall l g) _ vs e
+ro-met wrong l g vs m n e = cc (in-place (operationalCall l g) (wrong l g) vs e)

@@ -2,7 +2,7 @@
 -- computed figures differ; 120 % in whole cents at two: three cents of prior volume are 3.6, so three classes show a rounding down to 3 and one
 -- class shows a rounding up to 4.
 -- Assumes nothing.
-use mathlib.Core.Path.{_≡_, refl, sym, _∙_}
+use mathlib.Core.Path.{_≡_, refl, _∙_}
 use mathlib.Core.List.{List, [], _∷_}
 use Prim.Native.Nat.{ℕ, suc, _*_, _<_, _≤_}
 use native.Mathlib.Nat.{mul-le-mul-left}
@@ -27,7 +27,8 @@ use Rattle.calibration.proofs.Computed.{pcBlock, oneShrinks, twoCents, 
 pub pc-in-risk : (call : List ℕ → Outcome) → MeetsBlock call → PcInOneRisk call → ⊥
 pc-in-risk call meets wrong =
     let w = wrong pcBlock _ refl (meets pcBlock refl ∙ computed .pc) in
-    eqb-false _ _ (none-passes (λ k. eqb (pcInRisk k pcBlock) 445) (suc risks) (omega (arith, computed .pc-in-risk)) (w .0) (omega (arith, w .2))) (sym (w .3))
+    let n = none-passes (λ k. eqb (pcInRisk k pcBlock) 445) (suc risks) (omega (arith, computed .pc-in-risk)) (w .0) (omega (arith, w .2)) in
+    eqb-false (pcInRisk (w .0) pcBlock) 445 n (omega (arith, w .3))
 
 module _ (most : ℕ → ℕ) where
   -- RO with 120 % in whole cents is a quotient rounded up
@@ -52,7 +53,7 @@ module _ (call : List ℕ → List ℕ → Outcome) (meets : MeetsOperational ca
   same :
       (wrong : List ℕ → List ℕ → ℕ) → GivesRO call wrong → (l : List ℕ) (ro : ℕ) → length l ≡ territoryNumbers →
       operationalCall l nothing ≡ accepted (ro ∷ []) → ro ≡ wrong l nothing
-  same wrong gives l ro n e = gives l nothing (ro ∷ []) n refl (meets l nothing refl ∙ e)
+  same wrong gives l ro n e = omega (arith, gives l nothing (ro ∷ []) n refl (meets l nothing refl ∙ e))
 
   -- RO is 575, and 500 with the shrinking class netted
   pub growth-netted : GrowthNetted call → ⊥

@@ -105,7 +105,7 @@ module _ (call : Call) (meets : MeetsDemand3 call) where
       sheetCall s r .outcome ≡ accepted vs →
       (FarBelow (sheetOf es) (buffer (filledIn (sheetOf es))) → ⊥) × (FarAbove (sheetOf es) (buffer (filledIn (sheetOf es))) → ⊥)
   filled-in-near filled s r vs es l j c e =
-      let a = filled .accepts s r vs es l j c e in
+      let a = filled .accepts s r vs es l j (omega arith) e in
       let d = subst (λ (o : Outcome). Demand3 s o (call s r .report)) a (meets s r l) in
       let q : d .0 ≡ es = cc (d .1) in
       let t = subst (λ (es : List Entry). ReportDemand es (call s r .report)) q (d .2) in

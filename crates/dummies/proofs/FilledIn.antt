@@ -1,12 +1,12 @@
 -- The report of the program that fills in the first block. Its sheet with the first block in place of each is an accepted one, so that its
 -- totals have their columns; it is as long as the program says; every line of a K has the first block's, so that no other K is read of it.
 -- Assumes nothing.
-use mathlib.Core.Path.{_≡_, refl, sym, ap, subst, _∙_}
+use mathlib.Core.Path.{_≡_, refl, sym, ap, _∙_}
 use mathlib.Core.Bool.{true, false, false≢true}
-use mathlib.Core.List.{List, [], _∷_, _++_, map, append-nil}
+use mathlib.Core.List.{List, [], _∷_, map, append-nil}
 use Prim.Native.Nat.{ℕ, suc, _≤_, _<_}
 use native.Mathlib.Omega.{arith}
-use lib.ListN.{length, getD, take, drop, length-map}
+use lib.ListN.{length, getD, drop, length-map}
 use lib.Seq.{take-append-seam}
 use Rattle.search.specs.Pick.{pick}
 use Rattle.search.specs.Each.{Each}
@@ -126,15 +126,16 @@ module _ (es : List Entry) (v : AcceptedSheet (sheetOf es)) (h : sheetOf es .cre
       let c = rows-read (filledRows es) (row BLK b 5 0) [] p (record { code = refl; block = l; item = omega arith; number = omega arith }) in
       k-among _ b k (filledRows es) (ks b) (sym c ∙ rw append-nil e)
 
+  -- what it claims is these lines, and nothing that stood behind them
+  claimed : (r : List ℕ) → claimedReport (filledReport es r) ≡ printRows (filledRows es)
+  claimed r = cc (report-long, take-append-seam (printRows (filledRows es)) (drop (reportLength (count (sheetOf es))) r))
+
   pub k-same : (r : List ℕ) → SameK (filledReport es r)
   unfolding SameK
   k-same r k₁ k₂ e f =
-      let n = reportLength (count (sheetOf es)) in
-      let bytes = printRows (filledRows es) in
-      let t : take n (bytes ++ drop n r) ≡ bytes = subst (λ (m : ℕ). take m (bytes ++ drop n r) ≡ bytes) report-long (take-append-seam bytes (drop n r)) in
-      let at : (b k : ℕ) → b < 100 → numberAt (take n (bytes ++ drop n r)) BLK b 5 ≡ Value k → k ≡ K (getD (sheetOf es .blocks) 0 []) =
-      λ b k l e. k-read b k l (ap (λ (m : List ℕ). numberAt m BLK b 5) (sym t) ∙ e) in
-      at 1 k₁ (omega arith) e ∙ sym (at 2 k₂ (omega arith) f)
+      let read : (b k : ℕ) → numberAt (claimedReport (filledReport es r)) BLK b 5 ≡ Value k → numberAt (printRows (filledRows es)) BLK b 5 ≡ Value k =
+      λ b k e. ap (λ (m : List ℕ). numberAt m BLK b 5) (sym (claimed r)) ∙ e in
+      k-read 1 k₁ (omega arith) (read 1 k₁ e) ∙ sym (k-read 2 k₂ (omega arith) (read 2 k₂ f))
 
   pub reads-filled : (r : List ℕ) → Reads (buffer (filledIn (sheetOf es))) (filledReport es r)
   unfolding Reads

@@ -5,6 +5,7 @@ use mathlib.Core.Path.{_≡_, refl, _∙_}
 use mathlib.Core.Bool.{Bool, true, false}
 use mathlib.Core.List.{List}
 use Prim.Native.Nat.{ℕ, _≤_}
+use native.Mathlib.Omega.{arith}
 use borrow.Author.Tests.{ltb-false}
 use Rattle.search.specs.Pick.{pick}
 use Rattle.search.proofs.Picks.{by-test, if-ge}
@@ -67,4 +68,4 @@ first-filled-in-met s r k₁ k₂ l e f = same s r (judgement s) refl k₁ k₂ 
 pub buffer-of-first-met : BufferOfFirst fillsIn
 unfolding Reads
 buffer-of-first-met =
-    record { accepts = λ s r vs es l j h e. outcome-same s r es j h ∙ e; reads-buffer = λ s r vs es l j e. reads s r es j vs e }
+    record { accepts = λ s r vs es l j h e. outcome-same s r es j (omega arith) ∙ e; reads-buffer = λ s r vs es l j e. reads s r es j vs e }

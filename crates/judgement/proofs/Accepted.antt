@@ -11,7 +11,7 @@ use borrow.Author.Tests.{ltb-true, ltb-false, eqb-true}
 use Rattle.search.specs.Each.{Each}
 use Rattle.search.proofs.Picks.{by-test, never}
 use Rattle.search.proofs.Ascents.{few, each-ascending}
-use Rattle.refusal.specs.Outcome.{printed, Judging}
+use Rattle.refusal.specs.Outcome.{printed, Judging, judging}
 use Rattle.refusal.specs.declared.Place.{Place}
 use Rattle.refusal.specs.declared.Place.the-variants.{Line, Nowhere}
 use Rattle.guideline.specs.Sizes.{blocks, largestScalar}
@@ -25,7 +25,6 @@ use Rattle.sheet_line.specs.declared.Code.{Code}
 use Rattle.sheet_line.specs.declared.Code.the-variants.{Rsk, Oth, Vol, Gen}
 use Rattle.sheet_line.specs.declared.Entry.{Entry}
 use Rattle.sheet_line.specs.Rules.{AcceptedLine}
-use Rattle.sheet_line.proofs.Refusals.{judging}
 use Rattle.ledger.specs.Entries.{ofBlock, exists, hasLine, DistinctKeys, blockOf}
 use Rattle.ledger.specs.Reading.{Reading, reading}
 use Rattle.ledger.specs.Reading.Reading.{complete, stopped}

@@ -10,7 +10,7 @@ use lib.ListN.{length, take, drop, length-drop}
 use lib.Seq.{drop-drop, length-take-le}
 use Rattle.search.specs.Each.{Each}
 use Rattle.search.proofs.Picks.{if-true, if-false, by-test, never}
-use Rattle.refusal.specs.Outcome.{Judging}
+use Rattle.refusal.specs.Outcome.{Judging, judging}
 use Rattle.refusal.specs.declared.Place.the-variants as place
 use Rattle.sheet_line.specs.Line.{sheetLineBytes}
 use Rattle.sheet_line.specs.Rules.{parseLine, AcceptedLine}
@@ -18,7 +18,7 @@ use Rattle.sheet_line.specs.declared.Entry.{Entry}
 use Rattle.sheet_line.specs.declared.Line.{Line}
 use Rattle.sheet_line.specs.declared.Line.the-variants.{Good, Refused}
 use Rattle.sheet_line.proofs.Accepted.{line-good}
-use Rattle.sheet_line.proofs.Refusals.{judging, line-judging}
+use Rattle.sheet_line.proofs.Refusals.{line-judging}
 use Rattle.ledger.specs.Entries.{markOf, hasLine, DistinctKeys}
 use Rattle.ledger.specs.Reading.{Reading, onLine, readFrom, reading, entriesOf}
 use Rattle.ledger.specs.Reading.Reading.{complete, stopped}

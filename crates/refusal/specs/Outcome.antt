@@ -2,9 +2,12 @@
 -- gives no figure'. Every call's answer is an enum of its own; beside it a definition turns each case into one of these.
 -- Assumes nothing.
 use mathlib.Core.Path.{_≡_}
+use mathlib.Core.Bool.{true, false}
 use mathlib.Core.List.{List}
-use Prim.Native.Nat.{ℕ, _≤_, _<_}
+use Prim.Native.Nat.{ℕ, _<_}
 use native.Mathlib.Omega.{arith}
+use lib.Dec.{eqb, ltb}
+use borrow.Author.Tests.{eqb-false, ltb-true}
 use Rattle.refusal.specs.declared.Place.{Place}
 use Rattle.refusal.specs.declared.Place.the-variants.{Line, Position, Nowhere}
 
@@ -28,6 +31,11 @@ pub record Judging (n : ℕ) : Type 0 where
   pub not-14 : n ≡ 14 → ⊥
   pub two-columns : n < 100
 
--- rows 1 to 13 of the table speak of the sheet
-pub row-judges : (n : ℕ) → 1 ≤ n → n ≤ 13 → Judging n
-row-judges n low high = record { not-0 = λ e. omega arith; not-14 = λ e. omega arith; two-columns = omega arith }
+-- a rule's number is one, by three computed tests
+pub judging : (n : ℕ) → eqb n 0 ≡ false → eqb n 14 ≡ false → ltb n 100 ≡ true → Judging n
+judging n z w h =
+    record {
+      not-0 = λ e. omega (arith, eqb-false n 0 z);
+      not-14 = λ e. omega (arith, eqb-false n 14 w);
+      two-columns = omega (arith, ltb-true n 100 h);
+    }

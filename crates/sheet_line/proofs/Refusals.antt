@@ -4,9 +4,8 @@ use mathlib.Core.List.{List}
 use mathlib.Core.Bool.{true, false}
 use Prim.Native.Nat.{ℕ}
 use lib.Dec.{eqb, ltb}
-use borrow.Author.Tests.{eqb-false, ltb-true}
 use Rattle.search.proofs.Picks.{by-test, never}
-use Rattle.refusal.specs.Outcome.{Judging}
+use Rattle.refusal.specs.Outcome.{Judging, judging}
 use Rattle.sheet_line.specs.Codes.{codeOf}
 use Rattle.sheet_line.specs.Line.{layoutOf}
 use Rattle.sheet_line.specs.Rules.{rule3, rule5, rule6, rule8, rule9, rule10, entryOf, parseLine}
@@ -17,10 +16,6 @@ use Rattle.sheet_line.specs.declared.columns.Layout.the-variants.{Kept, 
 use Rattle.sheet_line.specs.declared.Entry.{Entry}
 use Rattle.sheet_line.specs.declared.Line.{Line}
 use Rattle.sheet_line.specs.declared.Line.the-variants.{Refused}
-
--- a rule's number, by three computed tests
-pub judging : (m : ℕ) → eqb m 0 ≡ false → eqb m 14 ≡ false → ltb m 100 ≡ true → Judging m
-judging m z w h = record { not-0 = eqb-false m 0 z; not-14 = eqb-false m 14 w; two-columns = ltb-true m 100 h }
 
 module _ (n : ℕ) where
   -- where a line is refused by n, n is the number of a rule
