@@ -7,7 +7,7 @@ use native.Mathlib.Omega.{arith}
 use lib.ListN.{length, getD}
 use Rattle.search.specs.Each.{Each}
 use Rattle.field.specs.declared.Field.the-variants.{Value}
-use Rattle.guideline.specs.Sizes.{blocks, blockFigures}
+use Rattle.guideline.specs.Sizes.{blocks, blockFigures, FitsColumns}
 use Rattle.guideline.specs.Block.{D, U, LT, K, figuresOf}
 use Rattle.guideline.specs.Buffer.{buffer}
 use Rattle.guideline.proofs.Figures.{k-high, k-twice, figures-fit, figures-long}
@@ -17,7 +17,7 @@ use Rattle.report_line.specs.Line.{numberAt}
 use Rattle.sheet_line.specs.declared.Entry.{Entry}
 use Rattle.ledger.specs.Entries.{exists, blockOf}
 use Rattle.report.specs.Rows.{BLK, TOT}
-use Rattle.report.proofs.Reread.{FitsColumns, buffer-read, figure-read}
+use Rattle.report.proofs.Reread.{buffer-read, figure-read}
 use Rattle.judgement.specs.Sheet.{sheetOf}
 use Rattle.judgement.specs.Judgement.{judgement}
 use Rattle.judgement.specs.Judgement.Judgement.{sound}

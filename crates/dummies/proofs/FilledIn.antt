@@ -17,7 +17,7 @@ use Rattle.search.proofs.Ascents.{each-ascending}
 use Rattle.refusal.specs.Outcome.Outcome.{accepted}
 use Rattle.refusal.specs.declared.Place.{Place}
 use Rattle.field.specs.declared.Field.the-variants.{Value, Bad}
-use Rattle.guideline.specs.Sizes.{blocks, blockFigures}
+use Rattle.guideline.specs.Sizes.{blocks, blockFigures, FitsColumns}
 use Rattle.guideline.specs.Block.{AcceptedBlock, K, figuresOf}
 use Rattle.guideline.specs.Buffer.{Sheet, count, available, buffer, AcceptedSheet}
 use Rattle.guideline.proofs.Figures.{figures-fit, figures-long}
@@ -27,7 +27,7 @@ use Rattle.report_line.proofs.ReadBack.{rowIs, numberAmong, rows-read}
 use Rattle.sheet_line.specs.declared.Entry.{Entry}
 use Rattle.ledger.specs.Entries.{exists, blockOf}
 use Rattle.report.specs.Rows.{BLK, TOT, row, itemsFrom, blockRows, reportLength}
-use Rattle.report.proofs.Reread.{FitsColumns, all-printable, buffer-read}
+use Rattle.report.proofs.Reread.{all-printable, buffer-read}
 use Rattle.judgement.specs.Sheet.{blocksTo, sheetOf}
 use Rattle.aggregate.specs.Call.{Done, untouched}
 use Rattle.aggregate.proofs.Rows.{closed-long}

@@ -9,10 +9,10 @@ use Rattle.field.specs.declared.Field.{Field}
 use Rattle.field.specs.declared.Field.the-variants.{Value, Bad}
 use Rattle.guideline.specs.Buffer as Buffer
 use Rattle.report_line.specs.Line.{numberAt}
-use Rattle.sheet_line.specs.Codes.{scalarClass}
+use Rattle.sheet_line.specs.Codes.{guaranteeClass, scalarClass}
 use Rattle.sheet_line.specs.Line.{printLine}
 use Rattle.sheet_line.specs.declared.Code.the-variants.{Rsk, Gen}
-use Rattle.report.specs.Rows.{BLK, TOT}
+use Rattle.report.specs.Rows.{BLK, TOT, reportLength}
 use Rattle.judgement.specs.Sheet.{sheetOf}
 use Rattle.judgement.specs.Judgement.{Judgement, judgement}
 use Rattle.judgement.specs.Judgement.Judgement.{turnedAway, sound}
@@ -25,7 +25,7 @@ scalar = printLine (record { code = Gen; block = 0; class = scalarClass; first =
 
 -- GEN 0 2, a guarantee requirement of a cent
 abbrev pub guarantee : List ℕ
-guarantee = printLine (record { code = Gen; block = 0; class = 2; first = 1; second = 0 })
+guarantee = printLine (record { code = Gen; block = 0; class = guaranteeClass; first = 1; second = 0 })
 
 -- RSK b 1, a component of n cents
 abbrev pub component : ℕ → ℕ → List ℕ
@@ -84,12 +84,12 @@ abbrev pub empty : Case
 empty =
     record {
       sheet = scalar;
-      lent = room 87;
+      lent = room (reportLength 0);
       facts =
           record {
             bytes = true;
             amounts = record { allowance = 20000; credits = 0; buffer = 0; filledIn = 0 };
-            outcome = accepted (87 ∷ []);
+            outcome = accepted (reportLength 0 ∷ []);
             head = 84;
             buffer = Value 0;
             k₁ = Bad;
@@ -102,12 +102,12 @@ abbrev pub guaranteed : Case
 guaranteed =
     record {
       sheet = guarantee ++ scalar;
-      lent = room 87;
+      lent = room (reportLength 0);
       facts =
           record {
             bytes = true;
             amounts = record { allowance = 20000; credits = 0; buffer = 2; filledIn = 2 };
-            outcome = accepted (87 ∷ []);
+            outcome = accepted (reportLength 0 ∷ []);
             head = 84;
             buffer = Value 2;
             k₁ = Bad;
@@ -120,12 +120,12 @@ abbrev pub twoBlocks : Case
 twoBlocks =
     record {
       sheet = component 1 100 ++ component 2 200 ++ scalar;
-      lent = room 377;
+      lent = room (reportLength 2);
       facts =
           record {
             bytes = true;
             amounts = record { allowance = 60000; credits = 0; buffer = 300; filledIn = 200 };
-            outcome = accepted (377 ∷ []);
+            outcome = accepted (reportLength 2 ∷ []);
             head = 66;
             buffer = Value 300;
             k₁ = Value 100;

@@ -17,7 +17,7 @@ use Rattle.search.proofs.LeastOf.{LeastOf, Rising, least-of}
 use Rattle.search.proofs.Roots.{le-of-squares}
 use Rattle.search.proofs.Tests.{leb-same}
 use Rattle.amount.specs.Amount.{limit}
-use Rattle.guideline.specs.Sizes.{risks, blockFigures}
+use Rattle.guideline.specs.Sizes.{risks, blockFigures, FitsColumns}
 use Rattle.guideline.specs.Block.{ir, lt, PC, A, seven, U, LT, Vh, y, ys, Q4, largestOf, largest, root, I, a, radicand, D, kNumerator, requirement, K, EachRisk, AcceptedBlock, figuresOf}
 use Rattle.guideline.proofs.Sums.{sum}
 use Rattle.guideline.proofs.Table.{form, form-least, form-most, quarter-form, quarter-natural}
@@ -188,8 +188,8 @@ module _ (b : List ℕ) (v : AcceptedBlock b) where
         | no h ↦ omega (arith, v-is, d-high)
       ]
 
-  -- each figure fits the 18 columns of its line
-  pub figures-fit : Each (λ n. n < 10 ^ 18) (figuresOf b)
+  -- each figure fits the columns of its line
+  pub figures-fit : Each FitsColumns (figuresOf b)
   unfolding figuresOf
   figures-fit = omega (arith, v-is, u-fits, i-high, d-high, k-high)
 

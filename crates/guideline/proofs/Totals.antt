@@ -10,7 +10,7 @@ use Rattle.search.specs.Least.{least}
 use Rattle.search.proofs.LeastOf.{LeastOf, least-of, ceil-eq}
 use Rattle.amount.specs.Amount.{limit}
 use Rattle.search.specs.Each.{Each}
-use Rattle.guideline.specs.Sizes.{blocks, tenThousandths, largestScalar}
+use Rattle.guideline.specs.Sizes.{blocks, FitsColumns, tenThousandths, largestScalar}
 use Rattle.guideline.specs.Block.{K, AcceptedBlock}
 use Rattle.guideline.specs.Operational.{OperationalAmounts, operationalNumerator, operationalDenominator, RO}
 use Rattle.guideline.specs.Buffer.{Sheet, count, guarantee, sumK, available, bracket, buffer, AcceptedSheet, mostAvailable}
@@ -74,8 +74,8 @@ module _ (s : Sheet) (v : AcceptedSheet s) where
       let l : LeastOf n _ (buffer s) = least-of n _ (λ m k h. omega arith) (2 * bracket s) (omega (arith, bracket-fits)) (omega (arith, twice-passes)) in
       record { reaches = omega (arith, l .reaches); first = λ m h. l .first m (omega arith) }
 
-  -- each total fits the 18 columns of its line
-  pub totals-fit : Each (λ n. n < 10 ^ 18) (sumK (s .blocks) ∷ RO (s .volumes) (s .general) ∷ buffer s ∷ [])
+  -- each total fits the columns of its line
+  pub totals-fit : Each FitsColumns (sumK (s .blocks) ∷ RO (s .volumes) (s .general) ∷ buffer s ∷ [])
   totals-fit =
       omega (
         arith,

@@ -1,6 +1,6 @@
--- How many there are of each thing, and how large a scalar can be, after document 01. A number stands here or at the thing that it counts,
+-- How many there are of each thing, and how large a scalar and a figure can be, after document 01. A number stands here or at the thing that it counts,
 -- once. Assumes nothing.
-use Prim.Native.Nat.{ℕ, _+_, _*_}
+use Prim.Native.Nat.{ℕ, _+_, _*_, _^_, _<_}
 
 -- blocks 1 to this one
 abbrev pub blocks : ℕ
@@ -57,6 +57,14 @@ volumeNumbers = territories * territoryNumbers
 -- the general figures of section 8.2.3: gross components, guarantee requirement, ceded premiums
 abbrev pub generalFigures : ℕ
 generalFigures = 3
+
+-- the columns of a report line that a figure has: 'number in 11–28'
+abbrev pub numberColumns : ℕ
+numberColumns = 18
+
+-- a number that has its columns there
+abbrev pub FitsColumns : ℕ → Type 0
+FitsColumns n = n < 10 ^ numberColumns
 
 -- the scalar and the factors of chapter 8 are in ten-thousandths
 abbrev pub tenThousandths : ℕ

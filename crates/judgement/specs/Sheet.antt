@@ -1,7 +1,7 @@
 -- A sheet's amounts and its blocks' figures off its lines: 'An absent line means zeros', and 'Blocks ascend'. Assumes nothing.
 use mathlib.Core.List.{List, [], _∷_}
 use Prim.Native.Nat.{ℕ}
-use Rattle.sheet_line.specs.Codes.{guaranteeClass, scalarClass, creditsClass}
+use Rattle.sheet_line.specs.Codes.{grossClass, guaranteeClass, cededClass, scalarClass, creditsClass}
 use Rattle.search.specs.Ascending.{ascending}
 use Rattle.guideline.specs.Sizes.{blocks}
 use Rattle.guideline.specs.Block.{figuresOf}
@@ -19,7 +19,7 @@ sheetOf es =
     record {
       blocks = blocksTo es blocks;
       volumes = volumesOf es;
-      general = generalAmount es 1 ∷ generalAmount es guaranteeClass ∷ generalAmount es 3 ∷ [];
+      general = generalAmount es grossClass ∷ generalAmount es guaranteeClass ∷ generalAmount es cededClass ∷ [];
       g = generalAmount es scalarClass;
       credits = generalAmount es creditsClass;
     }

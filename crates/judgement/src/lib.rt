@@ -24,7 +24,9 @@ use ledger::LONGEST_SHEET;
 use ledger::PLACES;
 use refusal::Place;
 use sheet_line::SHEET_LINE_BYTES;
+use sheet_line::codes::CEDED_CLASS;
 use sheet_line::codes::CREDITS_CLASS;
+use sheet_line::codes::GROSS_CLASS;
 use sheet_line::codes::GUARANTEE_CLASS;
 use sheet_line::codes::SCALAR_CLASS;
 
@@ -118,9 +120,9 @@ fn operational_figure(firsts: &[u64; PLACES], seconds: &[u64; PLACES], marks: &[
 {
     let volumes = ledger::volume_numbers(firsts, seconds);
     let general = [
-        ledger::general_amount(firsts, 1),
-        ledger::general_amount(firsts, 2),
-        ledger::general_amount(firsts, 3),
+        ledger::general_amount(firsts, GROSS_CLASS),
+        ledger::general_amount(firsts, GUARANTEE_CLASS),
+        ledger::general_amount(firsts, CEDED_CLASS),
     ];
     operational::operational(&volumes, &general)
 }

@@ -2,7 +2,7 @@
 use mathlib.Core.Path.{_≡_, refl, _∙_}
 use mathlib.Core.Bool.{Bool, true, false}
 use mathlib.Core.List.{List, [], _∷_, _++_}
-use Prim.Native.Nat.{ℕ, zero, suc, _+_, _-_, _^_, _≤_, _<_}
+use Prim.Native.Nat.{ℕ, zero, suc, _+_, _-_, _≤_, _<_}
 use native.Mathlib.Decide.{ℕ-discrete}
 use native.Mathlib.Omega.{arith}
 use borrow.Author.Tests.{eq-eqb, ne-eqb}
@@ -15,14 +15,10 @@ use Rattle.search.proofs.Eaches.{each-append}
 use Rattle.search.proofs.Ascents.{each-ascending}
 use Rattle.field.specs.declared.Field.{Field}
 use Rattle.field.specs.declared.Field.the-variants.{Value}
-use Rattle.guideline.specs.Sizes.{blocks, blockFigures}
+use Rattle.guideline.specs.Sizes.{blocks, blockFigures, FitsColumns}
 use Rattle.report_line.specs.Line.{Row, printRows, equalBytes, numberAt}
 use Rattle.report_line.proofs.ReadBack.{Printable, rowIs, numberAmong, rows-read}
 use Rattle.report.specs.Rows.{BLK, TOT, row, itemsFrom, blockRows, totalRows}
-
--- a number that has the columns of a report line
-abbrev pub FitsColumns : ℕ → Type 0
-FitsColumns n = n < 10 ^ 18
 
 pub items-printable : (c : List ℕ) (b i : ℕ) (ns : List ℕ) → length c ≡ 3 → b < 100 → i + length ns ≤ 100 → Each FitsColumns ns → Each Printable (itemsFrom i c b ns)
 unfolding itemsFrom

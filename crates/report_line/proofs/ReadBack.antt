@@ -2,7 +2,7 @@
 use mathlib.Core.Path.{_≡_, refl, sym, _∙_}
 use mathlib.Core.Bool.{Bool, true, false}
 use mathlib.Core.List.{List, [], _∷_, _++_, append-assoc, List-discrete}
-use Prim.Native.Nat.{ℕ, suc, _+_, _/_, _^_, _<_}
+use Prim.Native.Nat.{ℕ, suc, _+_, _/_, _<_}
 use native.Mathlib.Decide.{ℕ-discrete}
 use native.Mathlib.Omega.{arith}
 use lib.Dec.{eqb}
@@ -11,6 +11,7 @@ use lib.ListN.{length, take, drop, length-append}
 use Rattle.search.specs.Pick.{pick}
 use Rattle.search.specs.Each.{Each}
 use Rattle.search.proofs.Picks.{if-true, if-false, if-eq, if-ne}
+use Rattle.guideline.specs.Sizes.{numberColumns, FitsColumns}
 use Rattle.field.specs.Field.{field, leadingDigits, decimal}
 use Rattle.field.specs.declared.Field.{Field}
 use Rattle.field.specs.declared.Field.the-variants.{Value}
@@ -27,7 +28,7 @@ pub record Printable (r : Row) : Type 0 where
   pub code : length (r .code) ≡ 3
   pub block : r .block < 100
   pub item : r .item < 100
-  pub number : r .number < 10 ^ 18
+  pub number : FitsColumns (r .number)
 
 -- ---- what stands in the columns of a line
 
@@ -37,7 +38,7 @@ length-line code block item number h = simp (length-append, length-decimal, h)
 
 module _ (r : Row) (p : Printable r) where
   -- columns 1–9, columns 11–28, and what follows the line
-  line-parts : (rest : List ℕ) → (take 9 (printRow r ++ rest) ≡ keyOf r) × (take 18 (drop 10 (printRow r ++ rest)) ≡ decimal 18 (r .number))
+  line-parts : (rest : List ℕ) → (take 9 (printRow r ++ rest) ≡ keyOf r) × (take numberColumns (drop 10 (printRow r ++ rest)) ≡ decimal numberColumns (r .number))
       × (drop reportLineBytes (printRow r ++ rest) ≡ rest)
   unfolding values decimal leadingDigits reportLine key
   line-parts rest = rw (is-values 0 3 (r .code) (p .code)) (refl, refl, refl)
@@ -51,7 +52,7 @@ module _ (r : Row) (p : Printable r) where
 
   -- a report that begins with a line: its number where its columns 1–9 are those looked for, else what the rest gives
   step : (rest code : List ℕ) (block item : ℕ)
-      → numberAt (printRow r ++ rest) code block item ≡ pick (equalBytes (keyOf r) (key code block item)) (field (decimal 18 (r .number))) (numberAt rest code block item)
+      → numberAt (printRow r ++ rest) code block item ≡ pick (equalBytes (keyOf r) (key code block item)) (field (decimal numberColumns (r .number))) (numberAt rest code block item)
   unfolding numberAt numberIn
   step rest code block item =
       let n : length (printRow r ++ rest) ≡ reportLineBytes + length rest = rw (length-append, length-line (r .code) (r .block) (r .item) (r .number) (p .code)) in
@@ -114,7 +115,7 @@ rows-read [] s rest p q = refl
 rows-read (r ∷ rs) s rest p q =
     rw append-assoc
     (step r (p .0) (printRows rs ++ rest) (s .code) (s .block) (s .item)
-    ∙ rw (same-key r s (p .0) q, read-back 18 (r .number) (omega arith) (p .0 .number), rows-read rs s rest (p .1) q))
+    ∙ rw (same-key r s (p .0) q, read-back numberColumns (r .number) (omega arith) (p .0 .number), rows-read rs s rest (p .1) q))
 
 pub rows-append : (rs ss : List Row) → printRows (rs ++ ss) ≡ printRows rs ++ printRows ss
 unfolding printRows

@@ -7,6 +7,7 @@ use mathlib.Core.List.{List, [], _∷_, _++_}
 use lib.Dec.{eqb}
 use lib.ListN.{length, take, drop}
 use Rattle.search.specs.Pick.{pick}
+use Rattle.guideline.specs.Sizes.{numberColumns}
 use Rattle.field.specs.Field.{field, decimal}
 use Rattle.field.specs.declared.Field.{Field}
 use Rattle.field.specs.declared.Field.the-variants.{Bad}
@@ -21,7 +22,7 @@ key code block item = code ++ (32 ∷ []) ++ decimal 2 block ++ (32 ∷ []) ++ d
 
 -- a report line
 unfoldable pub reportLine : List ℕ → ℕ → ℕ → ℕ → List ℕ
-reportLine code block item number = key code block item ++ (32 ∷ []) ++ decimal 18 number ++ (10 ∷ [])
+reportLine code block item number = key code block item ++ (32 ∷ []) ++ decimal numberColumns number ++ (10 ∷ [])
 
 -- what a report line says
 pub record Row : Type 0 where
@@ -49,7 +50,7 @@ equalBytes (a ∷ s) (b ∷ t) = pick (eqb a b) (equalBytes s t) false
 -- the number in columns 11–28 of the first of n lines whose columns 1–9 are k; Bad where there is none
 unfoldable pub numberIn : ℕ → List ℕ → List ℕ → Field
 numberIn zero report k = Bad
-numberIn (suc n) report k = pick (equalBytes (take 9 report) k) (field (take 18 (drop 10 report))) (numberIn n (drop reportLineBytes report) k)
+numberIn (suc n) report k = pick (equalBytes (take 9 report) k) (field (take numberColumns (drop 10 report))) (numberIn n (drop reportLineBytes report) k)
 
 -- the number that a report gives for a code, a block and an item
 unfoldable pub numberAt : List ℕ → List ℕ → ℕ → ℕ → Field

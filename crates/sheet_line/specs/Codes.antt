@@ -40,9 +40,17 @@ otherClasses = otherAmounts
 abbrev pub generalClasses : ℕ
 generalClasses = 5
 
+-- the class of GEN that holds the gross components
+abbrev pub grossClass : ℕ
+grossClass = 1
+
 -- the class of GEN that holds the guarantee requirement
 abbrev pub guaranteeClass : ℕ
 guaranteeClass = 2
+
+-- the class of GEN that holds the ceded premiums
+abbrev pub cededClass : ℕ
+cededClass = 3
 
 -- the class of GEN that holds the group and deposit credits
 abbrev pub creditsClass : ℕ

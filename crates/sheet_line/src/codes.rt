@@ -35,8 +35,14 @@ pub const OTHER_CLASSES: usize = OTHER_AMOUNTS;
 // GEN's classes: gross components to credits.
 pub const GENERAL_CLASSES: usize = 5;
 
+// The class of GEN that holds the gross components.
+pub const GROSS_CLASS: usize = 1;
+
 // The class of GEN that holds the guarantee requirement.
 pub const GUARANTEE_CLASS: usize = 2;
+
+// The class of GEN that holds the ceded premiums.
+pub const CEDED_CLASS: usize = 3;
 
 // The class of GEN that holds the group and deposit credits.
 pub const CREDITS_CLASS: usize = 5;
