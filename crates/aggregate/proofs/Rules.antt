@@ -1,5 +1,5 @@
--- The sheet call by what was judged and by the room: what holds of it where it holds of each answer, and the answers by what judging tells.
--- Assumes nothing.
+-- The sheet call has three answers: the sheet is turned away, the room is too short, or there is the report. What holds of each holds of the
+-- call, and what judging finds, with the room's length, tells which it is. Assumes nothing.
 use mathlib.Core.Path.{_≡_, refl, sym, _∙_}
 use mathlib.Core.List.{List, [], _∷_, _++_}
 use Prim.Native.Nat.{ℕ, _*_, _≤_, _<_}

@@ -1,4 +1,4 @@
-// The sheet call: a sheet verdict, and the report of its buffer.
+// The sheet call: a sheet is judged, then come rule 14 and the report. And what tsav-sheet prints of a sheet.
 ghost use mathlib.Core.Path.{_≡_};
 ghost use lib.ListN.{length};
 ghost use Rattle.report.specs.Rows.{longestReport};

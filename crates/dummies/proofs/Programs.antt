@@ -6,6 +6,7 @@ use mathlib.Core.Bool.{Bool, true, false}
 use mathlib.Core.List.{List}
 use Prim.Native.Nat.{ℕ, _≤_}
 use native.Mathlib.Omega.{arith}
+use lib.ListN.{length, length-append, length-drop}
 use borrow.Author.Tests.{ltb-false}
 use Rattle.search.specs.Pick.{pick}
 use Rattle.search.proofs.Picks.{by-test, if-ge}
@@ -26,7 +27,14 @@ pub turns-away-met : TurnsAllAway turnsAway
 turns-away-met s r l = (12, Nowhere, refl)
 
 pub constant-met : (bytes : List ℕ) → ConstantReport (writesConstant bytes)
+unfolding writesConstant
 constant-met bytes s t r vs ws l m e f = refl
+
+-- its bytes stay within the room
+pub constant-within : (bytes s r : List ℕ) → length (writesConstant bytes s r .report) ≡ length r
+unfolding writesConstant
+constant-within bytes s r =
+    by-test (λ (d : Done). length (d .report) ≡ length r) _ _ _ (λ t. refl) (λ t. simp (length-append, length-drop) (omega (arith, ltb-false (length r) (length bytes) t)))
 
 pub nothing-met : WritesNothing claimsSuccess
 nothing-met s r vs l e = refl

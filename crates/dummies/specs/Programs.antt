@@ -27,9 +27,11 @@ use Rattle.dummies.specs.Dummies.{Call, filledIn}
 abbrev pub turnsAway : Call
 turnsAway s r = untouched 12 Nowhere r
 
--- writes the same bytes whatever the sheet
-abbrev pub writesConstant : List ℕ → Call
-writesConstant bytes s r = record { outcome = accepted (length bytes ∷ []); report = bytes ++ drop (length bytes) r }
+-- writes the same bytes whatever the sheet, where there is room for them, and else says 'report too short'
+unfoldable pub writesConstant : List ℕ → Call
+writesConstant bytes s r =
+    pick (ltb (length r) (length bytes)) (untouched 14 Nowhere r)
+    (record { outcome = accepted (length bytes ∷ []); report = bytes ++ drop (length bytes) r })
 
 -- claims the length of a report of no block, and writes nothing
 abbrev pub claimsSuccess : Call

@@ -143,11 +143,12 @@ pub record AcceptedBlock (b : List ℕ) : Type 0 where
   pub credit-fits : credit b ≤ limit
   pub market-fits : market b ≤ limit
 
--- in a block that is accepted V and y(i) are the differences of ℤ: neither is cut at 0
+-- in a block that is accepted V is the difference of ℤ: it isn't cut at 0
 pub v-difference : (b : List ℕ) → AcceptedBlock b → pos (Vh b) ≡ pos (2 * U b) -ℤ pos (LT b)
 unfolding Vh U LT
 v-difference b v = uncut (2 * U b) (LT b) (Vh b) (omega arith)
 
+-- nor is any y(i)
 pub y-difference : (b : List ℕ) → AcceptedBlock b → EachRisk (λ i. pos (y b i) ≡ pos (2 * ir b i) -ℤ pos (lt b i))
 unfolding y
 y-difference b v = (at 1 (omega arith), at 2 (omega arith), at 3 (omega arith), at 4 (omega arith), at 5 (omega arith), at 6 (omega arith), at 7 (omega arith))

@@ -70,9 +70,10 @@ diff-less a b c d = ap (λ (z : ℤ). subℕ a b +ℤ z) (turned (decLe d c)) �
     turned (yes h) = rw (above h) (neg-as-diff (c - d) ∙ diff-eq 0 (c - d) d c (omega arith))
     turned (no h) = let l : c < d = omega arith in rw (below l) (as-diff (suc (d - suc c)) ∙ diff-eq (suc (d - suc c)) 0 d c (omega arith))
 
--- a difference times a natural, from either side
+-- a difference times a natural
 pub diff-times : (a b n : ℕ) → subℕ a b *ℤ pos n ≡ subℕ (a * n) (b * n)
 diff-times a b n = ap (λ (z : ℤ). subℕ a b *ℤ z) (as-diff n) ∙ diff-mul a b n 0 ∙ diff-eq (a * n + b * 0) (a * 0 + b * n) (a * n) (b * n) (omega arith)
 
+-- and a natural times a difference
 pub times-diff : (n a b : ℕ) → pos n *ℤ subℕ a b ≡ subℕ (n * a) (n * b)
 times-diff n a b = *ℤ-comm (pos n) (subℕ a b) ∙ diff-times a b n ∙ diff-eq (a * n) (b * n) (n * a) (n * b) (omega arith)

@@ -164,10 +164,12 @@ numerator-radicand a i = sym (summed (a * i .denominator) (i .numerator⁺) (i .
 
 -- ---- the order
 
+-- 'at most' is passed on
 pub ≤ᶠ-trans : (x y z : Fraction) → x ≤ᶠ y → y ≤ᶠ z → x ≤ᶠ z
 ≤ᶠ-trans x y z h k =
     le-of-mul-le-mul-right {k = y .denominator} (omega (arith, mul-le-mul-right (z .denominator) h, mul-le-mul-right (x .denominator) k)) (y .positive)
 
+-- and what is at most one that is below a third is below the third
 pub ≤ᶠ-<ᶠ-trans : (x y z : Fraction) → x ≤ᶠ y → y <ᶠ z → x <ᶠ z
 ≤ᶠ-<ᶠ-trans x y z h k =
     lt-of-mul-lt-mul-right (y .denominator) (omega (arith, mul-le-mul-right (z .denominator) h, mul-lt-mul-of-pos-right k (x .positive)))

@@ -29,22 +29,22 @@ module _ (l g : List ℕ) where
       ]
 
   -- what holds of an outcome: accepted, the numbers are those that the rules leave; refused, the number is not 0
-  unfoldable Judged : Outcome → Type 0
-  Judged (accepted vs) = AcceptedOperational l g
-  Judged (refused n p) = n ≡ 0 → ⊥
+  unfoldable RulesFollowed : Outcome → Type 0
+  RulesFollowed (accepted vs) = AcceptedOperational l g
+  RulesFollowed (refused n p) = n ≡ 0 → ⊥
 
-  after-15 : length l ≤ volumeNumbers → length l % territoryNumbers ≡ 0 → Judged (rule7 l g)
-  unfolding Judged rule7
+  after-15 : length l ≤ volumeNumbers → length l % territoryNumbers ≡ 0 → RulesFollowed (rule7 l g)
+  unfolding RulesFollowed rule7
   after-15 h e =
-      by-test Judged _ _ _ (λ t z. omega arith) λ r7.
+      by-test RulesFollowed _ _ _ (λ t z. omega arith) λ r7.
       let a = none-above (l ++ g) (ltb-false _ _ r7) in
       record { short = omega arith; multiple = e; volumes = in-first a; general = λ k. omega (arith, a (length l + k), getD-append-add l g k 0) }
 
-  judged : Judged (operationalCall l g)
-  unfolding Judged operationalCall
-  judged =
-      by-test Judged _ _ _ (λ t z. omega arith) λ long.
-      by-test Judged _ _ _ (λ whole. after-15 (ltb-false _ _ long) (eqb-true _ _ whole)) (λ t z. omega arith)
+  rules-followed : RulesFollowed (operationalCall l g)
+  unfolding RulesFollowed operationalCall
+  rules-followed =
+      by-test RulesFollowed _ _ _ (λ t z. omega arith) λ long.
+      by-test RulesFollowed _ _ _ (λ multiple. after-15 (ltb-false _ _ long) (eqb-true _ _ multiple)) (λ t z. omega arith)
 
   passes : AcceptedOperational l g → operationalCall l g ≡ accepted (RO l g ∷ [])
   passes v =
@@ -52,5 +52,5 @@ module _ (l g : List ℕ) where
       ∙ passed-7 l g refl (omega (arith, all-within l (v .volumes))) refl (omega (arith, all-within g (v .general)))
 
   pub accepts-operational : AcceptsOperational l g
-  unfolding Judged
-  accepts-operational = record { accepts = passes; accepted-only = λ vs e. subst Judged e judged; never-0 = λ p e. subst Judged e judged refl }
+  unfolding RulesFollowed
+  accepts-operational = record { accepts = passes; accepted-only = λ vs e. subst RulesFollowed e rules-followed; never-0 = λ p e. subst RulesFollowed e rules-followed refl }

@@ -1,6 +1,6 @@
 -- The least whole number that passes a test. Document 01 defines I, D, K, RO and the buffer by such a number.
 --
--- It is found by halving, so that it computes on numerals of 100 digits and more. The search ends at 2^64: `least-law`
+-- It is found by halving, so that it computes on numerals of 100 bits and more. The search ends at 2^64: `least-law`
 -- says that the number is the least one wherever some number below 2^64 passes and passing goes upwards, and nothing
 -- after that law looks at the search.
 -- Assumes nothing.

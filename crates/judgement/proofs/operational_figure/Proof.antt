@@ -3,6 +3,7 @@ use mathlib.Core.Path.{_≡_, _∙_}
 use mathlib.Core.List.{List, [], _∷_}
 use native.Mathlib.Omega.{arith}
 use borrow.Author.Needs.{needs}
+use Rattle.sheet_line.specs.Codes.{grossClass, guaranteeClass, cededClass}
 use Rattle.sheet_line.specs.declared.Entry.{Entry}
 use Rattle.ledger.specs.Entries.{generalAmount}
 use Rattle.judgement.specs.Sheet.{sheetOf}
@@ -21,9 +22,9 @@ unfolding sheetOf
 taken c es H =
     let two = c .before in
     let one = two .before in
-    let first : one .general-amount .result ≡ generalAmount es 1 = one .general-amount .ensures ∙ general-is H 1 (omega arith, omega arith) in
-    let second : two .general-amount2 .result ≡ generalAmount es 2 = two .general-amount2 .ensures ∙ general-is H 2 (omega arith, omega arith) in
-    let third : c .general-amount3 .result ≡ generalAmount es 3 = c .general-amount3 .ensures ∙ general-is H 3 (omega arith, omega arith) in
+    let first : one .general-amount .result ≡ generalAmount es grossClass = one .general-amount .ensures ∙ general-is H grossClass (omega arith, omega arith) in
+    let second : two .general-amount2 .result ≡ generalAmount es guaranteeClass = two .general-amount2 .ensures ∙ general-is H guaranteeClass (omega arith, omega arith) in
+    let third : c .general-amount3 .result ≡ generalAmount es cededClass = c .general-amount3 .ensures ∙ general-is H cededClass (omega arith, omega arith) in
     (one .before .volume-numbers .ensures ∙ volumes-are H, λ i. first i ∷ second i ∷ third i ∷ [])
 
 operational-requires : tie.Need-operational-requires
