@@ -27,8 +27,8 @@ Lines s es = Holds es (s .args .firsts .now) (s .args .seconds .now) (s .args .m
 returns : tie.Need-returns
 returns c es H = no-scalar es (sym (scalar-is H) ∙ sym (c .before .has-scalar .ensures) ∙ not-true _ (c .if1 .taken))
 
-scalar-there : (c : tie.Else1) (es : List Entry) → Lines (c .before .before) es → hasLine es Gen 0 scalarClass ≡ true
-scalar-there c es H = sym (scalar-is H) ∙ sym (c .before .has-scalar .ensures) ∙ not-false _ (c .if1 .left)
+has-scalar-line : (c : tie.Else1) (es : List Entry) → Lines (c .before .before) es → hasLine es Gen 0 scalarClass ≡ true
+has-scalar-line c es H = sym (scalar-is H) ∙ sym (c .before .has-scalar .ensures) ∙ not-false _ (c .if1 .left)
 
 -- back from the guarantee requirement to the start
 abbrev start : tie.After-general-amount → tie.Start
@@ -61,7 +61,7 @@ returns-2 : tie.Need-returns-2
 returns-2 c es H =
     let a = c .before .before in
     let i = a .before .before .before .before in
-    credits-above es (scalar-there i es H) (omega (arith, c .if2 .taken, total a es H, credits-are (c .before) es H))
+    credits-above es (has-scalar-line i es H) (omega (arith, c .if2 .taken, total a es H, credits-are (c .before) es H))
 
 scalar-is-g : (c : tie.After-general-amount3) →
     (es : List Entry) → Lines (start (c .before .before .before)) es → c .general-amount3 .result ≡ sheetOf es .g
@@ -73,7 +73,7 @@ scaled-requires c κs =
     let a = c .before .before .before in
     let i = a .before .before .before .before in
     let l = i .before .before .pre in
-    (omega (arith, scalar-is-g c (l .0) (l .1), scalar-ranged (l .0) (l .1 .lines) (scalar-there i (l .0) (l .1)) .1), omega (arith, small a))
+    (omega (arith, scalar-is-g c (l .0) (l .1), scalar-ranged (l .0) (l .1 .lines) (has-scalar-line i (l .0) (l .1)) .1), omega (arith, small a))
 
 returns-3 : tie.Need-returns-3
 unfolding sheetOf
@@ -91,7 +91,7 @@ returns-3 c es H =
       ro-is = a .before .operational-figure .ensures es H;
       buffer-is = buffer-is es _ _ _ _ (scalar-is-g g es H) (total a es H) (credits-are k es H) (c .scaled .ensures);
     })
-    ∙ passes es (scalar-there (w .before .before) es H) (omega (arith, g .before .if2 .left, total a es H, credits-are k es H))
+    ∙ passes es (has-scalar-line (w .before .before) es H) (omega (arith, g .before .if2 .left, total a es H, credits-are k es H))
 
 pub after-lines-spec : {M : Type 1} → statement M
 after-lines-spec =
