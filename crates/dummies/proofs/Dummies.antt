@@ -71,7 +71,9 @@ module _ (call : Call) (meets : MeetsContract call) where
   pub first-filled-in : FirstFilledIn call → ⊥
   first-filled-in filled =
       let e = at twoBlocks refl (row 2) in
-      omega (arith, filled (twoBlocks .sheet) (twoBlocks .lent) 100 200 (e .lent) (ap (λ (x : Facts). x .k₁) (e .facts)) (ap (λ (x : Facts). x .k₂) (e .facts)))
+      let k₁ = ap (λ (x : Facts). x .k₁) (e .facts) in
+      let k₂ = ap (λ (x : Facts). x .k₂) (e .facts) in
+      omega (arith, filled (twoBlocks .sheet) (twoBlocks .lent) 100 200 (e .lent) (cc k₁) (cc k₂))
 
 module _ (s : Sheet) (v : AcceptedSheet s) where
   -- two buffers that meet demand 3 are less than the allowance apart
@@ -82,11 +84,11 @@ module _ (s : Sheet) (v : AcceptedSheet s) where
 
   -- 'A huge 'safe' buffer breaks demand 3 from above'
   pub huge-buffer : (x : ℕ) → FarAbove s x → BufferDemand s x → ⊥
-  huge-buffer x h d = apart _ x h (buffer-demand s v) d
+  huge-buffer x h d = apart (buffer s) x (omega arith) (buffer-demand s v) d
 
   -- a buffer far too low breaks it from below
   pub low-buffer : (x : ℕ) → FarBelow s x → BufferDemand s x → ⊥
-  low-buffer x h d = apart x _ h d (buffer-demand s v)
+  low-buffer x h d = apart x (buffer s) (omega arith) d (buffer-demand s v)
 
 -- a sheet whose amounts are read has been judged to be sound
 sound-lines : (j : Judgement) → 1 ≤ amountsOf j .allowance → (es : List Entry) × (j ≡ sound es)

@@ -8,7 +8,7 @@ use Rattle.search.specs.Pick.{pick}
 use Rattle.field.specs.declared.Field.{Field}
 use Rattle.field.specs.declared.Field.the-variants.{Value, Bad}
 
--- the columns of the widest field, a report's number: what it holds fits 64 bits
+-- the most columns that a field is read off: what they hold fits 64 bits
 abbrev pub mostColumns : ℕ
 mostColumns = 18
 
