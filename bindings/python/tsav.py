@@ -135,7 +135,10 @@ def _load() -> ctypes.CDLL:
     # Installed, this file is PREFIX/lib/tsav/python/tsav.py; in a checkout, bindings/python/tsav.py.
     above = Path(__file__).resolve().parents[2]
     beside = [path for path in (above / name, above / "target" / "shared" / name) if path.is_file()]
-    library = ctypes.CDLL(os.environ.get("TSAV_LIBRARY") or str((beside + [name])[0]))
+    try:
+        library = ctypes.CDLL(os.environ.get("TSAV_LIBRARY") or str((beside + [name])[0]))
+    except OSError as error:
+        raise ImportError(f"{error}; in a checkout, run bindings/shared first; TSAV_LIBRARY may name the file") from error
     numbers, size = ctypes.POINTER(ctypes.c_uint64), ctypes.c_size_t
     for call, lent in (
         (library.tsav_version, []),
