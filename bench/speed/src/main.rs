@@ -1,8 +1,10 @@
-//! The library's calls, through the Rust wrapper, beside those of a good u128 program (peer.rs) with two roots, one binary
-//! digit a step and Newton's, on figures that change (figures.rs).
+//! The library's calls, through the Rust wrapper, beside those of a good u128 program (peer.rs) with three roots, on figures
+//! that change (figures.rs). Its time and the ratio are those with one binary digit a step, the plain way; the ratios to it
+//! with the same root without jumps, as ours goes, and with Newton's stand beside.
 //!
-//! A sample is one pass over all the blocks or sheets of a kind. Samples of the three sides take turns, and so do the kinds, so
-//! that whatever else the machine does falls on all of them; the shortest of each is printed. The answers are compared first.
+//! A sample is one pass over all the blocks or sheets of a kind. Samples of the four sides take turns, and so do the kinds and
+//! the side that is first, so that whatever else the machine does falls on all of them; the shortest of each is printed. The
+//! answers are compared first.
 //!
 //! All are treated alike: the same sheets, and a lent report of the same length that is cleared before no call, of
 //! any side. What a call itself clears is part of its time.
@@ -11,7 +13,7 @@ mod figures;
 mod peer;
 
 use figures::{small_lines, Draws, Line, Size};
-use peer::{root_by_digits, root_by_newton};
+use peer::{root_by_digits, root_by_newton, root_without_jumps, Root};
 use reference::{all_lines, BLOCK_NUMBERS, FIGURES};
 use std::hint::black_box;
 use std::time::Instant;
@@ -19,6 +21,10 @@ use tsav::{LONGEST_REPORT, MOST_BLOCKS};
 
 /// Samples of each side.
 const SAMPLES: usize = 400;
+
+/// Ours, and the peer with each of its roots.
+const SIDES: usize = 1 + ROOTS.len();
+const ROOTS: [Root; 3] = [root_by_digits, root_without_jumps, root_by_newton];
 
 /// How many there are of each kind: blocks, full sheets, small sheets, and sheets for each line of the table.
 const BLOCKS: usize = 4096;
@@ -40,27 +46,28 @@ fn main() {
         named.push((format!("block call{size_name}"), blocks(&mut draws, size)));
     }
     let mut table = TABLE.map(|blocks| sheets(&mut draws, TABLE_SHEETS, &all_lines(blocks), Size::Middling));
-    for _ in 0..SAMPLES {
+    for round in 0..SAMPLES {
         for (_, kind) in &mut named {
-            kind.sample();
+            kind.sample(round);
         }
         for kind in &mut table {
-            kind.sample();
+            kind.sample(round);
         }
     }
     for (name, kind) in &named {
-        let [ours, digits, newton] = kind.shortest();
-        let (ratio, newtons) = (ours / digits, ours / newton);
-        println!("{name}: ours {ours:.3} us, u128 {digits:.3} us, ratio {ratio:.3}; to Newton's root {newtons:.3}");
+        let [ours, digits, no_jumps, newton] = kind.shortest();
+        let ratios = [digits, no_jumps, newton].map(|peer| format!("{:.3}", ours / peer));
+        print!("{name}: ours {ours:.3} us, u128 {digits:.3} us, ratio {}; ", ratios[0]);
+        println!("to a root without jumps {}, to Newton's {}", ratios[1], ratios[2]);
     }
     println!("\nblocks  lines  ours us  u128 us  ratio");
     for (blocks, kind) in TABLE.iter().zip(&table) {
-        let [ours, digits, _] = kind.shortest();
+        let [ours, digits, ..] = kind.shortest();
         println!("{blocks:>6} {:>6} {ours:>8.2} {digits:>8.2} {:>6.3}", kind.lines, ours / digits);
     }
 }
 
-/// One kind of call, measured on each of three sides: ours, the peer with a root by digits, and with Newton's.
+/// One kind of call, measured on each of the sides.
 struct Kind {
     /// One pass of a side, which is called with its number.
     pass: Box<dyn FnMut(usize)>,
@@ -68,16 +75,18 @@ struct Kind {
     calls: usize,
     lines: usize,
     /// The shortest pass of each side, in microseconds.
-    best: [f64; 3],
+    best: [f64; SIDES],
 }
 
 impl Kind {
     fn new(calls: usize, lines: usize, pass: impl FnMut(usize) + 'static) -> Kind {
-        Kind { pass: Box::new(pass), calls, lines, best: [f64::INFINITY; 3] }
+        Kind { pass: Box::new(pass), calls, lines, best: [f64::INFINITY; SIDES] }
     }
 
-    fn sample(&mut self) {
-        for side in 0..self.best.len() {
+    /// A pass of each side, another one first in each round.
+    fn sample(&mut self, round: usize) {
+        for turn in 0..SIDES {
+            let side = (round + turn) % SIDES;
             let start = Instant::now();
             (self.pass)(side);
             self.best[side] = self.best[side].min(start.elapsed().as_secs_f64() * 1e6);
@@ -85,7 +94,7 @@ impl Kind {
     }
 
     /// The shortest time of a call of each side.
-    fn shortest(&self) -> [f64; 3] {
+    fn shortest(&self) -> [f64; SIDES] {
         self.best.map(|pass| pass / self.calls as f64)
     }
 }
@@ -95,7 +104,7 @@ fn sheets(draws: &mut Draws, count: usize, lines: &[Line], size: Size) -> Kind {
     let (mut one, mut two) = ([0; LONGEST_REPORT], [0; LONGEST_REPORT]);
     for sheet in &sheets {
         let ours = tsav::sheet(sheet, &mut one).expect("the sheet is accepted");
-        for root in [root_by_digits, root_by_newton] {
+        for root in ROOTS {
             assert_eq!(peer::sheet(sheet, &mut two, root), Ok(ours));
             assert_eq!(one[..ours], two[..ours], "the same report");
         }
@@ -104,6 +113,7 @@ fn sheets(draws: &mut Draws, count: usize, lines: &[Line], size: Size) -> Kind {
     Kind::new(count, lines.len(), move |side| match side {
         0 => each(&sheets, |sheet| tsav::sheet(sheet, black_box(&mut report)).ok()),
         1 => each(&sheets, |sheet| peer::sheet(sheet, black_box(&mut report), root_by_digits).ok()),
+        2 => each(&sheets, |sheet| peer::sheet(sheet, black_box(&mut report), root_without_jumps).ok()),
         _ => each(&sheets, |sheet| peer::sheet(sheet, black_box(&mut report), root_by_newton).ok()),
     })
 }
@@ -111,13 +121,14 @@ fn sheets(draws: &mut Draws, count: usize, lines: &[Line], size: Size) -> Kind {
 fn blocks(draws: &mut Draws, size: Size) -> Kind {
     let blocks: Vec<[u64; BLOCK_NUMBERS]> = (0..BLOCKS).map(|_| draws.block(size)).collect();
     for numbers in &blocks {
-        for root in [root_by_digits, root_by_newton] {
+        for root in ROOTS {
             assert_eq!(peer::block(numbers, root), Ok(ours(numbers)), "the same figures");
         }
     }
     Kind::new(BLOCKS, 0, move |side| match side {
         0 => each(&blocks, |numbers| tsav::block(numbers).ok()),
         1 => each(&blocks, |numbers| peer::block(numbers, root_by_digits).ok()),
+        2 => each(&blocks, |numbers| peer::block(numbers, root_without_jumps).ok()),
         _ => each(&blocks, |numbers| peer::block(numbers, root_by_newton).ok()),
     })
 }

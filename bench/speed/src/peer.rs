@@ -2,7 +2,8 @@
 //! everything tested that document 01 has tested. It is here for its speed; tests/reference, written to be plain, is the
 //! independent calculation.
 //!
-//! The root is left to the caller: one binary digit a step, as ours goes, or Newton's.
+//! The root is left to the caller, and there are three: one binary digit a step with a jump on it, as it is mostly written;
+//! the same without a jump and in words, as ours goes; and Newton's.
 
 use reference::{
     Refusal, BLOCK_NUMBERS, FIGURES, GENERAL_CLASSES, GENERAL_NUMBERS, LARGEST_AMOUNT, LARGEST_SCALAR, LINE_BYTES,
@@ -12,7 +13,7 @@ use reference::{
 /// The least whole number whose square is at least the radicand.
 pub type Root = fn(u128) -> u64;
 
-/// The root one binary digit a step: two digits of the radicand are brought down in each.
+/// The root one binary digit a step, the plain way: a jump decides each digit.
 pub fn root_by_digits(radicand: u128) -> u64 {
     let (mut root, mut rest) = (0_u128, radicand);
     let mut bit = 1_u128 << ((127 - (radicand | 1).leading_zeros()) & !1);
@@ -26,6 +27,21 @@ pub fn root_by_digits(radicand: u128) -> u64 {
         bit >>= 2;
     }
     root as u64 + u64::from(rest != 0)
+}
+
+/// The root one binary digit a step, without a jump: the digit is a number to reckon with. Two digits of the radicand are
+/// brought down in each step, so that the root and the rest stay within a word where the radicand is below 2^124.
+pub fn root_without_jumps(radicand: u128) -> u64 {
+    let (mut root, mut rest) = (0_u64, 0_u64);
+    for at in (0..(129 - radicand.leading_zeros()) / 2).rev() {
+        let word = if at < 32 { radicand as u64 } else { (radicand >> 64) as u64 };
+        let next = 4 * rest + (word >> (2 * at % 64)) % 4;
+        let odd = 4 * root + 1;
+        let digit = u64::from(odd <= next);
+        root = 2 * root + digit;
+        rest = next - digit * odd;
+    }
+    root + u64::from(rest != 0)
 }
 
 /// The root by Newton's way: from the machine's square root of the rounded number, one step and a correction.
@@ -182,30 +198,30 @@ impl Sheet {
         if class < 1 || classes < class {
             return Some(6);
         }
-        let at = class - 1;
-        let bit = 1 << (bits_from + at);
-        let seen = block.wrapping_sub(1).min(MOST_BLOCKS);
-        match line[0] {
-            b'R' if class == RISKS && second != 0 => return Some(8),
-            b'R' if first < second => return Some(9),
-            b'O' | b'G' if second != 0 => return Some(8),
-            b'G' if class == 4 && !(1..=LARGEST_SCALAR).contains(&first) => return Some(10),
-            _ => {}
+        if let Some(rule) = amounts_refused(line[0], class, first, second) {
+            return Some(rule);
         }
-        if self.seen[seen] & bit != 0 {
+        let row = block.wrapping_sub(1).min(MOST_BLOCKS);
+        let bit = 1 << (bits_from + class - 1);
+        if self.seen[row] & bit != 0 {
             return Some(11);
         }
-        self.seen[seen] |= bit;
-        match line[0] {
-            b'R' => self.blocks[seen][2 * at..2 * at + 2].copy_from_slice(&[first, second]),
-            b'O' => self.blocks[seen][2 * RISKS + at] = first,
-            b'V' => {
-                let from = TERRITORY_NUMBERS * seen + 2 * at;
-                self.volumes[from..from + 2].copy_from_slice(&[first, second]);
-            }
-            _ => self.general[at] = first,
-        }
+        self.seen[row] |= bit;
+        self.store(line[0], row, class - 1, [first, second]);
         None
+    }
+
+    /// The amounts of a line at their places, by the first letter of its code, its block and its class, both from 0.
+    fn store(&mut self, code: u8, block: usize, class: usize, amounts: [u64; 2]) {
+        match code {
+            b'R' => self.blocks[block][2 * class..2 * class + 2].copy_from_slice(&amounts),
+            b'O' => self.blocks[block][2 * RISKS + class] = amounts[0],
+            b'V' => {
+                let from = TERRITORY_NUMBERS * block + 2 * class;
+                self.volumes[from..from + 2].copy_from_slice(&amounts);
+            }
+            _ => self.general[class] = amounts[0],
+        }
     }
 
     /// Rules 12 to 14, and the report.
@@ -238,6 +254,17 @@ impl Sheet {
         }
         write_items(totals, b"TOT", 0, &[sum, ro, buffer]);
         Ok(length)
+    }
+}
+
+/// Rules 8 to 10: the number of the one that turns a line's amounts away, by the first letter of its code and its class from 1.
+fn amounts_refused(code: u8, class: usize, first: u64, second: u64) -> Option<u8> {
+    match code {
+        b'R' if class == RISKS && second != 0 => Some(8),
+        b'R' if first < second => Some(9),
+        b'O' | b'G' if second != 0 => Some(8),
+        b'G' if class == 4 && !(1..=LARGEST_SCALAR).contains(&first) => Some(10),
+        _ => None,
     }
 }
 
@@ -292,13 +319,13 @@ mod tests {
 
     const CASES: u64 = 20_000;
 
-    /// It refuses and answers as the independent calculation does, with either root.
+    /// It refuses and answers as the independent calculation does, with each root.
     #[test]
     fn it_answers_as_the_reference_does() {
         for index in 0..CASES {
             let (lines, room) = generate::case(1, index);
             let numbers = generate::block_numbers(1, index);
-            for root in [root_by_digits, root_by_newton] {
+            for root in [root_by_digits, root_without_jumps, root_by_newton] {
                 let (mut one, mut two) = (vec![0; room], vec![0; room]);
                 assert_eq!(sheet(&lines, &mut one, root), reference::sheet_call(&lines, &mut two), "sheet {index}");
                 assert_eq!(one, two, "report {index}");

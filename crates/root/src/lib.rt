@@ -45,7 +45,7 @@ fn root_step(root: u64, rest: u64, digits: u64) -> PartialRoot
     }
 }
 
-// 1 where the odd number is within what is left, else 0: a number to reckon with, as a jump on it would be foretold wrong half the time.
+// 1 where the odd number is within what is left, else 0: a number to reckon with, as a jump on it would be mispredicted half the time.
 fn one_if_within(odd: u64, next: u64) -> u64
     ensures { λ r. ⌜ r ≡ pick (leb odd next) 1 0 ⌝ }
 {
