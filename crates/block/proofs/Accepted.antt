@@ -14,8 +14,8 @@ use Rattle.search.proofs.Values.{values, values-same, is-values}
 use Rattle.search.proofs.Firsts.{sought-none}
 use Rattle.refusal.specs.Outcome.{Outcome}
 use Rattle.refusal.specs.Outcome.Outcome.{accepted, refused}
-use Rattle.amount.specs.Amount.{limit, above, firstAbove}
-use Rattle.amount.proofs.Amounts.{none-above}
+use Rattle.amount.specs.Amount.{limit}
+use Rattle.amount.proofs.Amounts.{none-above, all-within}
 use Rattle.guideline.specs.Sizes.{risks, blockNumbers}
 use Rattle.guideline.specs.Block.{AcceptedBlock, lt, figuresOf}
 use Rattle.guideline.proofs.Demand.{block-demand}
@@ -34,11 +34,6 @@ module _ (b : List ℕ) (v : AcceptedBlock b) where
   unfolding values
   within long = each-at Fits 0 (omega arith) b (subst (Each Fits) (sym (is-values 0 blockNumbers b long)) (omega arith))
 
-  none-above-limit : length b ≡ blockNumbers → firstAbove b ≡ length b
-  unfolding firstAbove
-  none-above-limit long =
-      sought-none (above b) (length b) (length b) (omega arith) (record { within = omega arith; before = λ k h. le-ltb _ _ (within long k) })
-
   -- rule 9 at each of the seven pairs
   pairs : values (ltAbove b) risks ≡ values (λ i. false) risks
   unfolding values
@@ -54,34 +49,34 @@ module _ (b : List ℕ) (v : AcceptedBlock b) where
       (record { within = omega arith; before = values-same (ltAbove b) (λ i. false) risks pairs })
 
   passes : length b ≡ blockNumbers → blockCall b ≡ accepted (figuresOf b)
-  passes long = passed-7 b long refl (omega (arith, none-above-limit long)) ∙ passed-8 b (v .lt-seven) ∙ passed-9 b refl (omega (arith, none-above-ir))
+  passes long = passed-7 b long refl (omega (arith, all-within b (within long))) ∙ passed-8 b (v .lt-seven) ∙ passed-9 b refl (omega (arith, none-above-ir))
 
 -- what holds of an outcome: accepted, the values are the figures of a block that the rules leave; refused, the number is not 0
-unfoldable Judged : List ℕ → Outcome → Type 0
-Judged b (accepted vs) = (vs ≡ figuresOf b) × AcceptedBlock b
-Judged b (refused n p) = n ≡ 0 → ⊥
+unfoldable Promised : List ℕ → Outcome → Type 0
+Promised b (accepted vs) = (vs ≡ figuresOf b) × AcceptedBlock b
+Promised b (refused n p) = n ≡ 0 → ⊥
 
 module _ (b : List ℕ) where
-  after-8 : ((k : ℕ) → getD b k 0 ≤ limit) → lt b 7 ≡ 0 → Judged b (rule9 b)
-  unfolding Judged rule9
-  after-8 r7 r8 = by-test (Judged b) _ _ _ (λ t z. omega arith) (λ r9. (refl, acceptable b refl r7 r8 (ltb-false _ _ r9)))
+  after-8 : ((k : ℕ) → getD b k 0 ≤ limit) → lt b 7 ≡ 0 → Promised b (rule9 b)
+  unfolding Promised rule9
+  after-8 r7 r8 = by-test (Promised b) _ _ _ (λ t z. omega arith) (λ r9. (refl, acceptable b refl r7 r8 (ltb-false _ _ r9)))
 
-  judged : Judged b (blockCall b)
-  unfolding Judged blockCall rule8
-  judged =
-      by-test (Judged b) _ _ _ (λ t z. omega arith) λ r7.
-      by-test (Judged b) _ _ _ (λ r8. after-8 (none-above b (ltb-false _ _ r7)) (eqb-true _ _ r8)) (λ t z. omega arith)
+  promised : Promised b (blockCall b)
+  unfolding Promised blockCall rule8
+  promised =
+      by-test (Promised b) _ _ _ (λ t z. omega arith) λ r7.
+      by-test (Promised b) _ _ _ (λ r8. after-8 (none-above b (ltb-false _ _ r7)) (eqb-true _ _ r8)) (λ t z. omega arith)
 
   pub accepts-block : AcceptsBlock b
-  unfolding Judged
+  unfolding Promised
   accepts-block =
       record {
         accepts = λ long v. passes b v (omega arith);
-        accepted-only = λ vs e. subst (Judged b) e judged .1;
-        never-0 = λ p e. subst (Judged b) e judged refl;
+        accepted-only = λ vs e. subst (Promised b) e promised .1;
+        never-0 = λ p e. subst (Promised b) e promised refl;
       }
 
   pub block-demanded : (o : Outcome) → o ≡ blockCall b → BlockDemand3 b o
-  unfolding Judged
-  block-demanded (accepted vs) e = let j = subst (Judged b) (sym e) judged in (j .0, block-demand b (j .1))
+  unfolding Promised
+  block-demanded (accepted vs) e = let j = subst (Promised b) (sym e) promised in (j .0, block-demand b (j .1))
   block-demanded (refused n p) e = tt

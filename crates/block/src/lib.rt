@@ -14,7 +14,6 @@ use guideline::BLOCK_NUMBERS;
 use guideline::RISKS;
 use guideline::factor_at as f;
 use refusal::Place;
-use wide::Columns;
 use wide::Sum;
 use wide::division;
 use wide::running;
@@ -119,15 +118,7 @@ fn correlated(y: &[u64; RISKS]) -> Sum
     requires { ⌜ SmallYs (now y) ⌝ }
     ensures { λ r. ⌜ SoFar (now (y .entry)) products r ⌝ }
 {
-    let nothing = Columns {
-        ones: 0,
-        middle: 0,
-        upper: 0,
-    };
-    let s0 = Sum {
-        added: nothing,
-        taken: nothing,
-    };
+    let s0 = running::empty();
     let s1 = with_row(s0, y, 0, f(0), f(1), f(2), f(3), f(4), f(5), f(6));
     let s2 = with_row(s1, y, 1, f(7), f(8), f(9), f(10), f(11), f(12), f(13));
     let s3 = with_row(s2, y, 2, f(14), f(15), f(16), f(17), f(18), f(19), f(20));
@@ -165,13 +156,13 @@ fn with_row(
 }
 
 // The sum with one product more: from that of the first k products, k = 7 × row + column, to that of the first k + 1.
-fn with_product(before: Sum, y: &[u64; RISKS], row: usize, column: usize, f: i64) -> Sum
+fn with_product(before: Sum, y: &[u64; RISKS], row: usize, column: usize, quarters: i64) -> Sum
     requires { ⌜ (row < risks) × (column < risks) ⌝ }
     requires { ⌜ SoFar (now y) (risks * row + column) before ⌝ }
-    requires { ⌜ f ≡ factor (risks * row + column) ⌝ }
+    requires { ⌜ quarters ≡ factor (risks * row + column) ⌝ }
     ensures { λ r. ⌜ SoFar (now (y .entry)) (risks * row + (column + 1)) r ⌝ }
 {
-    running::add_term(before, f, y[row], y[column])
+    running::add_term(before, quarters, y[row], y[column])
 }
 
 // The larger of two.

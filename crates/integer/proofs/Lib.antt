@@ -1,3 +1,2 @@
 -- Laws of the integers that the library leaves out.
 pub mod Integer
-pub mod Size

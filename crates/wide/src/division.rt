@@ -82,6 +82,7 @@ fn divide_step(before: WordDivision, low: u64, left: u32, width: u32, d: u64) ->
     }
 }
 
+// 2^k, the base of a step's digits.
 fn power_of_two(k: u32) -> u64
     requires { ⌜ k < 64 ⌝ }
     ensures { λ r. ⌜ r ≡ 2 ^ k ⌝ }

@@ -14,6 +14,21 @@ const COLUMN_BASE: u64 = 16777216;
 
 const UPPER_BASE: u64 = 65536;
 
+// A sum of no products.
+pub fn empty() -> Sum
+    ensures { λ r. ⌜ (held r ≡ pos 0) × (filled r ≡ 0) ⌝ }
+{
+    let nothing = Columns {
+        ones: 0,
+        middle: 0,
+        upper: 0,
+    };
+    Sum {
+        added: nothing,
+        taken: nothing,
+    }
+}
+
 // The sum with factor * a * b added. The factor is in quarters; a product fills the columns by at most 2^52.
 pub fn add_term(s: Sum, factor: i64, a: u64, b: u64) -> Sum
     requires { ⌜ (natAbs factor ≤ 4) × (a < 2 ^ 48) × (b < 2 ^ 48) × (filled s ≤ 2 ^ 63) ⌝ }

@@ -1,22 +1,16 @@
 -- From nothing, row by row: each factor is the table's at its place. Assumes nothing.
-use mathlib.Core.Path.{refl}
 use native.Mathlib.Omega.{arith}
 use borrow.Author.Needs.{needs}
 use Rattle.guideline.specs.Factors.{soFar}
-use Rattle.wide.specs.declared.Columns.{Columns}
-use Rattle.wide.specs.Sum.{number, held, fill, filled}
 use Rattle.block.specs.Parts.{SoFar}
 use Rattle.block.proofs.Running.{row-asked}
 use Rattle.block.proofs.correlated.Statement.{statement}
 use Rattle.block.proofs.correlated.Tie as tie
 
 -- before the first row
-abbrev nothing : Columns
-nothing = record { ones = 0; middle = 0; upper = 0 }
-
-started : (c : tie.Start) → SoFar (c .args .y .now) 0 (record { added = nothing; taken = nothing })
-unfolding number held fill filled soFar
-started c = record { small = c .pre; sum = refl; room = omega arith }
+started : (c : tie.After-empty) → SoFar (c .before .args .y .now) 0 (c .empty .result)
+unfolding soFar
+started c = record { small = c .before .pre; sum = c .empty .ensures .0; room = omega (arith, c .empty .ensures .1) }
 
 with-row-requires : tie.Need-with-row-requires
 with-row-requires c κs =
@@ -63,7 +57,7 @@ with-row-requires-7 c κs =
 pub correlated-spec : {M : Type 1} → statement M
 correlated-spec =
     tie.close
-    (tie.spec
+    (tie.spec (λ c κs. search needs)
     (λ c κs. search needs) (λ c κs. search needs) (λ c κs. search needs) (λ c κs. search needs) (λ c κs. search needs) (λ c κs. search needs) (λ c κs. search needs) with-row-requires
     (λ c κs. search needs) (λ c κs. search needs) (λ c κs. search needs) (λ c κs. search needs) (λ c κs. search needs) (λ c κs. search needs) (λ c κs. search needs) with-row-requires-2
     (λ c κs. search needs) (λ c κs. search needs) (λ c κs. search needs) (λ c κs. search needs) (λ c κs. search needs) (λ c κs. search needs) (λ c κs. search needs) with-row-requires-3

@@ -16,8 +16,8 @@ use Rattle.block.proofs.with_product.Statement.{statement}
 use Rattle.block.proofs.with_product.Tie as tie
 
 -- the factor as the machine reads it
-read : (c : tie.Start) → toZ w64 (ofZ w64 (c .args .f)) ≡ factor (risks * c .args .row + c .args .column)
-read c = toZ-ofZ w64 (c .args .f) (c .fits .f) ∙ c .pre .1 .1
+read : (c : tie.Start) → toZ w64 (ofZ w64 (c .args .quarters)) ≡ factor (risks * c .args .row + c .args .column)
+read c = toZ-ofZ w64 (c .args .quarters) (c .fits .quarters) ∙ c .pre .1 .1
 
 add-term-requires : tie.Need-add-term-requires
 add-term-requires c κs =

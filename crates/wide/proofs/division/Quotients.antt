@@ -1,7 +1,7 @@
 -- Long division: how many binary digits fit a step, one step, what holds between two, and the quotient rounded up. Assumes nothing.
 use mathlib.Core.Path.{_≡_, sym, ap, _∙_}
-use Prim.Native.Nat.{ℕ, suc, _+_, _-_, _*_, _/_, _%_, _^_, _≤_, _<_}
-use native.Mathlib.Nat.{mul-le-mul-left, mul-le-mul-right, div-add-mod', lt-of-mul-lt-mul-right, lt-of-mul-lt-mul-left}
+use Prim.Native.Nat.{ℕ, _+_, _-_, _*_, _/_, _%_, _^_, _≤_, _<_}
+use native.Mathlib.Nat.{mul-le-mul-left, mul-le-mul-right, div-add-mod', lt-of-mul-lt-mul-right}
 use native.Mathlib.Decide.{decLe}
 use native.Mathlib.Omega.{arith}
 use lib.Count.{leadingZeros, leading-length}
@@ -9,7 +9,6 @@ use lib.Dec.{leb}
 use lib.Pow.{pow-add, pow-mono, mod-pow-add}
 use Rattle.search.specs.Least.{least}
 use Rattle.search.proofs.LeastOf.{ceil-eq}
-use Rattle.search.proofs.Tests.{leb-same}
 
 -- ---- how many binary digits a step can bring down
 
@@ -113,15 +112,3 @@ module _ (n d q r : ℕ) (whole : q * d + r ≡ n) (small : r < d) (fits : n ≤
 
   pub next-quotient : 0 < r → q + 1 ≡ least (λ x. leb n (d * x))
   next-quotient h = sym (ceil-eq n d (q + 1) (quotient-room h) (omega arith) (omega arith))
-
--- ---- rounding up twice is rounding up once by the product, for any divisors: of one that passes a word, one factor after the other
-
-rounded : (n a m x : ℕ) → n ≤ a * m → a * m < n + a → leb m x ≡ leb n (a * x)
-rounded n a m x h k =
-    leb-same m x n (a * x) (λ l. omega (arith, mul-le-mul-left a l))
-    (λ l.
-    let s : m < suc x = lt-of-mul-lt-mul-left a (omega arith) in
-    omega arith)
-
-pub twice-rounded : (n a b m : ℕ) → n ≤ a * m → a * m < n + a → least (λ q. leb m (b * q)) ≡ least (λ q. leb n (a * (b * q)))
-twice-rounded n a b m h k = λ i. least (λ q. rounded n a m (b * q) h k i)
