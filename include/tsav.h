@@ -25,7 +25,7 @@
       1  nowhere             the sheet is longer than TSAV_LONGEST_SHEET
       2  nowhere             its length isn't a multiple of 40
       3  line                columns 4 to 40 break the layout
-      4  line                the code isn't RSK, OTH, VOL or GEN
+      4  line                the code isn't RSK, OTH, MOR, VOL or GEN
       5  line                the block is outside the code's range
       6  line                the class is outside the code's range
       7  position            an amount is above TSAV_LARGEST_AMOUNT
@@ -36,7 +36,8 @@
      12  nowhere             there is no scalar line
      13  nowhere             the credits are above sum of K + guarantee requirement + RO
      14  nowhere             the lent report is shorter than the report
-     15  nowhere             the list of volumes is longer than TSAV_MOST_VOLUMES, or no multiple of TSAV_TERRITORY_NUMBERS */
+     15  nowhere             the list of volumes is longer than TSAV_MOST_VOLUMES, or no multiple of TSAV_TERRITORY_NUMBERS
+     16  nowhere             the credit of a MOR line is above level and trend of its block's mortality */
 
 #ifndef TSAV_H
 #define TSAV_H
@@ -68,8 +69,8 @@ extern "C" {
 #define TSAV_SHEET_LINE 40
 #define TSAV_REPORT_LINE 29
 
-/* 293 lines. */
-#define TSAV_LONGEST_SHEET 11720
+/* 309 lines. */
+#define TSAV_LONGEST_SHEET 12360
 
 /* The report of 16 blocks. With this room a sheet is never refused by 14. */
 #define TSAV_LONGEST_REPORT 2407
@@ -105,7 +106,7 @@ uint64_t tsav_block(const uint64_t numbers[TSAV_BLOCK_NUMBERS], uint64_t figures
 uint64_t tsav_operational(const uint64_t *volumes, size_t count, const uint64_t general[TSAV_GENERAL_FIGURES],
                           uint64_t figure[1], uint64_t place[2]);
 
-/* The sheet call: sections 11.2 and 8.2 for every block and territory of a sheet, and section 11.3, the buffer.
+/* The sheet call: sections 11.1.1, 11.2 and 8.2 for every block and territory of a sheet, and section 11.3, the buffer.
 
    sheet: bytes bytes, a line for each TSAV_SHEET_LINE.
    report: room bytes, of any content.
@@ -113,7 +114,7 @@ uint64_t tsav_operational(const uint64_t *volumes, size_t count, const uint64_t 
    Accepted, written holds the report's length, 29 * (5 * n + 3) for n blocks; so many bytes of report, from its start, are
    the report, and those behind them are untouched.
 
-   Refusals, tested in this order: 1, 2; then the first bad line, in it 3, 4, 5, 6, 8, 9, 10, 11; then 12, 13, 14. */
+   Refusals, tested in this order: 1, 2; then the first bad line, in it 3, 4, 5, 6, 8, 9, 10, 11; then 12, 16, 13, 14. */
 uint64_t tsav_sheet(const uint8_t *sheet, size_t bytes, uint8_t *report, size_t room, uint64_t written[1],
                     uint64_t place[2]);
 

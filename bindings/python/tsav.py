@@ -35,8 +35,8 @@ MOST_BLOCKS = 16
 SHEET_LINE = 40
 REPORT_LINE = 29
 
-# 293 lines; five report lines for each block, and three of totals.
-LONGEST_SHEET = 293 * SHEET_LINE
+# 309 lines; five report lines for each block, and three of totals.
+LONGEST_SHEET = 309 * SHEET_LINE
 LONGEST_REPORT = REPORT_LINE * (BLOCK_FIGURES * MOST_BLOCKS + 3)
 
 # The kinds of a place.

@@ -56,8 +56,9 @@ impl Draws {
         numbers
     }
 
-    /// A sheet that is accepted, of these lines.
+    /// A sheet that is accepted, of these lines, among which RSK 1 of a block stands before MOR.
     pub fn sheet(&mut self, lines: &[Line], size: Size) -> Vec<u8> {
+        let mut mortality_lt = 0;
         let line = |&(code, block, class): &Line| {
             let amount = self.amount(size);
             let (first, second) = match (code, class) {
@@ -65,7 +66,13 @@ impl Draws {
                 // The credits are within what there is, which is at least RO.
                 ("GEN", CREDITS) => (self.below(1_000), 0),
                 ("RSK", EXPENSES) | ("OTH" | "GEN", _) => (amount, 0),
+                ("RSK", 1) => {
+                    mortality_lt = self.part(amount);
+                    (amount, mortality_lt)
+                }
                 ("RSK", _) => (amount, self.part(amount)),
+                // The credit is below twice T.
+                ("MOR", _) => (amount, self.part(mortality_lt / 2)),
                 _ => (amount, self.amount(size)),
             };
             sheet_line(code, block, class, first, second)
@@ -77,6 +84,7 @@ impl Draws {
 /// The lines of document 01's whole run: one block, one volume, the first general figure and the scalar.
 pub fn small_lines() -> Vec<Line> {
     let in_run = |&(code, _, class): &Line| match code {
+        "MOR" => false,
         "VOL" => class == 1,
         "GEN" => class == 1 || class == SCALAR,
         _ => true,

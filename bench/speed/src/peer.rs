@@ -1,6 +1,6 @@
-//! The calculator of document 01 as a good programmer writes it with u128: no allocation, every figure worked out once, and
-//! everything tested that document 01 has tested. It is here for its speed; tests/reference, written to be plain, is the
-//! independent calculation.
+//! The calculator of document 01, with request #101 of document 02, as a good programmer writes it with u128: no
+//! allocation, every figure worked out once, and everything tested that the papers have tested. It is here for its speed;
+//! tests/reference, written to be plain, is the independent calculation.
 //!
 //! The root is left to the caller, and there are three: one binary digit a step with a jump on it, as it is mostly written;
 //! the same without a jump and in words, as ours goes; and Newton's.
@@ -118,6 +118,12 @@ fn requirement(u: u128, lt: u128, d: u128) -> u64 {
     (48 * u * v + 6 * lt * v + m).div_ceil(60 * v) as u64
 }
 
+/// The credit of survival and death business: S + T less the root of S² + T² − 1.5 × S × T.
+fn credit([s, t]: [u64; 2], root: Root) -> u64 {
+    let (difference, product) = (u128::from(s.abs_diff(t)), u128::from(s) * u128::from(t));
+    s + t - root(difference * difference + product.div_ceil(2))
+}
+
 /// The factors of the volume classes and of the general figures, in ten-thousandths.
 const VOLUME_FACTORS: [u64; VOLUME_CLASSES] = [250, 250, 250, 175, 40, 15, 10, 10];
 const GENERAL_FACTORS: [u64; GENERAL_NUMBERS] = [575, 450, 250];
@@ -142,7 +148,9 @@ struct Sheet {
     blocks: [[u64; BLOCK_NUMBERS]; MOST_BLOCKS],
     volumes: [u64; MOST_VOLUMES],
     general: [u64; GENERAL_CLASSES],
-    /// A bit for each class: of RSK, then OTH, then VOL, for each block; of GEN in the last.
+    /// S and T of each block.
+    sums: [[u64; 2]; MOST_BLOCKS],
+    /// A bit for each class: of RSK, then OTH, then VOL, then MOR, for each block; of GEN in the last.
     seen: [u32; MOST_BLOCKS + 1],
 }
 
@@ -158,6 +166,7 @@ pub fn sheet(bytes: &[u8], report: &mut [u8], root: Root) -> Result<usize, Refus
         blocks: [[0; BLOCK_NUMBERS]; MOST_BLOCKS],
         volumes: [0; MOST_VOLUMES],
         general: [0; GENERAL_CLASSES],
+        sums: [[0; 2]; MOST_BLOCKS],
         seen: [0; MOST_BLOCKS + 1],
     };
     for (at, line) in bytes.chunks_exact(LINE_BYTES).enumerate() {
@@ -168,10 +177,11 @@ pub fn sheet(bytes: &[u8], report: &mut [u8], root: Root) -> Result<usize, Refus
     sheet.report(report, root)
 }
 
-/// The bits of `seen` that say that a block exists, those of RSK and OTH; where those of OTH and of VOL begin.
+/// The bits of `seen` that say that a block exists, those of RSK and OTH; where those of OTH, VOL and MOR begin.
 const EXISTS: u32 = (1 << VOLUMES_FROM) - 1;
 const OTHERS_FROM: usize = RISKS;
 const VOLUMES_FROM: usize = RISKS + 3;
+const SUMS_FROM: usize = VOLUMES_FROM + VOLUME_CLASSES;
 
 impl Sheet {
     /// A line: the number of the rule that turns it away, if there is one.
@@ -188,6 +198,7 @@ impl Sheet {
         let (blocks, classes, bits_from) = match &line[..3] {
             b"RSK" => (1..=MOST_BLOCKS, RISKS, 0),
             b"OTH" => (1..=MOST_BLOCKS, 3, OTHERS_FROM),
+            b"MOR" => (1..=MOST_BLOCKS, 1, SUMS_FROM),
             b"VOL" => (1..=MOST_BLOCKS, VOLUME_CLASSES, VOLUMES_FROM),
             b"GEN" => (0..=0, GENERAL_CLASSES, 0),
             _ => return Some(4),
@@ -216,6 +227,7 @@ impl Sheet {
         match code {
             b'R' => self.blocks[block][2 * class..2 * class + 2].copy_from_slice(&amounts),
             b'O' => self.blocks[block][2 * RISKS + class] = amounts[0],
+            b'M' => self.sums[block] = amounts,
             b'V' => {
                 let from = TERRITORY_NUMBERS * block + 2 * class;
                 self.volumes[from..from + 2].copy_from_slice(&amounts);
@@ -224,12 +236,28 @@ impl Sheet {
         }
     }
 
+    /// Rule 16: IR(1) and LT(1) of each block that has S and T become those after the credit.
+    fn take_credits(&mut self, root: Root) -> Result<(), Refusal> {
+        for ((numbers, &sums), seen) in self.blocks.iter_mut().zip(&self.sums).zip(self.seen) {
+            if seen & (1 << SUMS_FROM) != 0 {
+                let credit = credit(sums, root);
+                if numbers[1] < credit {
+                    return Err(Refusal::nowhere(16));
+                }
+                numbers[0] -= credit;
+                numbers[1] -= credit;
+            }
+        }
+        Ok(())
+    }
+
     /// Rules 12 to 14, and the report.
-    fn report(&self, report: &mut [u8], root: Root) -> Result<usize, Refusal> {
+    fn report(&mut self, report: &mut [u8], root: Root) -> Result<usize, Refusal> {
         let [_, guarantee, _, scalar, credits] = self.general;
         if scalar == 0 {
             return Err(Refusal::nowhere(12));
         }
+        self.take_credits(root)?;
         let mut rows = [(0, [0; FIGURES]); MOST_BLOCKS];
         let (mut blocks, mut sum) = (0, 0);
         for (number, (numbers, seen)) in self.blocks.iter().zip(self.seen).enumerate() {

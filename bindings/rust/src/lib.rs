@@ -35,8 +35,8 @@ pub const MOST_BLOCKS: usize = 16;
 pub const SHEET_LINE: usize = 40;
 pub const REPORT_LINE: usize = 29;
 
-/// 293 lines.
-pub const LONGEST_SHEET: usize = 293 * SHEET_LINE;
+/// 309 lines.
+pub const LONGEST_SHEET: usize = 309 * SHEET_LINE;
 
 /// With this room a sheet is never refused by 14.
 pub const LONGEST_REPORT: usize = report_length(MOST_BLOCKS);
@@ -47,7 +47,7 @@ pub const fn report_length(blocks: usize) -> usize {
 }
 
 /// The refusals are numbered from 1 to this.
-pub const LAST_REFUSAL: usize = 15;
+pub const LAST_REFUSAL: usize = 16;
 
 /// A block's figures: I and D in half cents, U, LT and K in cents.
 #[derive(Clone, Copy, Debug, PartialEq, Eq)]

@@ -15,49 +15,52 @@ use Rattle.guideline.proofs.Totals.{totals-fit}
 use Rattle.guideline.proofs.Demand.{buffer-demand}
 use Rattle.report_line.specs.Line.{numberAt}
 use Rattle.sheet_line.specs.declared.Entry.{Entry}
-use Rattle.ledger.specs.Entries.{exists, blockOf}
+use Rattle.ledger.specs.Entries.{exists}
 use Rattle.report.specs.Rows.{BLK, TOT}
 use Rattle.report.proofs.Reread.{buffer-read, figure-read}
-use Rattle.judgement.specs.Sheet.{sheetOf}
+use Rattle.judgement.specs.Sheet.{afterCredit, sheetOf}
 use Rattle.judgement.specs.Judgement.{judgement}
 use Rattle.judgement.specs.Judgement.Judgement.{sound}
-use Rattle.judgement.proofs.Accepted.{block-accepted, exists-within, sound-passed, sound-accepted}
+use Rattle.judgement.proofs.Accepted.{credit-accurate, block-accepted, credit-taken, exists-within, sound-passed, sound-accepted}
 use Rattle.aggregate.specs.Call.{Done, blockRowsOf, reportOf, sheetCall}
 use Rattle.aggregate.specs.Demand.{ReportedBlock, ReportDemand, Demand3}
 use Rattle.aggregate.proofs.Rules.{by-answer}
 
 module _ (s : List ℕ) (es : List Entry) (j : judgement s ≡ sound es) where
   -- five figures that fit their columns
-  five : (b : ℕ) → 1 ≤ b → b ≤ blocks → exists es b ≡ true → (length (figuresOf (blockOf es b)) ≡ blockFigures) × Each FitsColumns (figuresOf (blockOf es b))
-  five b l h e = (figures-long (blockOf es b), figures-fit (blockOf es b) (block-accepted es (sound-passed s es j .lines) b))
+  five : (b : ℕ) → 1 ≤ b → b ≤ blocks → exists es b ≡ true → (length (figuresOf (afterCredit es b)) ≡ blockFigures) × Each FitsColumns (figuresOf (afterCredit es b))
+  five b l h e = (figures-long (afterCredit es b), figures-fit (afterCredit es b) (block-accepted es (sound-passed s es j .lines) (sound-passed s es j .covered) b))
 
   -- the report's bytes, and whatever stands behind them
   module _ (rest : List ℕ) where
     reads-total : numberAt (reportOf es ++ rest) TOT 0 3 ≡ Value (buffer (sheetOf es))
     unfolding blockRowsOf
-    reads-total = buffer-read (exists es) (λ b. figuresOf (blockOf es b)) _ _ _ rest five (totals-fit (sheetOf es) (sound-accepted s es j))
+    reads-total = buffer-read (exists es) (λ b. figuresOf (afterCredit es b)) _ _ _ rest five (totals-fit (sheetOf es) (sound-accepted s es j))
 
-    reads-figure : (b i : ℕ) → exists es b ≡ true → 1 ≤ i → i ≤ blockFigures → numberAt (reportOf es ++ rest) BLK b i ≡ Value (getD (figuresOf (blockOf es b)) (i - 1) 0)
+    reads-figure : (b i : ℕ) → exists es b ≡ true → 1 ≤ i → i ≤ blockFigures → numberAt (reportOf es ++ rest) BLK b i ≡ Value (getD (figuresOf (afterCredit es b)) (i - 1) 0)
     unfolding blockRowsOf
     reads-figure b i e l h =
         let w = exists-within es (sound-passed s es j .lines) b e in
-        figure-read (exists es) (λ b. figuresOf (blockOf es b)) _ _ _ rest five (totals-fit (sheetOf es) (sound-accepted s es j)) b i e (w .0) (w .1) l h
+        figure-read (exists es) (λ b. figuresOf (afterCredit es b)) _ _ _ rest five (totals-fit (sheetOf es) (sound-accepted s es j)) b i e (w .0) (w .1) l h
 
-    reported-block : (b : ℕ) → exists es b ≡ true → ReportedBlock (reportOf es ++ rest) b
+    reported-block : (b : ℕ) → exists es b ≡ true → ReportedBlock es (reportOf es ++ rest) b
     unfolding figuresOf
     reported-block b e =
-        let v = block-accepted es (sound-passed s es j .lines) b in
+        let v = block-accepted es (sound-passed s es j .lines) (sound-passed s es j .covered) b in
+        let c = credit-taken es (sound-passed s es j .lines) (sound-passed s es j .covered) b in
         record {
-          d = D (blockOf es b);
-          u = U (blockOf es b);
-          lt = LT (blockOf es b);
-          k = K (blockOf es b);
+          d = D (afterCredit es b);
+          u = U (afterCredit es b);
+          lt = LT (afterCredit es b);
+          k = K (afterCredit es b);
           reads-d = reads-figure b 2 e (omega arith) (omega arith);
           reads-u = reads-figure b 3 e (omega arith) (omega arith);
           reads-lt = reads-figure b 4 e (omega arith) (omega arith);
           reads-k = reads-figure b 5 e (omega arith) (omega arith);
-          twice = k-twice (blockOf es b) v;
-          within = k-high (blockOf es b) v;
+          twice = k-twice (afterCredit es b) v;
+          within = k-high (afterCredit es b) v;
+          credited-u = c .0;
+          credited-lt = c .1;
         }
 
     pub report-demand : ReportDemand es (reportOf es ++ rest)
@@ -67,6 +70,7 @@ module _ (s : List ℕ) (es : List Entry) (j : judgement s ≡ sound es) where
           reads-buffer = reads-total;
           accurate = buffer-demand (sheetOf es) (sound-accepted s es j);
           blocks = reported-block;
+          credits = credit-accurate es (sound-passed s es j .lines);
         }
 
 -- ---- whatever the judgement

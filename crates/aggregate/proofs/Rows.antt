@@ -16,10 +16,10 @@ use Rattle.guideline.specs.Buffer.{count}
 use Rattle.report_line.specs.Line.{reportLineBytes, Row, printRows}
 use Rattle.report_line.proofs.ReadBack.{rows-append}
 use Rattle.sheet_line.specs.declared.Entry.{Entry}
-use Rattle.ledger.specs.Entries.{exists, blockOf}
+use Rattle.ledger.specs.Entries.{exists}
 use Rattle.report.specs.Rows.{BLK, TOT, itemsFrom, blockRows, tableRows, totals, reportLength}
 use Rattle.report.proofs.Items.{items-long}
-use Rattle.judgement.specs.Sheet.{blocksTo, sheetOf, rowsTo}
+use Rattle.judgement.specs.Sheet.{afterCredit, blocksTo, sheetOf, rowsTo}
 use Rattle.aggregate.specs.Call.{blockRowsOf, reportOf}
 
 -- only the first rows count
@@ -89,7 +89,7 @@ module _ (exists : ℕ → Bool) (x : ℕ → List ℕ) (f : ℕ → List ℕ) (
 pub table-lines : (es : List Entry) (t : List ℕ) (n : ℕ) → n ≡ count (sheetOf es) → take (rowNumbers * n) t ≡ rowsTo es blocks → tableRows t n ≡ blockRowsOf es
 unfolding sheetOf blocksTo rowsTo blockRowsOf
 table-lines es t n e h =
-    let g = gathered (exists es) (blockOf es) (λ b. figuresOf (blockOf es b)) (λ b. figures-long (blockOf es b)) blocks in
+    let g = gathered (exists es) (afterCredit es) (λ b. figuresOf (afterCredit es b)) (λ b. figures-long (afterCredit es b)) blocks in
     let l : rowNumbers * n ≤ length (take (rowNumbers * n) t) = omega (arith, ap length h, g .long, e) in
     ap (λ (u : List ℕ). tableRows u n) (sym (take-append-drop (rowNumbers * n) t))
     ∙ table-append (take (rowNumbers * n) t) (drop (rowNumbers * n) t) n l
@@ -97,4 +97,4 @@ table-lines es t n e h =
 
 pub report-long : (es : List Entry) → length (reportOf es) ≡ reportLength (count (sheetOf es))
 unfolding sheetOf blocksTo blockRowsOf
-report-long es = closed-long (exists es) (blockOf es) (λ b. figuresOf (blockOf es b)) (λ b. figures-long (blockOf es b)) _ refl
+report-long es = closed-long (exists es) (afterCredit es) (λ b. figuresOf (afterCredit es b)) (λ b. figures-long (afterCredit es b)) _ refl

@@ -18,9 +18,9 @@ use Rattle.guideline.specs.Operational.{RO}
 use Rattle.guideline.specs.Buffer.{count, sumK, buffer}
 use Rattle.report_line.specs.Line.{Row, printRows}
 use Rattle.sheet_line.specs.declared.Entry.{Entry}
-use Rattle.ledger.specs.Entries.{exists, blockOf}
+use Rattle.ledger.specs.Entries.{exists}
 use Rattle.report.specs.Rows.{blockRows, totalRows, reportLength, refusalLine}
-use Rattle.judgement.specs.Sheet.{sheetOf}
+use Rattle.judgement.specs.Sheet.{afterCredit, sheetOf}
 use Rattle.judgement.specs.Judgement.{Judgement, judgement}
 use Rattle.judgement.specs.Judgement.Judgement.{turnedAway, sound}
 use Rattle.aggregate.specs.declared.SheetAnswer.{SheetAnswer}
@@ -38,7 +38,7 @@ pub record Done : Type 0 where
 
 -- the lines of the blocks that exist, ascending
 unfoldable pub blockRowsOf : List Entry → List Row
-blockRowsOf es = ascending (exists es) (λ b. blockRows b (figuresOf (blockOf es b))) blocks
+blockRowsOf es = ascending (exists es) (λ b. blockRows b (figuresOf (afterCredit es b))) blocks
 
 -- the lines that close the report
 abbrev pub totalRowsOf : List Entry → List Row

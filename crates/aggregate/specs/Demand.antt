@@ -9,18 +9,21 @@ use mathlib.Core.List.{List}
 use Prim.Native.Nat.{ℕ, _+_, _*_, _≤_}
 use Rattle.refusal.specs.Outcome.{Outcome}
 use Rattle.refusal.specs.Outcome.Outcome.{accepted, refused}
+use Rattle.guideline.specs.Block.{U, LT}
 use Rattle.guideline.specs.Demand.{BufferDemand}
 use Rattle.field.specs.declared.Field.the-variants.{Value}
 use Rattle.report_line.specs.Line.{numberAt}
 use Rattle.sheet_line.specs.declared.Entry.{Entry}
-use Rattle.ledger.specs.Entries.{exists}
+use Rattle.ledger.specs.Entries.{exists, blockOf, survivalSum, deathSum}
 use Rattle.report.specs.Rows.{BLK, TOT}
-use Rattle.judgement.specs.Sheet.{sheetOf}
+use Rattle.mortality.specs.Credit.{CreditDemand}
+use Rattle.judgement.specs.Sheet.{creditOf, sheetOf}
 use Rattle.judgement.specs.Judgement.{judgement}
 use Rattle.judgement.specs.Judgement.Judgement.{sound}
 
--- 'For every block 2 × K is at least LT + D, and K is at most U', of the numbers read back off the report
-pub record ReportedBlock (report : List ℕ) (b : ℕ) : Type 0 where
+-- 'For every block 2 × K is at least LT + D, and K is at most U', of the numbers read back off the report; and the credit is what U and LT are
+-- below those of the lines (document 02, #101)
+pub record ReportedBlock (es : List Entry) (report : List ℕ) (b : ℕ) : Type 0 where
   pub d : ℕ
   pub u : ℕ
   pub lt : ℕ
@@ -31,13 +34,17 @@ pub record ReportedBlock (report : List ℕ) (b : ℕ) : Type 0 where
   pub reads-k : numberAt report BLK b 5 ≡ Value k
   pub twice : lt + d ≤ 2 * k
   pub within : k ≤ u
+  pub credited-u : u + creditOf es b ≡ U (blockOf es b)
+  pub credited-lt : lt + creditOf es b ≡ LT (blockOf es b)
 
--- the reported buffer, read back off the report, against the exact one; and every block that exists
+-- the reported buffer, read back off the report, against the exact one, IR(1) and LT(1) of the sheet taken after the reported credits; every
+-- block that exists; and of every block the reported credit against the exact one (document 02, #101)
 pub record ReportDemand (es : List Entry) (report : List ℕ) : Type 0 where
   pub buffer : ℕ
   pub reads-buffer : numberAt report TOT 0 3 ≡ Value buffer
   pub accurate : BufferDemand (sheetOf es) buffer
-  pub blocks : (b : ℕ) → exists es b ≡ true → ReportedBlock report b
+  pub blocks : (b : ℕ) → exists es b ≡ true → ReportedBlock es report b
+  pub credits : (b : ℕ) → CreditDemand (survivalSum es b) (deathSum es b) (creditOf es b)
 
 -- demand 3 for a sheet, the call's outcome and the report afterwards: a sheet that is accepted is judged to be sound, and its report meets it
 abbrev pub Demand3 : List ℕ → Outcome → List ℕ → Type 0

@@ -13,6 +13,7 @@ use Rattle.guideline.specs.Sizes.{risks}
 use Rattle.guideline.specs.Factors.{factors, factor, soFar}
 use Rattle.guideline.specs.Block.{A, U, LT, Vh, y, ys, Q4, largestOf, largest, root, I, a, D, requirement, K, figuresOf}
 use Rattle.guideline.specs.Operational.{total, volume, growth, operationalNumerator, RO}
+use Rattle.mortality.specs.Credit.{twiceRadicand, aggregated, credit}
 use Rattle.block.specs.Call.{firstLtAbove, rule9, rule8, blockCall}
 use Rattle.operational.specs.Call.{rule7, operationalCall}
 use Rattle.calibration.specs.Points.{nothing, gives, allGiven, points}
@@ -54,7 +55,7 @@ pub computed : Table
 unfolding
     pick leastFrom firstFrom firstAbove factors factor soFar A U LT Vh y ys Q4 largestOf largest root I a D requirement K figuresOf
     total volume growth operationalNumerator RO firstLtAbove rule9 rule8 blockCall rule7 operationalCall
-    gives allGiven pcInRisk netted eachRounded
+    twiceRadicand aggregated credit gives allGiven pcInRisk netted eachRounded
 computed =
     record {
       rows = tt;

@@ -1,5 +1,6 @@
--- Document 01's calibration points: the rows marked †, one table. Cents; I and D in half cents. A row has the outcome that the
--- call's contract equates its answer with, and the figures that the paper's row gives, no others.
+-- Document 01's calibration points: the rows marked †, one table, with document 02's worked figures. Cents; I and D in half cents. A row has the outcome that the
+-- call's contract equates its answer with, or where no call gives the figures the definitions' values, and the figures that the paper's row
+-- gives, no others.
 -- Assumes nothing.
 use mathlib.Core.Bool.{Bool, true, false, _&&_}
 use mathlib.Core.List.{List, [], _∷_}
@@ -8,6 +9,7 @@ use lib.Dec.{eqb}
 use lib.ListN.{getD}
 use Rattle.refusal.specs.Outcome.{Outcome}
 use Rattle.refusal.specs.Outcome.Outcome.{accepted, refused}
+use Rattle.mortality.specs.Credit.{aggregated, credit}
 use Rattle.block.specs.Call.{blockCall}
 use Rattle.operational.specs.Call.{operationalCall}
 
@@ -39,6 +41,14 @@ K n = record { place = 4; figure = n }
 -- the operational call's one value
 abbrev RO : ℕ → Figure
 RO n = record { place = 0; figure = n }
+
+-- the aggregate of section 11.1.1, the first of two values
+abbrev aggregate : ℕ → Figure
+aggregate n = record { place = 0; figure = n }
+
+-- the credit, the second
+abbrev mortalityCredit : ℕ → Figure
+mortalityCredit n = record { place = 1; figure = n }
 
 -- a row: the outcome of the call at the row's input, and the figures that the row prints
 pub record Point : Type 0 where
@@ -101,4 +111,6 @@ points =
     ∷ record { outcome = operationalCall (first 22500 15000) nothing; figures = RO 675 ∷ [] }
     -- VOL class 7: 1, 1
     ∷ record { outcome = operationalCall (seventh 1 1) nothing; figures = RO 1 ∷ [] }
+    -- document 02, #101: S and T both 100
+    ∷ record { outcome = accepted (aggregated 100 100 ∷ credit 100 100 ∷ []); figures = aggregate 71 ∷ mortalityCredit 129 ∷ [] }
     ∷ []

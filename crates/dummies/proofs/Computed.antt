@@ -1,6 +1,7 @@
 -- The table of small sheets holds, computed: the one place where the definitions of the sheet call are run. Assumes nothing.
 use mathlib.Core.Path.{_≡_, refl}
 use Rattle.search.specs.Pick.{pick}
+use Rattle.search.specs.First.{anyTo}
 use Rattle.search.specs.Least.{leastFrom}
 use Rattle.search.specs.Ascending.{ascending}
 use Rattle.field.specs.Field.{digits, field, digitOrSpace, leadingDigits, decimal}
@@ -8,6 +9,7 @@ use Rattle.guideline.specs.Factors.{factors, factor, soFar}
 use Rattle.guideline.specs.Block.{A, U, LT, Vh, y, ys, Q4, largestOf, largest, root, I, a, D, requirement, K, figuresOf}
 use Rattle.guideline.specs.Operational.{total, volume, growth, operationalNumerator, RO}
 use Rattle.guideline.specs.Buffer.{sumK, available, bracket, buffer}
+use Rattle.mortality.specs.Credit.{twiceRadicand, aggregated, credit, lowered}
 use Rattle.report_line.specs.Line.{key, reportLine, printRows, equalBytes, numberIn, numberAt}
 use Rattle.sheet_line.specs.Codes.{isCode, codeAmong}
 use Rattle.sheet_line.specs.Line.{spaced, layoutOf, lettered}
@@ -15,8 +17,8 @@ use Rattle.sheet_line.specs.Rules as line
 use Rattle.ledger.specs.Entries.{hasKey, lookup, exists, pairs, blockBy, volumesBy}
 use Rattle.ledger.specs.Reading.{onLine, readFrom}
 use Rattle.report.specs.Rows.{itemsFrom}
-use Rattle.judgement.specs.Sheet.{blocksTo, sheetOf}
-use Rattle.judgement.specs.Judgement.{rule13, rule12, ruleLines, rule2, judgement}
+use Rattle.judgement.specs.Sheet.{creditOf, afterCredit, blocksTo, sheetOf}
+use Rattle.judgement.specs.Judgement.{creditAbove, rule13, rule16, rule12, ruleLines, rule2, judgement}
 use Rattle.aggregate.specs.Call.{blockRowsOf, rule14, afterJudgement, sheetCall}
 use Rattle.dummies.specs.Dummies.{areBytes}
 use Rattle.dummies.specs.Answers.{answers, given, claimed}
@@ -27,5 +29,5 @@ unfolding
     requirement K figuresOf total volume growth operationalNumerator RO sumK available bracket buffer key reportLine
     printRows equalBytes numberIn numberAt isCode codeAmong spaced layoutOf lettered line.outside line.secondBarred line.trendAbove line.scalarOutside
     line.rule10 line.rule9 line.rule8 line.rule6 line.rule5 line.parseLine hasKey lookup exists pairs blockBy volumesBy onLine readFrom itemsFrom
-    blocksTo sheetOf rule13 rule12 ruleLines rule2 judgement blockRowsOf rule14 afterJudgement sheetCall areBytes
+    twiceRadicand aggregated credit lowered creditOf afterCredit blocksTo sheetOf anyTo creditAbove rule13 rule16 rule12 ruleLines rule2 judgement blockRowsOf rule14 afterJudgement sheetCall areBytes
 computed = refl

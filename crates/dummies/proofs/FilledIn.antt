@@ -25,10 +25,10 @@ use Rattle.guideline.proofs.Totals.{totals-fit}
 use Rattle.report_line.specs.Line.{Row, printRows, equalBytes, numberIn, numberAt}
 use Rattle.report_line.proofs.ReadBack.{rowIs, numberAmong, rows-read}
 use Rattle.sheet_line.specs.declared.Entry.{Entry}
-use Rattle.ledger.specs.Entries.{exists, blockOf}
+use Rattle.ledger.specs.Entries.{exists}
 use Rattle.report.specs.Rows.{BLK, TOT, row, itemsFrom, blockRows, reportLength}
 use Rattle.report.proofs.Reread.{all-printable, buffer-read}
-use Rattle.judgement.specs.Sheet.{blocksTo, sheetOf}
+use Rattle.judgement.specs.Sheet.{afterCredit, blocksTo, sheetOf}
 use Rattle.aggregate.specs.Call.{Done, untouched}
 use Rattle.aggregate.proofs.Rows.{closed-long}
 use Rattle.dummies.specs.Dummies.{claimedReport, firstForAll, filledIn}
@@ -108,7 +108,7 @@ module _ (es : List Entry) (v : AcceptedSheet (sheetOf es)) (h : sheetOf es .cre
 
   report-long : length (printRows (filledRows es)) ≡ reportLength (count (sheetOf es))
   unfolding sheetOf blocksTo
-  report-long = closed-long (exists es) (blockOf es) (λ b. firstFigures es) (λ b. five .0) (filledTotals es) refl
+  report-long = closed-long (exists es) (afterCredit es) (λ b. firstFigures es) (λ b. five .0) (filledTotals es) refl
 
   -- every line of a K has the first block's
   ks : (b : ℕ) → Each (OfK (K (getD (sheetOf es .blocks) 0 [])) b) (filledRows es)

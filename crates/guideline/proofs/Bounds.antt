@@ -11,7 +11,7 @@ use Rattle.guideline.specs.Block.{radicand, M, kNumerator}
 cross : {a b c d : ℕ} → a ≤ b → c ≤ d → a * d + b * c ≤ b * d + a * c
 cross h k = rw (← le-dest h .1, ← le-dest k .1) (omega arith)
 
-twice : (a b : ℕ) → 2 * (a * b) ≤ a * a + b * b
+pub twice : (a b : ℕ) → 2 * (a * b) ≤ a * a + b * b
 twice a b = elim (decLe a b) [ yes h ↦ omega (arith, cross h h) | no h ↦ let k : b ≤ a = omega arith in omega (arith, cross k k) ]
 
 -- ---- D: the root of a² + a × i + i²

@@ -174,6 +174,19 @@ pub ≤ᶠ-<ᶠ-trans : (x y z : Fraction) → x ≤ᶠ y → y <ᶠ z → x <�
 ≤ᶠ-<ᶠ-trans x y z h k =
     lt-of-mul-lt-mul-right (y .denominator) (omega (arith, mul-le-mul-right (z .denominator) h, mul-lt-mul-of-pos-right k (x .positive)))
 
+-- of two differences over m and over n the larger has the larger square
+squares :
+    (p q s r m n : ℕ) → q ≤ p → r ≤ s → p * n + r * m ≤ s * m + q * n →
+    (p * p + q * q) * (n * n) + 2 * (s * r) * (m * m) ≤ (s * s + r * r) * (m * m) + 2 * (p * q) * (n * n)
+squares p q s r m n u v w = go (p - q) (s - r) (omega arith) (omega arith)
+  where
+    go :
+        (x y : ℕ) → p ≡ q + x → s ≡ r + y →
+        (p * p + q * q) * (n * n) + 2 * (s * r) * (m * m) ≤ (s * s + r * r) * (m * m) + 2 * (p * q) * (n * n)
+    go x y e f =
+        let t : x * n ≤ y * m = omega (arith, ap (λ (z : ℕ). z * n) e, ap (λ (z : ℕ). z * m) f) in
+        rw (e, f) (omega (arith, mul-le-mul t t))
+
 -- from c on, (i − c)² never falls as i rises
 pub square-rises : (c : ℕ) (i j : Fraction) → whole c 0 ≤ᶠ i → i ≤ᶠ j → squareLess i c ≤ᶠ squareLess j c
 square-rises c i j h k =
@@ -183,15 +196,13 @@ square-rises c i j h k =
     let r = j .numerator⁻ + c * n in
     let l = ≤ᶠ-trans (whole c 0) i j h k in
     squares (i .numerator⁺) q (j .numerator⁺) r m n (omega arith) (omega arith) (omega arith)
-  where
-    squares :
-        (p q s r m n : ℕ) → q ≤ p → r ≤ s → p * n + r * m ≤ s * m + q * n →
-        (p * p + q * q) * (n * n) + 2 * (s * r) * (m * m) ≤ (s * s + r * r) * (m * m) + 2 * (p * q) * (n * n)
-    squares p q s r m n u v w = go (p - q) (s - r) (omega arith) (omega arith)
-      where
-        go :
-            (x y : ℕ) → p ≡ q + x → s ≡ r + y →
-            (p * p + q * q) * (n * n) + 2 * (s * r) * (m * m) ≤ (s * s + r * r) * (m * m) + 2 * (p * q) * (n * n)
-        go x y e f =
-            let t : x * n ≤ y * m = omega (arith, ap (λ (z : ℕ). z * n) e, ap (λ (z : ℕ). z * m) f) in
-            rw (e, f) (omega (arith, mul-le-mul t t))
+
+-- up to c it never rises
+pub square-falls : (c : ℕ) (i j : Fraction) → i ≤ᶠ j → j ≤ᶠ whole c 0 → squareLess j c ≤ᶠ squareLess i c
+square-falls c i j h k =
+    let m = i .denominator in
+    let n = j .denominator in
+    let q = i .numerator⁻ + c * m in
+    let r = j .numerator⁻ + c * n in
+    let l = ≤ᶠ-trans i j (whole c 0) h k in
+    omega (arith, squares r (j .numerator⁺) q (i .numerator⁺) n m (omega arith) (omega arith) (omega arith))

@@ -2,9 +2,13 @@
 -- once. Assumes nothing.
 use Prim.Native.Nat.{ℕ, _+_, _*_, _^_, _<_}
 
+-- blocks without participation: 1 to this one. They alone have MOR lines
+abbrev pub nonParticipating : ℕ
+nonParticipating = 16
+
 -- blocks 1 to this one
 abbrev pub blocks : ℕ
-blocks = 16
+blocks = nonParticipating
 
 -- the insurance risks of section 11.2.1
 abbrev pub risks : ℕ

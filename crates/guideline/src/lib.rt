@@ -6,8 +6,11 @@ ghost use Rattle.guideline.specs.Sizes.{products, volumeClasses};
 ghost use Rattle.guideline.specs.Factors.{factor};
 ghost use Rattle.guideline.specs.Operational.{volumeFactors};
 
-// How many there are of each thing: specs/Sizes has the same names. Blocks 1 to this one.
-pub const BLOCKS: usize = 16;
+// How many there are of each thing: specs/Sizes has the same names. Blocks without participation: 1 to this one. They alone have MOR lines.
+pub const NON_PARTICIPATING: usize = 16;
+
+// Blocks 1 to this one.
+pub const BLOCKS: usize = NON_PARTICIPATING;
 
 // The insurance risks of section 11.2.1.
 pub const RISKS: usize = 7;

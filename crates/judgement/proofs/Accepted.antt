@@ -3,50 +3,71 @@
 use mathlib.Core.Path.{_≡_, refl, subst}
 use mathlib.Core.Bool.{true, false}
 use mathlib.Core.List.{List, [], _∷_}
-use Prim.Native.Nat.{ℕ, _≤_}
+use Prim.Native.Nat.{ℕ, _+_, _≤_}
+use native.Mathlib.Decide.{decLe}
 use native.Mathlib.Omega.{arith}
 use lib.Dec.{eqb, ltb}
 use lib.ListN.{length}
 use borrow.Author.Tests.{ltb-true, ltb-false, eqb-true}
 use Rattle.search.specs.Each.{Each}
+use Rattle.search.specs.First.{anyTo}
 use Rattle.search.proofs.Picks.{by-test, never}
 use Rattle.search.proofs.Ascents.{few, each-ascending}
+use Rattle.search.proofs.Anys.{none-to}
 use Rattle.refusal.specs.Outcome.{printed, Judging, judging}
 use Rattle.refusal.specs.declared.Place.{Place}
 use Rattle.refusal.specs.declared.Place.the-variants.{Line, Nowhere}
-use Rattle.guideline.specs.Sizes.{blocks, largestScalar}
-use Rattle.guideline.specs.Block.{AcceptedBlock}
+use Rattle.guideline.specs.Sizes.{nonParticipating, blocks, largestScalar}
+use Rattle.guideline.specs.Block.{lt, U, LT, AcceptedBlock}
 use Rattle.guideline.specs.Operational.{OperationalAmounts}
 use Rattle.guideline.specs.Buffer.{available, AcceptedSheet, mostAvailable}
 use Rattle.guideline.proofs.Figures.{accepted-of}
 use Rattle.guideline.proofs.Totals.{available-fits}
 use Rattle.sheet_line.specs.Codes.{Key, scalarClass}
 use Rattle.sheet_line.specs.declared.Code.{Code}
-use Rattle.sheet_line.specs.declared.Code.the-variants.{Rsk, Oth, Vol, Gen}
+use Rattle.sheet_line.specs.declared.Code.the-variants.{Rsk, Oth, Mor, Vol, Gen}
 use Rattle.sheet_line.specs.declared.Entry.{Entry}
 use Rattle.sheet_line.specs.Rules.{AcceptedLine}
-use Rattle.ledger.specs.Entries.{ofBlock, exists, hasLine, DistinctKeys, blockOf}
+use Rattle.ledger.specs.Entries.{ofBlock, exists, hasLine, DistinctKeys, blockOf, survivalSum, deathSum}
 use Rattle.ledger.specs.Reading.{Reading, reading}
 use Rattle.ledger.specs.Reading.Reading.{complete, stopped}
-use Rattle.ledger.proofs.Bounds.{block-ruled, length-volumes, volumes-most, general-most, scalar-within}
+use Rattle.ledger.proofs.Bounds.{first-most, second-most, none-outside, block-ruled, length-volumes, volumes-most, general-most, scalar-within}
 use Rattle.ledger.specs.Tables.{mostLines, longestSheet}
 use Rattle.ledger.proofs.Lines.{all-read, reading-distinct, reading-stopped}
-use Rattle.judgement.specs.Sheet.{blocksTo, sheetOf}
-use Rattle.judgement.specs.Judgement.{Judgement, rule13, rule12, ruleLines, rule2, judgement}
+use Rattle.mortality.specs.Credit.{CreditDemand}
+use Rattle.mortality.proofs.Credits.{credit-demand, none-with-0}
+use Rattle.mortality.proofs.Accepted.{lowered-accepted, lowered-sums}
+use Rattle.judgement.specs.Sheet.{creditOf, afterCredit, blocksTo, sheetOf}
+use Rattle.judgement.specs.Judgement.{Judgement, rule13, creditAbove, rule16, rule12, ruleLines, rule2, judgement}
 use Rattle.judgement.specs.Judgement.Judgement.{turnedAway, sound}
+use Rattle.judgement.specs.Steps.{Covered}
 
 -- of n blocks at most n exist
 pub few-blocks : (es : List Entry) (n : ℕ) → length (blocksTo es n) ≤ n
 unfolding blocksTo
-few-blocks es n = few (exists es) (blockOf es) n
+few-blocks es n = few (exists es) (afterCredit es) n
 
 module _ (es : List Entry) (all : Each AcceptedLine es) where
-  pub block-accepted : (b : ℕ) → AcceptedBlock (blockOf es b)
-  block-accepted b = let s = block-ruled es all b in accepted-of (blockOf es b) (s .amounts) (s .last) (s .trend)
+  -- before its credit
+  pub entered-accepted : (b : ℕ) → AcceptedBlock (blockOf es b)
+  entered-accepted b = let s = block-ruled es all b in accepted-of (blockOf es b) (s .amounts) (s .last) (s .trend)
 
-  pub blocks-accepted : (n : ℕ) → Each AcceptedBlock (blocksTo es n)
-  unfolding blocksTo
-  blocks-accepted n = each-ascending (exists es) (λ b. blockOf es b ∷ []) AcceptedBlock n (λ b l h t. (block-accepted b, tt))
+  pub credit-accurate : (b : ℕ) → CreditDemand (survivalSum es b) (deathSum es b) (creditOf es b)
+  unfolding creditOf
+  credit-accurate b = credit-demand _ _ (first-most es all Mor b 1) (second-most es all Mor b 1)
+
+  -- what rule 16 tests is all: other blocks have no MOR line and no credit
+  pub all-covered : anyTo (creditAbove es) nonParticipating ≡ false → Covered es
+  unfolding creditAbove creditOf
+  all-covered e b = go (decLe 1 b) (decLe b nonParticipating)
+    where
+      none : (Key Mor b 1 → ⊥) → creditOf es b ≤ lt (blockOf es b) 1
+      none n = let z = none-outside es all Mor b 1 n in rw (z .0, z .1, none-with-0 0 (omega arith)) (omega arith)
+
+      go : Dec (1 ≤ b) → Dec (b ≤ nonParticipating) → creditOf es b ≤ lt (blockOf es b) 1
+      go (yes l) (yes h) = ltb-false _ _ (none-to (creditAbove es) nonParticipating e b l h)
+      go (yes l) (no h) = none (λ v. omega (arith, v .high))
+      go (no l) h = none (λ v. omega (arith, v .low))
 
   pub amounts-within : OperationalAmounts (sheetOf es .volumes) (sheetOf es .general)
   unfolding sheetOf
@@ -59,19 +80,36 @@ module _ (es : List Entry) (all : Each AcceptedLine es) where
         ceded = general-most es all 3;
       }
 
-  pub available-small : available (sheetOf es) ≤ mostAvailable
-  unfolding sheetOf
-  available-small = available-fits (sheetOf es) (blocks-accepted blocks) (few-blocks es blocks) amounts-within
-
   pub scalar-ranged : hasLine es Gen 0 scalarClass ≡ true → (1 ≤ sheetOf es .g) × (sheetOf es .g ≤ largestScalar)
   unfolding sheetOf
   scalar-ranged h = scalar-within es all (ltb-true _ _ h)
+
+-- what holds once no credit is above its block's LT(1)
+module _ (es : List Entry) (all : Each AcceptedLine es) (covered : Covered es) where
+  pub block-accepted : (b : ℕ) → AcceptedBlock (afterCredit es b)
+  unfolding afterCredit
+  block-accepted b =
+      lowered-accepted (creditOf es b) (blockOf es b) (omega (arith, block-ruled es all b .long)) (covered b) (entered-accepted es all b)
+
+  -- what the report shows of a block's U and LT is less than the lines say by the credit
+  pub credit-taken : (b : ℕ) → (U (afterCredit es b) + creditOf es b ≡ U (blockOf es b)) × (LT (afterCredit es b) + creditOf es b ≡ LT (blockOf es b))
+  unfolding afterCredit
+  credit-taken b = lowered-sums (creditOf es b) (blockOf es b) (omega (arith, block-ruled es all b .long)) (covered b) (entered-accepted es all b)
+
+  pub blocks-accepted : (n : ℕ) → Each AcceptedBlock (blocksTo es n)
+  unfolding blocksTo
+  blocks-accepted n = each-ascending (exists es) (λ b. afterCredit es b ∷ []) AcceptedBlock n (λ b l h t. (block-accepted b, tt))
+
+  pub available-small : available (sheetOf es) ≤ mostAvailable
+  unfolding sheetOf
+  available-small = available-fits (sheetOf es) (blocks-accepted blocks) (few-blocks es blocks) (amounts-within es all)
 
 -- ---- a block that exists is one that there can be
 
 block-within : (k : Code) (b c : ℕ) → ofBlock k ≡ true → Key k b c → (1 ≤ b) × (b ≤ blocks)
 block-within Rsk b c e v = (v .low, v .high)
 block-within Oth b c e v = (v .low, v .high)
+block-within Mor b c e v = never (cc)
 block-within Vol b c e v = never (cc)
 block-within Gen b c e v = never (cc)
 
@@ -94,6 +132,7 @@ pub record Passed (s : List ℕ) (es : List Entry) : Type 0 where
   pub read : reading s ≡ complete es
   pub lines : Each AcceptedLine es
   pub scalar : hasLine es Gen 0 scalarClass ≡ true
+  pub covered : Covered es
   pub credits : sheetOf es .credits ≤ available (sheetOf es)
 
 module _ (s : List ℕ) (P : Judgement → Type 0) (refused : (n : ℕ) (p : Place) → Judging n → printed p ≤ mostLines → P (turnedAway n p))
@@ -103,10 +142,13 @@ module _ (s : List ℕ) (P : Judgement → Type 0) (refused : (n : ℕ) (p : Pla
   nowhere n z w h = refused n Nowhere (judging n z w h) (omega arith)
 
   after-12 : (es : List Entry) → reading s ≡ complete es → Each AcceptedLine es → P (rule12 es)
-  unfolding rule12 rule13
+  unfolding rule12 rule16 rule13
   after-12 es r all =
       by-test P _ _ _
-      (λ t. by-test P _ _ _ (λ u. nowhere 13 refl refl refl) (λ u. passed es (record { read = r; lines = all; scalar = t; credits = ltb-false _ _ u })))
+      (λ t.
+      by-test P _ _ _ (λ c. nowhere 16 refl refl refl) λ c.
+      by-test P _ _ _ (λ u. nowhere 13 refl refl refl) λ u.
+      passed es (record { read = r; lines = all; scalar = t; covered = all-covered es all c; credits = ltb-false _ _ u }))
       (λ t. nowhere 12 refl refl refl)
 
   after-lines : length s ≤ longestSheet → (o : Reading) → reading s ≡ o → P (ruleLines o)
@@ -151,7 +193,7 @@ unfolding sheetOf
 sound-accepted s es e =
     let p = sound-passed s es e in
     record {
-      blocks-pass = blocks-accepted es (p .lines) blocks;
+      blocks-pass = blocks-accepted es (p .lines) (p .covered) blocks;
       few = few-blocks es blocks;
       amounts = amounts-within es (p .lines);
       g-low = scalar-ranged es (p .lines) (p .scalar) .0;

@@ -19,9 +19,9 @@ use Rattle.guideline.proofs.Figures.{u-fits, k-high, figures-long}
 use Rattle.guideline.proofs.Totals.{sum-more, sum-fits}
 use Rattle.sheet_line.specs.declared.Entry.{Entry}
 use Rattle.sheet_line.specs.Rules.{AcceptedLine}
-use Rattle.ledger.specs.Entries.{exists, blockOf}
-use Rattle.judgement.specs.Sheet.{blocksTo, rowsTo}
-use Rattle.judgement.specs.Steps.{WorkedOut}
+use Rattle.ledger.specs.Entries.{exists}
+use Rattle.judgement.specs.Sheet.{afterCredit, blocksTo, rowsTo}
+use Rattle.judgement.specs.Steps.{Covered, WorkedOut}
 use Rattle.judgement.specs.declared.Worked.{Worked}
 use Rattle.judgement.proofs.Accepted.{few-blocks, block-accepted, blocks-accepted}
 
@@ -45,42 +45,42 @@ module _ (es : List Entry) {n : ℕ} {w : Worked} {rows : List ℕ} (from : 1 �
   pub absent : exists es n ≡ false → WorkedOut es n w rows
   unfolding blocksTo rowsTo
   absent e =
-      let m = sym (none-more (exists es) (λ b. blockOf es b ∷ []) n from e) in
+      let m = sym (none-more (exists es) (λ b. afterCredit es b ∷ []) n from e) in
       record {
         count = before .count ∙ ap length m;
         sum = before .sum ∙ ap sumK m;
-        front = before .front ∙ sym (none-more (exists es) (λ b. b ∷ figuresOf (blockOf es b)) n from e);
+        front = before .front ∙ sym (none-more (exists es) (λ b. b ∷ figuresOf (afterCredit es b)) n from e);
         long = before .long;
       }
 
   -- what is counted and summed with block n fits
-  pub fits : n ≤ blocks → Each AcceptedLine es → (w .count < blocks) × (w .sum + K (blockOf es n) ≤ 10 * limit * blocks)
-  fits to all =
+  pub fits : n ≤ blocks → Each AcceptedLine es → Covered es → (w .count < blocks) × (w .sum + K (afterCredit es n) ≤ 10 * limit * blocks)
+  fits to all covered =
       omega (
         arith,
         before .count,
         before .sum,
         few-blocks es (n - 1),
-        sum-fits (blocksTo es (n - 1)) (blocks-accepted es all (n - 1)),
-        k-high (blockOf es n) (block-accepted es all n),
-        u-fits (blockOf es n) (block-accepted es all n),
+        sum-fits (blocksTo es (n - 1)) (blocks-accepted es all covered (n - 1)),
+        k-high (afterCredit es n) (block-accepted es all covered n),
+        u-fits (afterCredit es n) (block-accepted es all covered n),
       )
 
   -- its row is put behind those before
-  pub present : w .count < blocks → exists es n ≡ true → (f : List ℕ) (k : ℕ) → f ≡ figuresOf (blockOf es n) → k ≡ K (blockOf es n)
+  pub present : w .count < blocks → exists es n ≡ true → (f : List ℕ) (k : ℕ) → f ≡ figuresOf (afterCredit es n) → k ≡ K (afterCredit es n)
       → WorkedOut es n (record { count = w .count + 1; sum = w .sum + k }) (putMid (rowNumbers * w .count) rowNumbers rows (n ∷ f))
   unfolding blocksTo rowsTo
   present few e f k p q =
-      let m = one-more (exists es) (λ b. blockOf es b ∷ []) n from e in
-      let r = one-more (exists es) (λ b. b ∷ figuresOf (blockOf es b)) n from e in
-      let bs = ascending (exists es) (λ b. blockOf es b ∷ []) (n - 1) in
+      let m = one-more (exists es) (λ b. afterCredit es b ∷ []) n from e in
+      let r = one-more (exists es) (λ b. b ∷ figuresOf (afterCredit es b)) n from e in
+      let bs = ascending (exists es) (λ b. afterCredit es b ∷ []) (n - 1) in
       let a : rowNumbers * w .count + rowNumbers ≡ rowNumbers * (w .count + 1) = omega arith in
       let room : rowNumbers * w .count + rowNumbers ≤ length rows = omega (arith, before .long) in
-      let long : length (n ∷ f) ≡ rowNumbers = ap (λ (l : List ℕ). length (n ∷ l)) p ∙ rw (figures-long (blockOf es n)) in
+      let long : length (n ∷ f) ≡ rowNumbers = ap (λ (l : List ℕ). length (n ∷ l)) p ∙ rw (figures-long (afterCredit es n)) in
       let done = part (from-front (before .front) (omega arith)) rowNumbers (n ∷ f) room long in
       record {
-        count = rw m (omega (arith, before .count, length-append bs (blockOf es n ∷ [])));
-        sum = rw m (omega (arith, before .sum, sum-more bs (blockOf es n), q));
+        count = rw m (omega (arith, before .count, length-append bs (afterCredit es n ∷ [])));
+        sum = rw m (omega (arith, before .sum, sum-more bs (afterCredit es n), q));
         front = rw (← a) (front done ∙ rw (r, p));
         long = done .long ∙ before .long;
       }

@@ -4,10 +4,11 @@ use mathlib.Core.Bool.{true, false}
 use mathlib.Core.List.{List}
 use Prim.Native.Nat.{ℕ, _%_, _≤_, _<_}
 use lib.ListN.{length}
+use Rattle.search.specs.First.{anyTo}
 use Rattle.search.proofs.Picks.{if-true, if-false, if-lt, if-ge, if-eq, if-ne, never}
 use Rattle.refusal.specs.declared.Place.{Place}
 use Rattle.refusal.specs.declared.Place.the-variants as place
-use Rattle.guideline.specs.Sizes.{blocks}
+use Rattle.guideline.specs.Sizes.{nonParticipating, blocks}
 use Rattle.guideline.specs.Operational.{RO}
 use Rattle.guideline.specs.Buffer.{count, sumK, available, buffer}
 use Rattle.sheet_line.specs.Line.{sheetLineBytes}
@@ -23,7 +24,7 @@ use Rattle.ledger.specs.declared.Answer.{Answer}
 use Rattle.ledger.specs.declared.Answer.the-variants as answer
 use Rattle.ledger.proofs.Lines.{all-read}
 use Rattle.judgement.specs.Sheet.{sheetOf, rowsTo}
-use Rattle.judgement.specs.Judgement.{Judgement, rule13, rule12, ruleLines, rule2, judgement, findings}
+use Rattle.judgement.specs.Judgement.{Judgement, rule13, creditAbove, rule16, rule12, ruleLines, rule2, judgement, findings}
 use Rattle.judgement.specs.Judgement.Judgement.{turnedAway, sound}
 use Rattle.judgement.specs.Judgement.Findings.{refusal, figures}
 use Rattle.judgement.specs.Steps.{Holds, LinesOf}
@@ -71,7 +72,7 @@ module _ (s : List ℕ) where
           unfolding ruleLines
           good-lines = ap findings (sym (lined ∙ ap ruleLines read))
 
--- ---- rules 12 and 13
+-- ---- rules 12, 16 and 13
 
 module _ (es : List Entry) where
   pub no-scalar : hasLine es Gen 0 scalarClass ≡ false → refusal 12 place.Nowhere ≡ findings (rule12 es)
@@ -79,13 +80,21 @@ module _ (es : List Entry) where
   no-scalar h = sym (ap findings (if-false _ h))
 
   module _ (h : hasLine es Gen 0 scalarClass ≡ true) where
-    pub credits-above : available (sheetOf es) < sheetOf es .credits → refusal 13 place.Nowhere ≡ findings (rule12 es)
-    unfolding rule12 rule13 findings
-    credits-above k = sym (ap findings (if-true _ h ∙ if-lt _ k))
+    pub credit-above : anyTo (creditAbove es) nonParticipating ≡ true → refusal 16 place.Nowhere ≡ findings (rule12 es)
+    unfolding rule12 rule16 findings
+    credit-above e = sym (ap findings (if-true _ h ∙ if-true _ e))
 
-    pub passes : sheetOf es .credits ≤ available (sheetOf es) → findings (sound es) ≡ findings (rule12 es)
-    unfolding rule12 rule13
-    passes k = sym (ap findings (if-true _ h ∙ if-ge _ k))
+    pub credits-pass : anyTo (creditAbove es) nonParticipating ≡ false → findings (rule13 es) ≡ findings (rule12 es)
+    unfolding rule12 rule16
+    credits-pass e = sym (ap findings (if-true _ h ∙ if-false _ e))
+
+  pub credits-above : available (sheetOf es) < sheetOf es .credits → refusal 13 place.Nowhere ≡ findings (rule13 es)
+  unfolding rule13 findings
+  credits-above k = sym (ap findings (if-lt _ k))
+
+  pub passes : sheetOf es .credits ≤ available (sheetOf es) → findings (sound es) ≡ findings (rule13 es)
+  unfolding rule13
+  passes k = sym (ap findings (if-ge _ k))
 
 -- ---- what a judgement has to tell
 

@@ -3,11 +3,13 @@ use mathlib.Core.Path.{_≡_}
 use mathlib.Core.List.{List}
 use Prim.Native.Nat.{ℕ, _≤_}
 use Rattle.guideline.specs.Sizes.{blocks}
-use Rattle.sheet_line.specs.Codes.{generalClasses, scalarClass}
+use Rattle.sheet_line.specs.Codes.{generalClasses, scalarClass, Key}
+use Rattle.sheet_line.specs.declared.Code.{Code}
 use Rattle.sheet_line.specs.declared.Code.the-variants.{Gen}
 use Rattle.sheet_line.specs.declared.Entry.{Entry}
-use Rattle.ledger.specs.Entries.{exists, hasLine, blockBy, volumesBy, blockOf, volumesOf, generalAmount}
+use Rattle.ledger.specs.Entries.{lookup, firstOf, secondOf, exists, hasLine, blockBy, volumesBy, blockOf, volumesOf, generalAmount}
 use Rattle.ledger.specs.Tables.{tabled, hasMark, blockMarked}
+use Rattle.ledger.proofs.Indexes.{lookup-table}
 use Rattle.ledger.proofs.Marks.{exists-table}
 use Rattle.ledger.proofs.Numbers.{block-table, volumes-table, general-table, scalar-table}
 use Rattle.judgement.specs.Steps.{Holds}
@@ -24,6 +26,9 @@ module _ {es : List Entry} {f s m : List ℕ} (H : Holds es f s m) where
 
   pub general-is : (c : ℕ) → (1 ≤ c) × (c ≤ generalClasses) → tabled f Gen 0 c ≡ generalAmount es c
   general-is c h = rw (H .tables .first) (general-table es (H .lines) c h)
+
+  pub amount-is : (k : Code) (b c : ℕ) → Key k b c → (tabled f k b c ≡ lookup firstOf es k b c) × (tabled s k b c ≡ lookup secondOf es k b c)
+  amount-is k b c v = rw (H .tables .first, H .tables .second) (lookup-table firstOf es k b c v (H .lines), lookup-table secondOf es k b c v (H .lines))
 
   pub scalar-is : hasMark m Gen 0 scalarClass ≡ hasLine es Gen 0 scalarClass
   scalar-is = rw (H .tables .mark) (scalar-table es (H .lines))

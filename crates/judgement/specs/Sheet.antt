@@ -6,12 +6,21 @@ use Rattle.search.specs.Ascending.{ascending}
 use Rattle.guideline.specs.Sizes.{blocks}
 use Rattle.guideline.specs.Block.{figuresOf}
 use Rattle.guideline.specs.Buffer.{Sheet}
+use Rattle.mortality.specs.Credit.{credit, lowered}
 use Rattle.sheet_line.specs.declared.Entry.{Entry}
-use Rattle.ledger.specs.Entries.{exists, blockOf, volumesOf, generalAmount}
+use Rattle.ledger.specs.Entries.{exists, blockOf, volumesOf, generalAmount, survivalSum, deathSum}
 
--- the 17 numbers of each of the blocks 1 to n that exist, ascending
+-- the reported credit of a block, section 11.1.1; a block without a MOR line has S and T zero, and no credit
+unfoldable pub creditOf : List Entry → ℕ → ℕ
+creditOf es b = credit (survivalSum es b) (deathSum es b)
+
+-- the 17 numbers of a block, IR(1) and LT(1) lowered by the credit
+unfoldable pub afterCredit : List Entry → ℕ → List ℕ
+afterCredit es b = lowered (creditOf es b) (blockOf es b)
+
+-- the numbers of each of the blocks 1 to n that exist, ascending
 unfoldable pub blocksTo : List Entry → ℕ → List (List ℕ)
-blocksTo es n = ascending (exists es) (λ b. blockOf es b ∷ []) n
+blocksTo es n = ascending (exists es) (λ b. afterCredit es b ∷ []) n
 
 -- 'GEN: 1 gross components, 2 guarantee requirement, 3 ceded premiums, 4 g, 5 credits'
 unfoldable pub sheetOf : List Entry → Sheet
@@ -26,4 +35,4 @@ sheetOf es =
 
 -- a row for each of the blocks 1 to n that exist, ascending: the block's number, and its five figures
 unfoldable pub rowsTo : List Entry → ℕ → List ℕ
-rowsTo es n = ascending (exists es) (λ b. b ∷ figuresOf (blockOf es b)) n
+rowsTo es n = ascending (exists es) (λ b. b ∷ figuresOf (afterCredit es b)) n

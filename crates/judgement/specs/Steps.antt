@@ -1,16 +1,21 @@
 -- What the steps of judging hand on to one another: the tables that hold a sheet's lines, and what is worked out of its blocks.
 -- Assumes nothing.
 use mathlib.Core.Path.{_≡_}
+use mathlib.Core.Bool.{true}
 use mathlib.Core.List.{List}
-use Prim.Native.Nat.{ℕ, _*_}
-use lib.ListN.{length, take}
+use Prim.Native.Nat.{ℕ, _+_, _*_, _≤_, _<_}
+use lib.ListN.{length, getD, take}
 use Rattle.search.specs.Each.{Each}
-use Rattle.guideline.specs.Sizes.{rowNumbers, tableNumbers}
+use Rattle.guideline.specs.Sizes.{nonParticipating, rowNumbers, tableNumbers}
+use Rattle.guideline.specs.Block.{lt}
 use Rattle.guideline.specs.Buffer.{sumK}
+use Rattle.sheet_line.specs.Codes.{scalarClass}
+use Rattle.sheet_line.specs.declared.Code.the-variants.{Gen}
 use Rattle.sheet_line.specs.declared.Entry.{Entry}
 use Rattle.sheet_line.specs.Rules.{AcceptedLine}
+use Rattle.ledger.specs.Entries.{hasLine, blockOf}
 use Rattle.ledger.specs.Tables.{TablesOf}
-use Rattle.judgement.specs.Sheet.{blocksTo, rowsTo}
+use Rattle.judgement.specs.Sheet.{creditOf, blocksTo, rowsTo}
 use Rattle.judgement.specs.Judgement.{Judgement}
 use Rattle.judgement.specs.Judgement.Judgement.{sound}
 use Rattle.judgement.specs.declared.Worked.{Worked}
@@ -31,6 +36,20 @@ OfLines firsts seconds marks P = (es : List Entry) → Holds es firsts seconds m
 -- the tables hold the lines of a sound judgement
 abbrev pub LinesOf : Judgement → List ℕ → List ℕ → List ℕ → Type 0
 LinesOf j firsts seconds marks = (es : List Entry) → j ≡ sound es → Holds es firsts seconds marks
+
+-- the reported credits of blocks 1 to 16, in this order
+abbrev pub Credits : List Entry → List ℕ → Type 0
+Credits es credits = (i : ℕ) → i < nonParticipating → getD credits i 0 ≡ creditOf es (i + 1)
+
+-- what rule 16 leaves: no credit is above its block's LT(1)
+abbrev pub Covered : List Entry → Type 0
+Covered es = (b : ℕ) → creditOf es b ≤ lt (blockOf es b) 1
+
+-- what rules 12 and 16 leave, with the reported credits
+pub record Credited (es : List Entry) (credits : List ℕ) : Type 0 where
+  pub scalar : hasLine es Gen 0 scalarClass ≡ true
+  pub each : Credits es credits
+  pub covered : Covered es
 
 -- the blocks 1 to n of the lines are worked out: how many exist, the sum of their K, and their rows in front of a table for all blocks
 pub record WorkedOut (es : List Entry) (n : ℕ) (w : Worked) (rows : List ℕ) : Type 0 where

@@ -6,16 +6,19 @@ ghost use lib.Dec.{leb};
 ghost use lib.ListN.{length};
 ghost use borrow.Rule.Slice.PartMut.{putMid};
 ghost use Rattle.guideline.specs.Buffer.{mostAvailable};
+ghost use Rattle.search.specs.First.{anyTo};
 ghost use Rattle.search.specs.Least.{least};
-ghost use Rattle.guideline.specs.Sizes.{blocks, rowNumbers, tenThousandths, largestScalar, tableNumbers};
+ghost use Rattle.guideline.specs.Sizes.{nonParticipating, blocks, rowNumbers, tenThousandths, largestScalar, tableNumbers};
 ghost use Rattle.guideline.specs.Operational.{RO};
 ghost use Rattle.ledger.specs.Tables.{Empty};
 ghost use Rattle.block.specs.Parts.{figureList};
-ghost use Rattle.judgement.specs.Judgement.{judgement, rule12, findings, stated};
-ghost use Rattle.judgement.specs.Sheet.{sheetOf};
-ghost use Rattle.judgement.specs.Steps.{Ledger, OfLines, LinesOf, WorkedOut};
+ghost use Rattle.judgement.specs.Judgement.{judgement, creditAbove, rule12, rule13, findings, stated};
+ghost use Rattle.judgement.specs.Sheet.{afterCredit, sheetOf};
+ghost use Rattle.judgement.specs.Steps.{Ledger, OfLines, LinesOf, Credits, Credited, WorkedOut};
 use block::Figures;
+use guideline::BLOCK_NUMBERS;
 use guideline::BLOCKS;
+use guideline::NON_PARTICIPATING;
 use guideline::ROW_NUMBERS;
 use guideline::TABLE_NUMBERS;
 use guideline::TEN_THOUSANDTHS;
@@ -23,6 +26,7 @@ use ledger::Answer;
 use ledger::LONGEST_SHEET;
 use ledger::PLACES;
 use refusal::Place;
+use sheet_line::Code;
 use sheet_line::SHEET_LINE_BYTES;
 use sheet_line::codes::CEDED_CLASS;
 use sheet_line::codes::CREDITS_CLASS;
@@ -70,7 +74,7 @@ pub fn judge(
     }
 }
 
-// Rules 12 and 13, of lines that are all good.
+// Rules 12 and 16, of lines that are all good, and then rule 13.
 fn after_lines(
     firsts: &[u64; PLACES],
     seconds: &[u64; PLACES],
@@ -83,18 +87,79 @@ fn after_lines(
     if !ledger::has_scalar(marks) {
         return Verdict::TurnedAway(12, Place::Nowhere);
     }
-    let w = work_out(firsts, seconds, marks, rows);
+    let credits = credits_of(firsts, seconds, marks);
+    if any_credit_above(firsts, seconds, marks, &credits) {
+        return Verdict::TurnedAway(16, Place::Nowhere);
+    }
+    rule_13(firsts, seconds, marks, &credits, rows)
+}
+
+// The credits of blocks 1 to 16. One can pass the largest amount, and its block's LT(1).
+fn credits_of(
+    firsts: &[u64; PLACES],
+    seconds: &[u64; PLACES],
+    marks: &[u8; PLACES],
+) -> [u64; NON_PARTICIPATING]
+    requires { ⌜ Ledger (now firsts) (now seconds) (now marks) ⌝ }
+    ensures { λ r. ⌜ OfLines (now (firsts .entry)) (now (seconds .entry)) (now (marks .entry)) (λ es. Credits es r) ⌝ }
+{
+    let mut credits = [0u64; NON_PARTICIPATING];
+    let mut i = 0;
+    while i < NON_PARTICIPATING {
+        credits[i] = mortality::credit(
+            ledger::amount_of(firsts, Code::Mor, i + 1, 1),
+            ledger::amount_of(seconds, Code::Mor, i + 1, 1),
+        );
+        i += 1;
+    }
+    credits
+}
+
+// Whether one of blocks 1 to 16 has a credit above its LT(1).
+fn any_credit_above(
+    firsts: &[u64; PLACES],
+    seconds: &[u64; PLACES],
+    marks: &[u8; PLACES],
+    credits: &[u64; NON_PARTICIPATING],
+) -> bool
+    requires { ⌜ Ledger (now firsts) (now seconds) (now marks) ⌝ }
+    requires { ⌜ OfLines (now firsts) (now seconds) (now marks) (λ es. Credits es (now credits)) ⌝ }
+    ensures { λ r. ⌜ OfLines (now (firsts .entry)) (now (seconds .entry)) (now (marks .entry)) (λ es. r ≡ anyTo (creditAbove es) nonParticipating) ⌝ }
+{
+    let mut i = 0;
+    while i < NON_PARTICIPATING {
+        if ledger::amount_of(seconds, Code::Rsk, i + 1, 1) < credits[i] {
+            return true;
+        }
+        i += 1;
+    }
+    false
+}
+
+// Rule 13, of lines that rule 16 lets pass too, and the totals.
+fn rule_13(
+    firsts: &[u64; PLACES],
+    seconds: &[u64; PLACES],
+    marks: &[u8; PLACES],
+    credits: &[u64; NON_PARTICIPATING],
+    rows: &mut [u64; TABLE_NUMBERS],
+) -> Verdict
+    requires { ⌜ Ledger (now firsts) (now seconds) (now marks) ⌝ }
+    requires { ⌜ OfLines (now firsts) (now seconds) (now marks) (λ es. Credited es (now credits)) ⌝ }
+    ensures { λ r. ⌜ OfLines (now (firsts .entry)) (now (seconds .entry)) (now (marks .entry)) (λ es. stated r (now (rows .exit)) ≡ findings (rule13 es)) ⌝ }
+{
+    let w = work_out(firsts, seconds, marks, credits, rows);
     let count = w.count;
     let sum = w.sum;
     let ro = operational_figure(firsts, seconds, marks);
     let available = sum + ledger::general_amount(firsts, GUARANTEE_CLASS) + ro;
-    let credits = ledger::general_amount(firsts, CREDITS_CLASS);
-    if available < credits {
+    let group_credits = ledger::general_amount(firsts, CREDITS_CLASS);
+    if available < group_credits {
         return Verdict::TurnedAway(13, Place::Nowhere);
     }
     let buffer = scaled(
         ledger::general_amount(firsts, SCALAR_CLASS),
-        available - credits,
+        available - group_credits,
     );
     Verdict::Sound(Totals {
         count,
@@ -138,9 +203,11 @@ fn work_out(
     firsts: &[u64; PLACES],
     seconds: &[u64; PLACES],
     marks: &[u8; PLACES],
+    credits: &[u64; NON_PARTICIPATING],
     rows: &mut [u64],
 ) -> Worked
     requires { ⌜ Ledger (now firsts) (now seconds) (now marks) ⌝ }
+    requires { ⌜ OfLines (now firsts) (now seconds) (now marks) (λ es. Credited es (now credits)) ⌝ }
     requires { ⌜ length (now rows) ≡ tableNumbers ⌝ }
     ensures { λ r. ⌜ OfLines (now (firsts .entry)) (now (seconds .entry)) (now (marks .entry)) (λ es. WorkedOut es blocks r (now (rows .exit))) ⌝ }
 {
@@ -148,7 +215,7 @@ fn work_out(
     let mut block: usize = 0;
     while block < BLOCKS {
         block += 1;
-        w = work_block(firsts, seconds, marks, rows, block, w);
+        w = work_block(firsts, seconds, marks, credits, rows, block, w);
     }
     w
 }
@@ -158,25 +225,44 @@ fn work_block(
     firsts: &[u64; PLACES],
     seconds: &[u64; PLACES],
     marks: &[u8; PLACES],
+    credits: &[u64; NON_PARTICIPATING],
     rows: &mut [u64],
     block: usize,
     w: Worked,
 ) -> Worked
     requires { ⌜ (1 ≤ block) × (block ≤ blocks) ⌝ }
     requires { ⌜ Ledger (now firsts) (now seconds) (now marks) ⌝ }
+    requires { ⌜ OfLines (now firsts) (now seconds) (now marks) (λ es. Credited es (now credits)) ⌝ }
     requires { ⌜ OfLines (now firsts) (now seconds) (now marks) (λ es. WorkedOut es (block - 1) w (now rows)) ⌝ }
     ensures { λ r. ⌜ OfLines (now (firsts .entry)) (now (seconds .entry)) (now (marks .entry)) (λ es. WorkedOut es block r (now (rows .exit))) ⌝ }
 {
     if !ledger::block_exists(marks, block) {
         return w;
     }
-    let numbers = ledger::block_numbers(firsts, seconds, block);
+    let numbers = numbers_after_credit(firsts, seconds, marks, credits, block);
     let f = block::figures_of(&numbers);
     store(rows, ROW_NUMBERS * w.count, block, f);
     Worked {
         count: w.count + 1,
         sum: w.sum + f.k,
     }
+}
+
+// The numbers of a block after its credit.
+fn numbers_after_credit(
+    firsts: &[u64; PLACES],
+    seconds: &[u64; PLACES],
+    marks: &[u8; PLACES],
+    credits: &[u64; NON_PARTICIPATING],
+    block: usize,
+) -> [u64; BLOCK_NUMBERS]
+    requires { ⌜ (1 ≤ block) × (block ≤ blocks) ⌝ }
+    requires { ⌜ Ledger (now firsts) (now seconds) (now marks) ⌝ }
+    requires { ⌜ OfLines (now firsts) (now seconds) (now marks) (λ es. Credited es (now credits)) ⌝ }
+    ensures { λ r. ⌜ OfLines (now (firsts .entry)) (now (seconds .entry)) (now (marks .entry)) (λ es. r ≡ afterCredit es block) ⌝ }
+{
+    let entered = ledger::block_numbers(firsts, seconds, block);
+    mortality::lowered(entered, credits[block - 1])
 }
 
 // A block's row, from a place of the table on.

@@ -12,7 +12,7 @@ use Rattle.search.specs.Pick.{pick}
 use Rattle.search.specs.Each.{Each}
 use Rattle.search.proofs.Eaches.{each-at}
 use Rattle.guideline.specs.Sizes.{blockNumbers, volumeClasses, volumeNumbers, largestScalar, volumePairs}
-use Rattle.sheet_line.specs.Codes.{riskClasses, expensesClass, scalarClass}
+use Rattle.sheet_line.specs.Codes.{riskClasses, expensesClass, scalarClass, Key}
 use Rattle.sheet_line.specs.declared.Code.{Code}
 use Rattle.sheet_line.specs.declared.Code.the-variants.{Rsk, Oth, Vol, Gen}
 use Rattle.sheet_line.specs.declared.Entry.{Entry}
@@ -22,10 +22,10 @@ use Rattle.ledger.proofs.Keys.{same-key}
 
 -- ---- what is looked up is 0, or is in a line with that code and class
 
-key-amounts : (k : Code) (b c : ℕ) (e : Entry) → AcceptedLine e → hasKey k b c e ≡ true → AcceptedAmounts k c (e .first) (e .second)
-key-amounts k b c e a q = let s = same-key k b c e q in rw (s .code, s .class) (a .amounts)
+key-amounts : (k : Code) (b c : ℕ) (e : Entry) → AcceptedLine e → hasKey k b c e ≡ true → Key k b c × AcceptedAmounts k c (e .first) (e .second)
+key-amounts k b c e a q = let s = same-key k b c e q in rw (s .code, s .block, s .class) (a .key, a .amounts)
 
-module _ (R : ℕ → ℕ → ℕ → Type 0) (k : Code) (b c : ℕ) (none : R 0 0 0) (some : (f s : ℕ) → AcceptedAmounts k c f s → R f s 1) where
+module _ (R : ℕ → ℕ → ℕ → Type 0) (k : Code) (b c : ℕ) (none : R 0 0 0) (some : (f s : ℕ) → Key k b c → AcceptedAmounts k c f s → R f s 1) where
   looked-up : (es : List Entry) → Each AcceptedLine es → R (lookup firstOf es k b c) (lookup secondOf es k b c) (lookup markOf es k b c)
   unfolding lookup pick
   looked-up [] all = none
@@ -33,26 +33,30 @@ module _ (R : ℕ → ℕ → ℕ → Type 0) (k : Code) (b c : ℕ) (none : R 0
     where
       go : (t : Bool) → hasKey k b c e ≡ t → R (lookup firstOf es k b c) (lookup secondOf es k b c) (lookup markOf es k b c)
           → R (pick t (e .first) (lookup firstOf es k b c)) (pick t (e .second) (lookup secondOf es k b c)) (pick t 1 (lookup markOf es k b c))
-      go true q r = some (e .first) (e .second) (key-amounts k b c e (all .0) q)
+      go true q r = let s = key-amounts k b c e (all .0) q in some (e .first) (e .second) (s .0) (s .1)
       go false q r = r
 
 module _ (es : List Entry) (all : Each AcceptedLine es) where
-  first-most : (k : Code) (b c : ℕ) → lookup firstOf es k b c ≤ limit
-  first-most k b c = looked-up (λ f s m. f ≤ limit) k b c (omega arith) (λ f s a. a .first-most) es all
+  pub first-most : (k : Code) (b c : ℕ) → lookup firstOf es k b c ≤ limit
+  first-most k b c = looked-up (λ f s m. f ≤ limit) k b c (omega arith) (λ f s v a. a .first-most) es all
 
-  second-most : (k : Code) (b c : ℕ) → lookup secondOf es k b c ≤ limit
-  second-most k b c = looked-up (λ f s m. s ≤ limit) k b c (omega arith) (λ f s a. a .second-most) es all
+  pub second-most : (k : Code) (b c : ℕ) → lookup secondOf es k b c ≤ limit
+  second-most k b c = looked-up (λ f s m. s ≤ limit) k b c (omega arith) (λ f s v a. a .second-most) es all
 
   trend-most : (b c : ℕ) → lookup secondOf es Rsk b c ≤ lookup firstOf es Rsk b c
-  trend-most b c = looked-up (λ f s m. s ≤ f) Rsk b c (omega arith) (λ f s a. a .trend refl) es all
+  trend-most b c = looked-up (λ f s m. s ≤ f) Rsk b c (omega arith) (λ f s v a. a .trend refl) es all
 
   trend-none : (b : ℕ) → lookup secondOf es Rsk b expensesClass ≡ 0
-  trend-none b = looked-up (λ f s m. s ≡ 0) Rsk b expensesClass refl (λ f s a. a .single refl) es all
+  trend-none b = looked-up (λ f s m. s ≡ 0) Rsk b expensesClass refl (λ f s v a. a .single refl) es all
+
+  -- a code has no line outside its range
+  pub none-outside : (k : Code) (b c : ℕ) → (Key k b c → ⊥) → (lookup firstOf es k b c ≡ 0) × (lookup secondOf es k b c ≡ 0)
+  none-outside k b c n = looked-up (λ f s m. (f ≡ 0) × (s ≡ 0)) k b c (refl, refl) (λ f s v a. absurd (n v)) es all
 
   -- rule 10 lets no other scalar pass, where there is one
   pub scalar-within : 0 < lookup markOf es Gen 0 scalarClass → (1 ≤ generalAmount es scalarClass) × (generalAmount es scalarClass ≤ largestScalar)
   scalar-within =
-      looked-up (λ f s m. 0 < m → (1 ≤ f) × (f ≤ largestScalar)) Gen 0 scalarClass (λ h. absurd (omega arith)) (λ f s a h. a .scalar refl) es all
+      looked-up (λ f s m. 0 < m → (1 ≤ f) × (f ≤ largestScalar)) Gen 0 scalarClass (λ h. absurd (omega arith)) (λ f s v a h. a .scalar refl) es all
 
   pub general-most : (c : ℕ) → generalAmount es c ≤ limit
   general-most c = first-most Gen 0 c
@@ -98,10 +102,10 @@ pub record RuledNumbers (ns : List ℕ) : Type 0 where
   pub trend : (i : ℕ) → i < riskClasses → getD ns (2 * i + 1) 0 ≤ getD ns (2 * i) 0
 
 module _ (es : List Entry) (all : Each AcceptedLine es) where
-  risks : (b i : ℕ) → i < riskClasses
+  pub risk-at : (b i : ℕ) → i < riskClasses
       → (getD (blockOf es b) (2 * i) 0 ≡ lookup firstOf es Rsk b (i + 1)) × (getD (blockOf es b) (2 * i + 1) 0 ≡ lookup secondOf es Rsk b (i + 1))
   unfolding blockBy
-  risks b i h = pairs-at _ _ riskClasses _ i h
+  risk-at b i h = pairs-at _ _ riskClasses _ i h
 
   block-amounts : (b : ℕ) → Each Amount (blockOf es b)
   unfolding blockBy
@@ -115,8 +119,8 @@ module _ (es : List Entry) (all : Each AcceptedLine es) where
       record {
         long = simp (length-append, length-pairs);
         amounts = each-at Amount 0 (omega arith) (blockOf es b) (block-amounts b);
-        last = risks b 6 (omega arith) .1 ∙ trend-none es all b;
-        trend = λ i h. rw (risks b i h .0, risks b i h .1) (trend-most es all b (i + 1));
+        last = risk-at b 6 (omega arith) .1 ∙ trend-none es all b;
+        trend = λ i h. rw (risk-at b i h .0, risk-at b i h .1) (trend-most es all b (i + 1));
       }
 
   pub length-volumes : length (volumesOf es) ≡ volumeNumbers

@@ -13,10 +13,10 @@ use Rattle.search.specs.Each.{Each}
 use Rattle.search.proofs.Picks.{if-true, if-false, if-eq, if-ne}
 use Rattle.search.proofs.Values.{values, values-same}
 use Rattle.guideline.specs.Sizes.{blocks, volumeClasses}
-use Rattle.sheet_line.specs.Codes.{riskClasses, otherClasses, generalClasses, rangeOf, Key}
+use Rattle.sheet_line.specs.Codes.{riskClasses, otherClasses, mortalityClasses, generalClasses, rangeOf, Key}
 use Rattle.sheet_line.specs.Rules.{AcceptedLine}
 use Rattle.sheet_line.specs.declared.Code.{Code}
-use Rattle.sheet_line.specs.declared.Code.the-variants.{Rsk, Oth, Vol, Gen}
+use Rattle.sheet_line.specs.declared.Code.the-variants.{Rsk, Oth, Mor, Vol, Gen}
 use Rattle.sheet_line.specs.declared.Entry.{Entry}
 use Rattle.ledger.specs.Entries.{hasKey, lookup, SameKey}
 use Rattle.ledger.specs.Tables.{places, rowPlaces, columnsBefore, indexOf, indexFor, table, tabled}
@@ -27,12 +27,14 @@ use Rattle.ledger.proofs.Keys.{has-key, no-key}
 pub block-most : (k : Code) → rangeOf k .highest ≤ blocks
 block-most Rsk = omega arith
 block-most Oth = omega arith
+block-most Mor = omega arith
 block-most Vol = omega arith
 block-most Gen = omega arith
 
 pub column-most : (k : Code) → columnsBefore k + rangeOf k .classes ≤ rowPlaces
 column-most Rsk = omega arith
 column-most Oth = omega arith
+column-most Mor = omega arith
 column-most Vol = omega arith
 column-most Gen = omega arith
 
@@ -44,7 +46,7 @@ index-most k b c v = omega (arith, block-most k, column-most k)
 
 -- the codes of a block's row, column by column
 blockRow : List Code
-blockRow = replicate riskClasses Rsk ++ (replicate otherClasses Oth ++ replicate volumeClasses Vol)
+blockRow = replicate riskClasses Rsk ++ (replicate otherClasses Oth ++ (replicate volumeClasses Vol ++ replicate mortalityClasses Mor))
 
 -- the codes of row 0
 generalRow : List Code
@@ -74,6 +76,7 @@ code-at : (k : Code) (b c : ℕ) → Key k b c → codeAt b (columnsBefore k + c
 unfolding blockRow generalRow values
 code-at Rsk b c v = in-block b _ (v .low) ∙ column-code Rsk blockRow refl b c v
 code-at Oth b c v = in-block b _ (v .low) ∙ column-code Oth blockRow refl b c v
+code-at Mor b c v = in-block b _ (v .low) ∙ column-code Mor blockRow refl b c v
 code-at Vol b c v = in-block b _ (v .low) ∙ column-code Vol blockRow refl b c v
 code-at Gen b c v = in-general b _ (v .high) ∙ column-code Gen generalRow refl b c v
 

@@ -16,7 +16,7 @@ use Rattle.guideline.specs.Sizes.{blocks}
 use Rattle.sheet_line.specs.Codes.{rangeOf, Key}
 use Rattle.sheet_line.specs.Rules.{AcceptedLine}
 use Rattle.sheet_line.specs.declared.Code.{Code}
-use Rattle.sheet_line.specs.declared.Code.the-variants.{Rsk, Oth, Vol, Gen}
+use Rattle.sheet_line.specs.declared.Code.the-variants.{Rsk, Oth, Mor, Vol, Gen}
 use Rattle.sheet_line.specs.declared.Entry.{Entry}
 use Rattle.ledger.specs.Entries.{markOf, ofBlock, exists}
 use Rattle.ledger.specs.Tables.{places, blockPlaces, columnsBefore, indexOf, indexFor, table, anyMark, blockMarked}
@@ -84,6 +84,7 @@ columns-of : (k : Code)
     ⊎ ((ofBlock k ≡ false) × ((blockPlaces ≤ columnsBefore k) ⊎ (rangeOf k .highest ≤ 0)))
 columns-of Rsk = inl (refl, omega arith)
 columns-of Oth = inl (refl, omega arith)
+columns-of Mor = inr (refl, inl (omega arith))
 columns-of Vol = inr (refl, inl (omega arith))
 columns-of Gen = inr (refl, inr (omega arith))
 

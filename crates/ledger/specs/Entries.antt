@@ -10,15 +10,16 @@ use Rattle.search.specs.Pick.{pick}
 use Rattle.guideline.specs.Sizes.{volumeClasses, volumePairs}
 use Rattle.sheet_line.specs.Codes.{riskClasses}
 use Rattle.sheet_line.specs.declared.Code.{Code}
-use Rattle.sheet_line.specs.declared.Code.the-variants.{Rsk, Oth, Vol, Gen}
+use Rattle.sheet_line.specs.declared.Code.the-variants.{Rsk, Oth, Mor, Vol, Gen}
 use Rattle.sheet_line.specs.declared.Entry.{Entry}
 
--- a code's row in document 01's table of codes
+-- a code's place in the order of codes
 abbrev pub rank : Code → ℕ
 rank Rsk = 0
 rank Oth = 1
-rank Vol = 2
-rank Gen = 3
+rank Mor = 2
+rank Vol = 3
+rank Gen = 4
 
 -- whether an entry has this code, block and class
 unfoldable pub hasKey : Code → ℕ → ℕ → Entry → Bool
@@ -64,6 +65,7 @@ pub record DistinctKeys (es : List Entry) : Type 0 where
 abbrev pub ofBlock : Code → Bool
 ofBlock Rsk = true
 ofBlock Oth = true
+ofBlock Mor = false
 ofBlock Vol = false
 ofBlock Gen = false
 
@@ -99,3 +101,11 @@ volumesOf es = volumesBy (lookup firstOf es) (lookup secondOf es)
 -- 'GEN: 1 gross components, 2 guarantee requirement, 3 ceded premiums, 4 g, 5 credits'
 abbrev pub generalAmount : List Entry → ℕ → ℕ
 generalAmount es c = lookup firstOf es Gen 0 c
+
+-- 'MOR .. carries S and T, the level and trend sums for survival and death products' (document 02, #101): S of a block
+abbrev pub survivalSum : List Entry → ℕ → ℕ
+survivalSum es b = lookup firstOf es Mor b 1
+
+-- and T
+abbrev pub deathSum : List Entry → ℕ → ℕ
+deathSum es b = lookup secondOf es Mor b 1

@@ -1,4 +1,4 @@
--- The tables that hold a sheet's entries: a row for each block, with a column for each class that RSK, OTH and VOL have, and row 0
+-- The tables that hold a sheet's entries: a row for each block, with a column for each class that RSK, OTH, VOL and MOR have, and row 0
 -- for GEN. First amounts, second amounts and marks have a table each. Assumes nothing.
 use mathlib.Core.Path.{_≡_}
 use Prim.Native.Nat.{ℕ, zero, suc, _+_, _-_, _*_}
@@ -7,11 +7,11 @@ use mathlib.Core.Bool.{Bool, true, false}
 use lib.Dec.{ltb, eqb}
 use lib.ListN.{getD, set, replicate}
 use Rattle.search.specs.Pick.{pick}
-use Rattle.guideline.specs.Sizes.{blocks, volumeClasses, volumePairs}
-use Rattle.sheet_line.specs.Codes.{riskClasses, otherClasses, generalClasses}
+use Rattle.guideline.specs.Sizes.{nonParticipating, blocks, volumeClasses, volumePairs}
+use Rattle.sheet_line.specs.Codes.{riskClasses, otherClasses, mortalityClasses, generalClasses}
 use Rattle.sheet_line.specs.Line.{sheetLineBytes}
 use Rattle.sheet_line.specs.declared.Code.{Code}
-use Rattle.sheet_line.specs.declared.Code.the-variants.{Rsk, Oth, Vol, Gen}
+use Rattle.sheet_line.specs.declared.Code.the-variants.{Rsk, Oth, Mor, Vol, Gen}
 use Rattle.sheet_line.specs.declared.Entry.{Entry}
 use Rattle.ledger.specs.Entries.{firstOf, secondOf, markOf}
 use Rattle.ledger.specs.Reading.{Reading, entriesOf, outcomeOf, stated}
@@ -21,17 +21,17 @@ use Rattle.ledger.specs.declared.Answer.{Answer}
 abbrev pub blockPlaces : ℕ
 blockPlaces = riskClasses + otherClasses
 
--- the places of a row: a column for each class that a block's RSK, OTH and VOL lines have
+-- the places of a row: a column for each class that a block's RSK, OTH, VOL and MOR lines have
 abbrev pub rowPlaces : ℕ
-rowPlaces = blockPlaces + volumeClasses
+rowPlaces = blockPlaces + volumeClasses + mortalityClasses
 
 -- the places of a table: a row for each block, and one for GEN
 abbrev pub places : ℕ
 places = rowPlaces * (blocks + 1)
 
--- the lines that a sheet can have, one for each code, block and class: 293
+-- the lines that a sheet can have, one for each code, block and class: 309
 abbrev pub mostLines : ℕ
-mostLines = blocks * blockPlaces + volumePairs + generalClasses
+mostLines = blocks * blockPlaces + nonParticipating * mortalityClasses + volumePairs + generalClasses
 
 -- the bytes of that many lines
 abbrev pub longestSheet : ℕ
@@ -41,6 +41,7 @@ longestSheet = sheetLineBytes * mostLines
 abbrev pub columnsBefore : Code → ℕ
 columnsBefore Rsk = 0
 columnsBefore Oth = riskClasses
+columnsBefore Mor = blockPlaces + volumeClasses
 columnsBefore Vol = blockPlaces
 columnsBefore Gen = 0
 

@@ -1,6 +1,6 @@
 // The lines of a sheet read into tables that the caller lends, and the figures that are taken off them.
 //
-// A table has a row for each block, with a column for each class that RSK, OTH and VOL have, and row 0 for GEN. The marks of the lines
+// A table has a row for each block, with a column for each class that RSK, OTH, VOL and MOR have, and row 0 for GEN. The marks of the lines
 // that stood before are a table of their own.
 ghost use mathlib.Core.Path.{_≡_};
 ghost use Prim.Native.Nat.{_+_, _≤_, _<_};
@@ -11,6 +11,7 @@ ghost use Rattle.ledger.specs.Reading.{reading};
 ghost use Rattle.ledger.specs.Tables.{places, columnsBefore, indexOf, Empty, Filled, Entered, tabled, hasMark, blockMarked};
 use guideline::BLOCK_NUMBERS;
 use guideline::BLOCKS;
+use guideline::NON_PARTICIPATING;
 use guideline::VOLUME_CLASSES;
 use guideline::VOLUME_NUMBERS;
 use guideline::VOLUME_PAIRS;
@@ -20,6 +21,7 @@ use sheet_line::Entry;
 use sheet_line::Line;
 use sheet_line::SHEET_LINE_BYTES;
 use sheet_line::codes::GENERAL_CLASSES;
+use sheet_line::codes::MORTALITY_CLASSES;
 use sheet_line::codes::OTHER_CLASSES;
 use sheet_line::codes::RISK_CLASSES;
 use sheet_line::codes::SCALAR_CLASS;
@@ -28,13 +30,16 @@ use sheet_line::codes::SCALAR_CLASS;
 const BLOCK_PLACES: usize = RISK_CLASSES + OTHER_CLASSES;
 
 // The lines that a sheet can have, one for each code, block and class.
-pub const MOST_LINES: usize = BLOCKS * BLOCK_PLACES + VOLUME_PAIRS + GENERAL_CLASSES;
+pub const MOST_LINES: usize = BLOCKS * BLOCK_PLACES
+    + NON_PARTICIPATING * MORTALITY_CLASSES
+    + VOLUME_PAIRS
+    + GENERAL_CLASSES;
 
 // The bytes of that many lines.
 pub const LONGEST_SHEET: usize = SHEET_LINE_BYTES * MOST_LINES;
 
 // The places of a row.
-const ROW_PLACES: usize = BLOCK_PLACES + VOLUME_CLASSES;
+const ROW_PLACES: usize = BLOCK_PLACES + VOLUME_CLASSES + MORTALITY_CLASSES;
 
 // The places of a table.
 pub const PLACES: usize = ROW_PLACES * (BLOCKS + 1);
@@ -123,6 +128,7 @@ fn columns_before(code: Code) -> usize
     match code {
         Code::Rsk => 0,
         Code::Oth => RISK_CLASSES,
+        Code::Mor => BLOCK_PLACES + VOLUME_CLASSES,
         Code::Vol => BLOCK_PLACES,
         Code::Gen => 0,
     }
@@ -187,7 +193,15 @@ pub fn general_amount(firsts: &[u64; PLACES], class: usize) -> u64
     requires { ⌜ (1 ≤ class) × (class ≤ generalClasses) ⌝ }
     ensures { λ r. ⌜ r ≡ tabled (now (firsts .entry)) Code.Gen 0 class ⌝ }
 {
-    firsts[index_of(Code::Gen, 0, class)]
+    amount_of(firsts, Code::Gen, 0, class)
+}
+
+// The amount that a table has for a code, block and class.
+pub fn amount_of(table: &[u64; PLACES], code: Code, block: usize, class: usize) -> u64
+    requires { ⌜ Key code block class ⌝ }
+    ensures { λ r. ⌜ r ≡ tabled (now (table .entry)) code block class ⌝ }
+{
+    table[index_of(code, block, class)]
 }
 
 // Whether the sheet has the scalar's line.

@@ -3,6 +3,7 @@ pub mod Picks
 pub mod Sides
 pub mod LeastOf
 pub mod Firsts
+pub mod Anys
 pub mod Values
 pub mod Eaches
 pub mod Ascents

@@ -1,5 +1,5 @@
 -- The first place that passes a test. Document 01's refusals of a call name the first bad position. Assumes nothing.
-use mathlib.Core.Bool.{Bool}
+use mathlib.Core.Bool.{Bool, true, false}
 use Prim.Native.Nat.{ℕ, zero, suc}
 use Rattle.search.specs.Pick.{pick}
 
@@ -11,3 +11,8 @@ firstFrom P i (suc n) = pick (P i) i (firstFrom P (suc i) n)
 -- the first place below n that passes `P`, and n where none does
 abbrev pub first : (ℕ → Bool) → ℕ → ℕ
 first P n = firstFrom P 0 n
+
+-- whether one of the numbers 1 to n passes `P`
+unfoldable pub anyTo : (ℕ → Bool) → ℕ → Bool
+anyTo P zero = false
+anyTo P (suc n) = pick (anyTo P n) true (P (suc n))

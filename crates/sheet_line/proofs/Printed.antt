@@ -18,7 +18,7 @@ use Rattle.sheet_line.specs.Line.{sheetLineBytes, spaced, separatedOf, c
 use Rattle.sheet_line.specs.Rules.{outside, singleOf, secondBarred, hasTrend, trendAbove, isScalar, scalarOutside}
 use Rattle.sheet_line.specs.Rules.{rule5, rule6, rule8, rule9, rule10, parseLine, AcceptedLine}
 use Rattle.sheet_line.specs.declared.Code.{Code}
-use Rattle.sheet_line.specs.declared.Code.the-variants.{Rsk, Oth, Vol, Gen}
+use Rattle.sheet_line.specs.declared.Code.the-variants.{Rsk, Oth, Mor, Vol, Gen}
 use Rattle.sheet_line.specs.declared.codes.Coded.the-variants.{Known}
 use Rattle.sheet_line.specs.declared.columns.Layout.the-variants.{Kept}
 use Rattle.sheet_line.specs.declared.Entry.{Entry}
@@ -29,6 +29,7 @@ use Rattle.sheet_line.specs.declared.Line.the-variants.{Good}
 three-letters : (k : Code) → length (lettersOf k) ≡ 3
 three-letters Rsk = refl
 three-letters Oth = refl
+three-letters Mor = refl
 three-letters Vol = refl
 three-letters Gen = refl
 
@@ -59,6 +60,7 @@ printed-code : (k : Code) (e : Entry) → codeOf (lettered (lettersOf k) e) ≡ 
 unfolding codeAmong isCode lettered decimal leadingDigits pick
 printed-code Rsk e = refl
 printed-code Oth e = refl
+printed-code Mor e = refl
 printed-code Vol e = refl
 printed-code Gen e = refl
 
@@ -86,6 +88,7 @@ rules-pass e a =
 key-small : (k : Code) (b c : ℕ) → Key k b c → (b < 100) × (c < 100)
 key-small Rsk b c v = omega arith
 key-small Oth b c v = omega arith
+key-small Mor b c v = omega arith
 key-small Vol b c v = omega arith
 key-small Gen b c v = omega arith
 

@@ -6,21 +6,22 @@ use mathlib.Core.Bool.{Bool, false}
 use lib.Dec.{eqb}
 use lib.ListN.{getD}
 use Rattle.search.specs.Pick.{pick}
-use Rattle.guideline.specs.Sizes.{blocks, risks, otherAmounts, territories, volumeClasses}
+use Rattle.guideline.specs.Sizes.{nonParticipating, blocks, risks, otherAmounts, territories, volumeClasses}
 use Rattle.sheet_line.specs.declared.Code.{Code}
-use Rattle.sheet_line.specs.declared.Code.the-variants.{Rsk, Oth, Vol, Gen}
+use Rattle.sheet_line.specs.declared.Code.the-variants.{Rsk, Oth, Mor, Vol, Gen}
 use Rattle.sheet_line.specs.declared.codes.Coded.{Coded}
 use Rattle.sheet_line.specs.declared.codes.Coded.the-variants.{Known, Unknown}
 use Rattle.sheet_line.specs.declared.codes.Range.{Range}
 
--- the codes, in the table's order
+-- the codes, in the table's order, with document 02's MOR after OTH
 abbrev pub codes : List Code
-codes = Rsk ∷ Oth ∷ Vol ∷ Gen ∷ []
+codes = Rsk ∷ Oth ∷ Mor ∷ Vol ∷ Gen ∷ []
 
--- the bytes of a code: RSK, OTH, VOL, GEN
+-- the bytes of a code: RSK, OTH, MOR, VOL, GEN
 abbrev pub lettersOf : Code → List ℕ
 lettersOf Rsk = 82 ∷ 83 ∷ 75 ∷ []
 lettersOf Oth = 79 ∷ 84 ∷ 72 ∷ []
+lettersOf Mor = 77 ∷ 79 ∷ 82 ∷ []
 lettersOf Vol = 86 ∷ 79 ∷ 76 ∷ []
 lettersOf Gen = 71 ∷ 69 ∷ 78 ∷ []
 
@@ -35,6 +36,10 @@ expensesClass = 7
 -- OTH's classes: property and casualty, credit, market
 abbrev pub otherClasses : ℕ
 otherClasses = otherAmounts
+
+-- MOR's classes: one, that of S and T, 'the level and trend sums for survival and death products' (document 02, #101)
+abbrev pub mortalityClasses : ℕ
+mortalityClasses = 1
 
 -- GEN's classes: gross components to credits
 abbrev pub generalClasses : ℕ
@@ -60,10 +65,11 @@ creditsClass = 5
 abbrev pub scalarClass : ℕ
 scalarClass = 4
 
--- the columns Block and Class of the table: 1–16 and 1–7, 1–16 and 1–3, 1–16 and 1–8, 0 and 1–5
+-- the columns Block and Class of the table: 1–16 and 1–7, 1–16 and 1–3, 1–16 and 1, 1–16 and 1–8, 0 and 1–5
 abbrev pub rangeOf : Code → Range
 rangeOf Rsk = record { lowest = 1; highest = blocks; classes = riskClasses }
 rangeOf Oth = record { lowest = 1; highest = blocks; classes = otherClasses }
+rangeOf Mor = record { lowest = 1; highest = nonParticipating; classes = mortalityClasses }
 rangeOf Vol = record { lowest = 1; highest = territories; classes = volumeClasses }
 rangeOf Gen = record { lowest = 0; highest = 0; classes = generalClasses }
 

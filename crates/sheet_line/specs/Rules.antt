@@ -12,7 +12,7 @@ use Rattle.guideline.specs.Sizes.{largestScalar}
 use Rattle.sheet_line.specs.Codes.{expensesClass, scalarClass, rangeOf, Key, codeOf}
 use Rattle.sheet_line.specs.Line.{layoutOf}
 use Rattle.sheet_line.specs.declared.Code.{Code}
-use Rattle.sheet_line.specs.declared.Code.the-variants.{Rsk, Oth, Vol, Gen}
+use Rattle.sheet_line.specs.declared.Code.the-variants.{Rsk, Oth, Mor, Vol, Gen}
 use Rattle.sheet_line.specs.declared.codes.Coded.{Coded}
 use Rattle.sheet_line.specs.declared.codes.Coded.the-variants.{Known, Unknown}
 use Rattle.sheet_line.specs.declared.columns.Numbers.{Numbers}
@@ -40,6 +40,7 @@ classOutside e = outside 1 (rangeOf (e .code) .classes) (e .class)
 abbrev pub singleOf : Code → ℕ → Bool
 singleOf Rsk c = eqb c expensesClass
 singleOf Oth c = true
+singleOf Mor c = false
 singleOf Vol c = false
 singleOf Gen c = true
 
@@ -51,6 +52,7 @@ secondBarred k c second = pick (singleOf k c) (not (eqb second 0)) false
 abbrev pub hasTrend : Code → Bool
 hasTrend Rsk = true
 hasTrend Oth = false
+hasTrend Mor = false
 hasTrend Vol = false
 hasTrend Gen = false
 
@@ -62,6 +64,7 @@ trendAbove k first second = pick (hasTrend k) (ltb first second) false
 abbrev pub isScalar : Code → ℕ → Bool
 isScalar Rsk c = false
 isScalar Oth c = false
+isScalar Mor c = false
 isScalar Vol c = false
 isScalar Gen c = eqb c scalarClass
 
@@ -95,7 +98,7 @@ rule5 e = pick (blockOutside e) (Refused 5) (rule6 e)
 abbrev pub entryOf : Code → Numbers → Entry
 entryOf k n = record { code = k; block = n .block; class = n .class; first = n .first; second = n .second }
 
--- rule 4: 'code isn't one of the four', then rule 5
+-- rule 4: 'code isn't one of the four', five with MOR; then rule 5
 abbrev pub rule4 : Coded → Numbers → Line
 rule4 Unknown n = Refused 4
 rule4 (Known k) n = rule5 (entryOf k n)

@@ -5,6 +5,7 @@ ghost use lib.ListN.{length};
 ghost use Rattle.sheet_line.specs.Codes.{rangeOf, isCode, codeOf};
 use super::Code;
 use guideline::BLOCKS;
+use guideline::NON_PARTICIPATING;
 use guideline::OTHER_AMOUNTS;
 use guideline::RISKS;
 use guideline::TERRITORIES;
@@ -31,6 +32,9 @@ pub(crate) const EXPENSES_CLASS: usize = 7;
 
 // OTH's classes: property and casualty, credit, market.
 pub const OTHER_CLASSES: usize = OTHER_AMOUNTS;
+
+// MOR's classes: one, that of S and T.
+pub const MORTALITY_CLASSES: usize = 1;
 
 // GEN's classes: gross components to credits.
 pub const GENERAL_CLASSES: usize = 5;
@@ -60,6 +64,9 @@ pub(crate) fn read_code(s: &[u8]) -> Coded
     }
     if starts_with(s, b"OTH") {
         return Coded::Known(Code::Oth);
+    }
+    if starts_with(s, b"MOR") {
+        return Coded::Known(Code::Mor);
     }
     if starts_with(s, b"VOL") {
         return Coded::Known(Code::Vol);
@@ -98,6 +105,11 @@ pub(crate) fn range_of(code: Code) -> Range
             lowest: 1,
             highest: BLOCKS as u64,
             classes: OTHER_CLASSES as u64,
+        },
+        Code::Mor => Range {
+            lowest: 1,
+            highest: NON_PARTICIPATING as u64,
+            classes: MORTALITY_CLASSES as u64,
         },
         Code::Vol => Range {
             lowest: 1,

@@ -18,6 +18,7 @@ pub const SHEET_LINE_BYTES: usize = 40;
 pub enum Code {
     Rsk,
     Oth,
+    Mor,
     Vol,
     Gen,
 }

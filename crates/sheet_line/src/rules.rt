@@ -22,7 +22,7 @@ pub(crate) fn rule_3(layout: Layout, coded: Coded) -> Line
     rule_4(coded, n)
 }
 
-// Rule 4: the code isn't one of the four.
+// Rule 4: the code isn't one of the five.
 fn rule_4(coded: Coded, n: Numbers) -> Line
     ensures { λ r. ⌜ r ≡ rule4 coded n ⌝ }
 {
@@ -122,6 +122,7 @@ fn single(code: Code, class: u64) -> bool
     match code {
         Code::Rsk => class == EXPENSES_CLASS as u64,
         Code::Oth => true,
+        Code::Mor => false,
         Code::Vol => false,
         Code::Gen => true,
     }
@@ -137,13 +138,15 @@ fn trend_above(code: Code, first: u64, second: u64) -> bool
     false
 }
 
-// Whether a line's second amount is a part of the first. Volumes may fall or rise, so a second one above the first is nothing wrong.
+// Whether a line's second amount is a part of the first. Volumes may fall or rise, and T may pass
+// S, so a second one above the first is nothing wrong there.
 fn has_trend(code: Code) -> bool
     ensures { λ r. ⌜ r ≡ hasTrend code ⌝ }
 {
     match code {
         Code::Rsk => true,
         Code::Oth => false,
+        Code::Mor => false,
         Code::Vol => false,
         Code::Gen => false,
     }
@@ -166,6 +169,7 @@ fn is_scalar(code: Code, class: u64) -> bool
     match code {
         Code::Rsk => false,
         Code::Oth => false,
+        Code::Mor => false,
         Code::Vol => false,
         Code::Gen => class == SCALAR_CLASS as u64,
     }

@@ -5,6 +5,10 @@ use crate::{Refusal, BLOCK_NUMBERS, FIGURES, LARGEST_AMOUNT, RISKS};
 /// LT(7), of expenses.
 pub(crate) const EXPENSES_LT: usize = 2 * RISKS - 1;
 
+/// IR(1) and LT(1), of mortality.
+pub(crate) const MORTALITY_IR: usize = 0;
+pub(crate) const MORTALITY_LT: usize = 1;
+
 /// The positions of PC, credit and market.
 pub(crate) const PC: usize = 2 * RISKS;
 const CREDIT: usize = PC + 1;
@@ -93,7 +97,7 @@ fn m(v: u128, d: u128) -> u128 {
 }
 
 /// The least whole number whose square is at least the radicand, found by halving an interval.
-fn root_up(radicand: u128) -> u128 {
+pub(crate) fn root_up(radicand: u128) -> u128 {
     let (mut below, mut enough) = (0, 1 << 62);
     if radicand == 0 {
         return 0;

@@ -14,12 +14,16 @@
 //!   broken when it is at or above the upper end.
 //!
 //! Between the ends the bracket can't decide, and the sheet counts as agreeing.
+//!
+//! #101: the exact values take IR(1) and LT(1) after the reported credit, which is by how much a block's reported U and
+//! LT are below the sheet's. The exact credit is S + T less the root of S² + T² − 1.5 × S × T; whole numbers decide.
 
 use crate::big::Big;
-use crate::block::{terms, Terms};
+use crate::block::{terms, Terms, MORTALITY_LT};
+use crate::mortality::twice_radicand;
 use crate::operational::over_50_000;
-use crate::sheet::{number, read_sheet, Sheet, REPORT_NUMBER};
-use crate::{FIGURES, REPORT_LINE_BYTES};
+use crate::sheet::{lower, number, read_sheet, Sheet, REPORT_NUMBER};
+use crate::{BLOCK_NUMBERS, FIGURES, REPORT_LINE_BYTES};
 
 /// Even, so that a quarter of SCALE² is a whole number.
 const SCALE: u128 = 100_000_000_000_000_000_000;
@@ -32,10 +36,41 @@ pub fn demand3(sheet: &[u8], report: &[u8]) -> Result<(), String> {
 /// As demand3, and whether the bracket decided both bounds of the buffer.
 pub fn judge(sheet: &[u8], report: &[u8]) -> Result<bool, String> {
     let sheet = read_sheet(sheet).map_err(|refusal| format!("the sheet is refused: {refusal:?}"))?;
-    for (at, &block) in sheet.blocks.keys().enumerate() {
+    let mut blocks = Vec::new();
+    for (at, (&block, amounts)) in sheet.blocks.iter().enumerate() {
+        let credit = reported_credit(report, at, block, amounts)?;
+        judge_credit(credit, sheet.sums(block)).map_err(|why| format!("block {block}: {why}"))?;
         judge_block(report, at, block)?;
+        blocks.push((block, lower(amounts, credit)));
     }
-    judge_buffer(&sheet, figure(report, FIGURES * sheet.blocks.len() + 2, "TOT", 0, 3)?)
+    judge_buffer(&sheet, &blocks, figure(report, FIGURES * blocks.len() + 2, "TOT", 0, 3)?)
+}
+
+/// #101: by how much the reported U and LT of a block are below those of the amounts entered.
+fn reported_credit(report: &[u8], at: usize, block: u64, amounts: &[u64; BLOCK_NUMBERS]) -> Result<u64, String> {
+    let item = |item: usize| figure(report, FIGURES * at + item - 1, "BLK", block, item);
+    let Terms { u, lt, .. } = terms(amounts);
+    let (of_u, of_lt) = (u.checked_sub(item(3)?.into()), lt.checked_sub(item(4)?.into()));
+    match of_u {
+        Some(credit) if of_u == of_lt && credit <= amounts[MORTALITY_LT].into() => Ok(credit as u64),
+        _ => Err(format!("block {block}: U and LT aren't those after a credit")),
+    }
+}
+
+/// #101: the credit is at most the exact one and less than a cent below it. A number is at or below the exact credit
+/// when S + T less it is 0 or more, with a square that is at least S² + T² − 1.5 × S × T.
+fn judge_credit(credit: u64, (s, t): (u64, u64)) -> Result<(), String> {
+    let at_or_below = |credit: u64| match (s + t).checked_sub(credit) {
+        Some(rest) => 2 * u128::from(rest) * u128::from(rest) >= twice_radicand(s, t),
+        None => false,
+    };
+    if !at_or_below(credit) {
+        return Err(format!("the credit {credit} is above the exact one"));
+    }
+    if at_or_below(credit + 1) {
+        return Err(format!("the credit {credit} is a cent or more below the exact one"));
+    }
+    Ok(())
 }
 
 /// For every block 2 × K is at least LT + D, and K is at most U, all as reported.
@@ -51,11 +86,11 @@ fn judge_block(report: &[u8], at: usize, block: u64) -> Result<(), String> {
     Ok(())
 }
 
-/// The reported buffer's two bounds, and whether the bracket decided both.
-fn judge_buffer(sheet: &Sheet, buffer: u64) -> Result<bool, String> {
+/// The reported buffer's two bounds, of blocks after the reported credits, and whether the bracket decided both.
+fn judge_buffer(sheet: &Sheet, blocks: &[(u64, [u64; BLOCK_NUMBERS])], buffer: u64) -> Result<bool, String> {
     // The exact sum of K, in cents × SCALE².
     let (mut lower, mut upper) = (Big::from(0), Big::from(0));
-    for (block, amounts) in &sheet.blocks {
+    for (block, amounts) in blocks {
         let (low, high) = exact_k(&terms(amounts)).ok_or(format!("block {block}: no d fits"))?;
         lower = lower + low;
         upper = upper + high;
@@ -69,7 +104,7 @@ fn judge_buffer(sheet: &Sheet, buffer: u64) -> Result<bool, String> {
     let reported = (of(buffer) * ten_thousand + g * of(sheet.credits())) * fifty_thousand * cents;
     let exact = |sum_of_k: Big| g * ((sum_of_k + of(sheet.guarantee()) * cents) * fifty_thousand + ro * cents);
     // The allowance is g × (2n + 1) + 1 cents.
-    let n = sheet.blocks.len() as u128;
+    let n = blocks.len() as u128;
     let allowance = (g * Big::from(2 * n + 1) + ten_thousand) * fifty_thousand * cents;
 
     let (lower, upper) = (exact(lower), exact(upper));

@@ -169,8 +169,12 @@ struct Line {
 }
 
 impl Line {
+    fn is(&self, code: &str, block: u64, class: u64) -> bool {
+        (self.code, self.block, self.class) == (code, block, class)
+    }
+
     fn is_scalar(&self) -> bool {
-        self.code == "GEN" && self.class == SCALAR
+        self.is("GEN", 0, SCALAR)
     }
 }
 
@@ -201,6 +205,7 @@ fn sound_lines(random: &mut Random) -> Vec<Line> {
     for block in numbers(random, manner.full) {
         block_lines(random, &manner, block, &mut lines);
     }
+    mortality_lines(random, &manner, &mut lines);
     for block in numbers(random, manner.full) {
         for class in 1..=VOLUME_CLASSES as u64 {
             if manner.stands(random) {
@@ -240,6 +245,62 @@ fn block_lines(random: &mut Random, manner: &Manner, block: u64, lines: &mut Vec
         let (code, class) = random.pick(&[("RSK", 1), ("RSK", EXPENSES), ("OTH", 1), ("OTH", 3)]);
         lines.push(Line { code, block, class, first: 0, second: 0 });
     }
+}
+
+/// The MOR lines, of some blocks that exist and of a few that don't, with credits up to LT(1).
+fn mortality_lines(random: &mut Random, manner: &Manner, lines: &mut Vec<Line>) {
+    for block in 1..=MOST_BLOCKS as u64 {
+        let exists = lines.iter().any(|l| l.block == block);
+        if manner.stands(random) && (manner.full || exists || random.one_in(4)) {
+            let (s, t) = sums(random, manner.style, mortality_lt(lines, block));
+            lines.push(Line { code: "MOR", block, class: 1, first: s, second: t });
+        }
+    }
+}
+
+/// LT(1) of a block, 0 where there is no such line.
+fn mortality_lt(lines: &[Line], block: u64) -> u64 {
+    lines.iter().find(|l| l.is("RSK", block, 1)).map_or(0, |l| l.second)
+}
+
+/// S and T with a credit up to this: one of them 0, both alike, the credit reached to the cent, or one of any size.
+fn sums(random: &mut Random, style: u64, most: u64) -> (u64, u64) {
+    let credit = part_of(random, most);
+    let any = amount(random, style);
+    let (s, t) = match random.below(6) {
+        0 => (any, 0),
+        1 => {
+            let both = largest(|both| mortality_credit(both, both) <= credit);
+            (both, both)
+        }
+        2 | 3 => nearly_alike(random, credit),
+        _ => (largest(|s| mortality_credit(s, any) <= credit), any),
+    };
+    if random.one_in(2) {
+        (s, t)
+    } else {
+        (t, s)
+    }
+}
+
+/// S and T with just this credit: a cent more on S raises it by less than a cent where T isn't much the larger.
+fn nearly_alike(random: &mut Random, credit: u64) -> (u64, u64) {
+    let t = credit / 129 * 100 + credit % 129 * 100 / 129 + random.below(3);
+    (largest(|s| mortality_credit(s, t) <= credit), t)
+}
+
+/// The largest amount that is as wanted: 0 is, and an amount is only where all smaller ones are.
+fn largest(wanted: impl Fn(u64) -> bool) -> u64 {
+    let (mut fits, mut above) = (0, LARGEST_AMOUNT + 1);
+    while above - fits > 1 {
+        let middle = (fits + above) / 2;
+        if wanted(middle) {
+            fits = middle;
+        } else {
+            above = middle;
+        }
+    }
+    fits
 }
 
 /// The GEN lines. The credits come last, because the lines before them limit them.
@@ -360,13 +421,13 @@ fn room(random: &mut Random, lines: &[Line]) -> usize {
 /// A sound sheet with one fault, or two or three of any kinds together.
 fn damaged(random: &mut Random, mut lines: Vec<Line>) -> Vec<u8> {
     let faults = random.pick(&[1, 1, 1, 2, 2, 3]);
-    let mut kinds: Vec<u64> = (0..faults).map(|_| random.below(18)).collect();
+    let mut kinds: Vec<u64> = (0..faults).map(|_| random.below(19)).collect();
     // Faults of amounts come before faults of bytes, credits first, because they need sound lines.
     kinds.sort();
     kinds.dedup();
     let mut sheet = None;
     for kind in kinds {
-        if kind < 9 {
+        if kind < 10 {
             damage_lines(random, &mut lines, kind);
             // Later faults need a line to stand in.
             if lines.is_empty() {
@@ -384,49 +445,72 @@ fn damage_lines(random: &mut Random, lines: &mut Vec<Line>, kind: u64) {
     match kind {
         // 13
         0 => credits_above_bracket(random, lines),
+        // 16
+        1 => credit_above_lt(random, lines),
         // 5
-        1 => {
+        2 => {
             let at = random.at(lines.len());
             lines[at].block = block_outside(random, lines[at].code);
         }
         // 6
-        2 => {
+        3 => {
             let at = random.at(lines.len());
             lines[at].class = class_outside(random, lines[at].code);
         }
         // 8: a second amount that must be 0
-        3 => {
+        4 => {
             let at = line_of(random, lines, |l| l.code == "OTH" || l.code == "GEN");
             lines[at].second = some_amount(random);
         }
         // 8: LT(7), which may be above IR(7) too
-        4 => {
+        5 => {
             let at = line_of(random, lines, |l| l.code == "RSK");
             lines[at].class = EXPENSES;
             lines[at].second = some_amount(random);
         }
         // 9
-        5 => lt_above_ir(random, lines),
+        6 => lt_above_ir(random, lines),
         // 10
-        6 => {
+        7 => {
             let at = line_of(random, lines, Line::is_scalar);
             lines[at].first = random.pick(&[0, LARGEST_SCALAR + 1, LARGEST_SCALAR + 2, 100_000, LARGEST_AMOUNT]);
         }
         // 11
-        7 => line_twice(random, lines),
+        8 => line_twice(random, lines),
         // 12
         _ => lines.retain(|l| !l.is_scalar()),
     }
 }
 
 fn credits_above_bracket(random: &mut Random, lines: &mut Vec<Line>) {
-    lines.retain(|l| !(l.code == "GEN" && l.class == CREDITS));
+    lines.retain(|l| !l.is("GEN", 0, CREDITS));
     if bracket(lines) >= LARGEST_AMOUNT {
         lines.retain(Line::is_scalar);
     }
     let least = bracket(lines) + 1;
     let first = if random.one_in(2) { least } else { random.from(least, LARGEST_AMOUNT) };
     put(random, lines, general_line(CREDITS, first));
+}
+
+/// A credit above LT(1), by a cent or more, of a block that exists or doesn't; alone, beside 12 or beside 13.
+fn credit_above_lt(random: &mut Random, lines: &mut Vec<Line>) {
+    let mut block = random.from(1, MOST_BLOCKS as u64);
+    if random.one_in(2) {
+        let risk = line_of(random, lines, |l| l.code == "RSK" && l.class == 1);
+        block = lines[risk].block;
+    }
+    lines.retain(|l| !l.is("MOR", block, 1));
+    let lt = mortality_lt(lines, block);
+    let (s, t) = if random.one_in(4) { (LARGEST_AMOUNT, LARGEST_AMOUNT) } else { nearly_alike(random, lt + 1) };
+    put(random, lines, Line { code: "MOR", block, class: 1, first: s, second: t });
+    match random.below(4) {
+        0 => lines.retain(|l| !l.is_scalar()),
+        1 => {
+            lines.retain(|l| !l.is("GEN", 0, CREDITS));
+            put(random, lines, general_line(CREDITS, LARGEST_AMOUNT));
+        }
+        _ => {}
+    }
 }
 
 fn block_outside(random: &mut Random, code: &str) -> u64 {
@@ -489,9 +573,9 @@ fn line_of(random: &mut Random, lines: &mut Vec<Line>, wanted: impl Fn(&Line) ->
 /// NUL, tab, line feed, carriage return, signs, points, the neighbours of the digits, letters, bytes above 127.
 const STRANGE: [u8; 17] = [0, 9, 10, 11, 13, b'+', b',', b'-', b'.', b'/', b':', b'A', 127, 128, 160, 233, 255];
 
-const WRONG_CODES: [[u8; 3]; 14] = [
+const WRONG_CODES: [[u8; 3]; 15] = [
     *b"rsk", *b"RSX", *b"XSK", *b"   ", *b"BLK", *b"TOT", *b"REF", *b"OHT", *b"VO ", *b" GE", *b"\0\0\0", *b"GE\n",
-    *b"VO\r", *b"\xCBSK",
+    *b"VO\r", *b"\xCBSK", *b"MOT",
 ];
 
 /// Puts in a fault of bytes, of this kind: the refusal that it is to give is named.
@@ -505,29 +589,29 @@ fn damage_bytes(random: &mut Random, sheet: &mut Vec<u8>, kind: u64) {
     let field = &mut line[FIELDS[random.at(FIELDS.len())].clone()];
     match kind {
         // 3: a wrong byte in a number
-        9 => field[random.at(field.len())] = random.pick(&STRANGE),
+        10 => field[random.at(field.len())] = random.pick(&STRANGE),
         // 3: a wrong byte between the columns or at the end
-        10 => {
+        11 => {
             let any = random.pick(&STRANGE);
             let [one, two, three, four] = SPACES;
             line[random.pick(&[one, two, three, four, LINE_FEED])] = random.pick(&[any, b'0', b'7', 0, 9, 13, 200]);
         }
         // 3
-        11 => move_number(random, field),
+        12 => move_number(random, field),
         // 4: a wrong code
-        12 => line[CODE].copy_from_slice(&random.pick(&WRONG_CODES)),
+        13 => line[CODE].copy_from_slice(&random.pick(&WRONG_CODES)),
         // 4: a wrong byte in the code
-        13 => line[random.at(CODE.len())] = random.pick(&STRANGE),
+        14 => line[random.at(CODE.len())] = random.pick(&STRANGE),
         // 2
-        14 => cut_or_lengthen(random, sheet),
+        15 => cut_or_lengthen(random, sheet),
         // 1: too long, by a byte, a line, or more
-        15 => {
+        16 => {
             let any = 1 + random.at(10 * LINE_BYTES);
             let length = LONGEST_SHEET + random.pick(&[1, 1, LINE_BYTES, any]);
             *sheet = sheet.iter().copied().cycle().take(length).collect();
         }
         // 2 or 3
-        16 => longer_line(random, sheet, at),
+        17 => longer_line(random, sheet, at),
         _ => *sheet = any_bytes(random),
     }
 }
@@ -564,6 +648,6 @@ fn longer_line(random: &mut Random, sheet: &mut Vec<u8>, at: usize) {
 /// Any bytes at all, or any of those that a sheet has.
 fn any_bytes(random: &mut Random) -> Vec<u8> {
     let length = LINE_BYTES * random.pick(&[1, 2, 10]) + random.pick(&[0, 0, 1, LINE_BYTES - 1]);
-    let alphabet: Vec<u8> = if random.one_in(2) { (0..=255).collect() } else { b" 0123456789RSKGEN\n".to_vec() };
+    let alphabet: Vec<u8> = if random.one_in(2) { (0..=255).collect() } else { b" 0123456789RSKGENMO\n".to_vec() };
     (0..length).map(|_| random.pick(&alphabet)).collect()
 }

@@ -1,7 +1,8 @@
-//! The calculator of document 01 in plain Rust with u128: no dependency, nothing clever, and no code shared with the
-//! calculator itself. It is a test oracle: what it answers is compared with what the calculator answers.
+//! The calculator of document 01, with request #101 of document 02, in plain Rust with u128: no dependency, nothing
+//! clever, and no code shared with the calculator itself. It is a test oracle: what it answers is compared with what the
+//! calculator answers.
 //!
-//! Comments in quotes name a section of document 01.
+//! Comments in quotes name a section of document 01; a number as #101 is a request of document 02.
 
 // Indexes are written as the papers write them.
 #![allow(clippy::needless_range_loop)]
@@ -11,12 +12,14 @@ mod block;
 mod demand3;
 mod example;
 pub mod generate;
+mod mortality;
 mod operational;
 mod sheet;
 
 pub use block::block_call;
 pub use demand3::{demand3, judge};
 pub use example::{example, EXAMPLE_FIGURES, WHOLE_RUN, WHOLE_RUN_REPORT};
+pub use mortality::{aggregate, mortality_credit};
 pub use operational::operational_call;
 pub use sheet::{all_lines, report_length, report_line, sheet_call, sheet_line};
 
@@ -61,8 +64,8 @@ pub const LARGEST_SCALAR: u64 = 20_000;
 pub const LINE_BYTES: usize = 40;
 pub const REPORT_LINE_BYTES: usize = 29;
 
-/// "What is turned away", row 1: 293 lines, one for every code, block and class there is.
-pub const MOST_LINES: usize = 293;
+/// "What is turned away", row 1, as #101 has it: 309 lines, one for every code, block and class there is.
+pub const MOST_LINES: usize = 309;
 pub const LONGEST_SHEET: usize = MOST_LINES * LINE_BYTES;
 
 /// "The sheet and the report": room for 16 blocks.

@@ -1,14 +1,16 @@
 //! "The sheet and the report": the sheet call.
 
-use crate::block::PC;
+use crate::block::{MORTALITY_IR, MORTALITY_LT, PC};
 use crate::*;
 use std::collections::{BTreeMap, BTreeSet};
 use std::ops::{Range, RangeInclusive};
 
 /// What a sheet says. An absent line means zeros.
 pub(crate) struct Sheet {
-    /// The blocks that exist, ascending, each with the numbers of the block call.
+    /// The blocks that exist, ascending, each with the numbers of the block call as they were entered.
     pub blocks: BTreeMap<u64, [u64; BLOCK_NUMBERS]>,
+    /// #101: S and T of the blocks that have such a line.
+    mortality: BTreeMap<u64, (u64, u64)>,
     /// The territories, as the operational call takes them.
     pub volumes: [u64; MOST_VOLUMES],
     /// GEN classes 1 to 5 at 0 to 4.
@@ -29,9 +31,21 @@ impl Sheet {
         self.general[CREDITS as usize - 1]
     }
 
+    /// #101: S and T of a block.
+    pub fn sums(&self, block: u64) -> (u64, u64) {
+        self.mortality.get(&block).copied().unwrap_or_default()
+    }
+    /// #101: LT(1) of a block, which need not exist.
+    fn mortality_lt(&self, block: u64) -> u64 {
+        self.blocks.get(&block).map_or(0, |amounts| amounts[MORTALITY_LT])
+    }
     /// Each block's number with its I, D, U, LT and K. Lines that were accepted can't be refused by the two calls.
     pub fn figures(&self) -> Vec<(u64, [u64; FIGURES])> {
-        self.blocks.iter().map(|(&number, amounts)| (number, block_call(amounts).unwrap())).collect()
+        let lowered = |(&number, amounts)| {
+            let (s, t) = self.sums(number);
+            (number, lower(amounts, mortality_credit(s, t)))
+        };
+        self.blocks.iter().map(lowered).map(|(number, amounts)| (number, block_call(&amounts).unwrap())).collect()
     }
     pub fn sum_of_k(&self) -> u64 {
         self.figures().iter().map(|(_, figures)| figures[4]).sum()
@@ -43,6 +57,14 @@ impl Sheet {
     pub fn before_credits(&self) -> u64 {
         self.sum_of_k() + self.guarantee() + self.ro()
     }
+}
+
+/// #101: the credit lowers both IR(1) and LT(1) of the block. It isn't above LT(1).
+pub(crate) fn lower(amounts: &[u64; BLOCK_NUMBERS], credit: u64) -> [u64; BLOCK_NUMBERS] {
+    let mut lowered = *amounts;
+    lowered[MORTALITY_IR] -= credit;
+    lowered[MORTALITY_LT] -= credit;
+    lowered
 }
 
 /// The sheet call: the report's length, and the report in the lent bytes. A refusal changes none of them.
@@ -106,11 +128,11 @@ pub fn all_lines(blocks: usize) -> Vec<(&'static str, u64, u64)> {
         let (_, classes) = ranges(code.as_bytes()).unwrap();
         classes.map(move |class| (code, block, class))
     };
-    let of_blocks = (1..=blocks as u64).flat_map(|block| ["RSK", "OTH", "VOL"].map(|code| (code, block)));
+    let of_blocks = (1..=blocks as u64).flat_map(|block| ["RSK", "OTH", "MOR", "VOL"].map(|code| (code, block)));
     of_blocks.chain([("GEN", 0)]).flat_map(|(code, block)| lines_of(code, block)).collect()
 }
 
-/// "What is turned away": 1, 2, the first bad line, 12.
+/// "What is turned away": 1, 2, the first bad line, 12; by #101 then 16.
 pub(crate) fn read_sheet(bytes: &[u8]) -> Result<Sheet, Refusal> {
     if bytes.len() > LONGEST_SHEET {
         return Err(Refusal::nowhere(1));
@@ -118,7 +140,12 @@ pub(crate) fn read_sheet(bytes: &[u8]) -> Result<Sheet, Refusal> {
     if !bytes.len().is_multiple_of(LINE_BYTES) {
         return Err(Refusal::nowhere(2));
     }
-    let mut sheet = Sheet { blocks: BTreeMap::new(), volumes: [0; MOST_VOLUMES], general: [0; GENERAL_CLASSES] };
+    let mut sheet = Sheet {
+        blocks: BTreeMap::new(),
+        mortality: BTreeMap::new(),
+        volumes: [0; MOST_VOLUMES],
+        general: [0; GENERAL_CLASSES],
+    };
     let mut stood_before = BTreeSet::new();
     for (at, bytes) in bytes.chunks(LINE_BYTES).enumerate() {
         let line = read_line(bytes).map_err(|number| Refusal::at_line(number, at + 1))?;
@@ -131,6 +158,10 @@ pub(crate) fn read_sheet(bytes: &[u8]) -> Result<Sheet, Refusal> {
     // An accepted g line is never 0, so 0 means that there is none.
     if sheet.scalar() == 0 {
         return Err(Refusal::nowhere(12));
+    }
+    // 16: a credit above its block's LT(1).
+    if sheet.mortality.iter().any(|(&block, &(s, t))| mortality_credit(s, t) > sheet.mortality_lt(block)) {
+        return Err(Refusal::nowhere(16));
     }
     Ok(sheet)
 }
@@ -148,7 +179,7 @@ fn read_line(bytes: &[u8]) -> Result<Line<'_>, u8> {
     // 3: columns 4–40 break the layout.
     let line = read_layout(bytes).ok_or(3)?;
     let Line { code, block, class, first, second } = line;
-    // 4: the code isn't one of the four.
+    // 4: the code isn't one of the four, five with #101.
     let (blocks, classes) = ranges(code).ok_or(4)?;
     // 5 and 6: block, class outside the code's range.
     if !blocks.contains(&block) {
@@ -178,6 +209,7 @@ pub(crate) fn ranges(code: &[u8]) -> Option<(RangeInclusive<u64>, RangeInclusive
     match code {
         b"RSK" => Some((blocks, 1..=RISKS as u64)),
         b"OTH" => Some((blocks, 1..=3)),
+        b"MOR" => Some((blocks, 1..=1)),
         b"VOL" => Some((1..=MOST_TERRITORIES as u64, 1..=VOLUME_CLASSES as u64)),
         b"GEN" => Some((0..=0, 1..=GENERAL_CLASSES as u64)),
         _ => None,
@@ -196,6 +228,10 @@ impl Sheet {
                 amounts[2 * at + 1] = line.second;
             }
             b"OTH" => self.blocks.entry(line.block).or_insert([0; BLOCK_NUMBERS])[PC + at] = line.first,
+            // It makes no block exist.
+            b"MOR" => {
+                self.mortality.insert(line.block, (line.first, line.second));
+            }
             b"VOL" => {
                 let territory = TERRITORY_NUMBERS * (line.block as usize - 1);
                 self.volumes[territory + 2 * at] = line.first;

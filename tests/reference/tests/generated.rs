@@ -64,7 +64,7 @@ fn cases_reach_every_row() {
     }
     println!("answers of {cases} cases, 0 for accepted: {counts:?}");
     let reached: Vec<u8> = counts.keys().copied().collect();
-    assert_eq!(reached, [0, 1, 2, 3, 4, 5, 6, 8, 9, 10, 11, 12, 13, 14]);
+    assert_eq!(reached, [0, 1, 2, 3, 4, 5, 6, 8, 9, 10, 11, 12, 13, 14, 16]);
     assert!(counts.values().all(|&count| count >= 100), "{counts:?}");
 }
 
@@ -100,4 +100,46 @@ fn cases_repeat() {
         assert_eq!(operational_numbers(6, index), operational_numbers(6, index));
     }
     assert!((0..200).any(|index| case(6, index) != case(7, index)));
+}
+
+/// S and T of every kind stand: none, alike, far apart, the credit LT(1) itself and a cent above it, and a block that
+/// doesn't exist.
+#[test]
+fn sums_of_every_kind() {
+    let mut counts: BTreeMap<&str, u64> = BTreeMap::new();
+    for index in 0..6_000 {
+        let (sheet, _) = case(8, index);
+        let lines: Vec<Vec<&str>> = sheet
+            .chunks(LINE_BYTES)
+            .map(|line| std::str::from_utf8(line).unwrap_or_default().split_whitespace().collect())
+            .collect();
+        let amount = |text: &str| text.parse::<u64>().unwrap_or(0);
+        for line in lines.iter().filter(|line| line.len() == 5 && line[0] == "MOR") {
+            let (s, t) = (amount(line[3]), amount(line[4]));
+            let credit = mortality_credit(s, t);
+            let of_block = |other: &&Vec<&str>| other.len() == 5 && other[1] == line[1];
+            let risk = lines.iter().filter(of_block).find(|other| other[0] == "RSK" && other[2] == "1");
+            let lt = risk.map_or(0, |risk| amount(risk[4]));
+            let exists = lines.iter().filter(of_block).any(|other| other[0] == "RSK" || other[0] == "OTH");
+            let kinds = [
+                ("no credit", credit == 0 && s + t > 0),
+                ("zeros", s + t == 0),
+                ("alike", s == t && s > 0),
+                ("far apart", s > 1_000 * (t + 1) && t > 0),
+                ("the largest", s == LARGEST_AMOUNT && t > 0),
+                ("T above S", t > s && s > 0),
+                ("a part of LT(1)", 0 < credit && credit < lt),
+                ("all of LT(1)", credit == lt && credit > 0),
+                ("a cent above LT(1)", credit == lt + 1 && lt > 0),
+                ("no line of risk 1", risk.is_none() && exists && credit > 0),
+                ("no block, accepted", !exists && credit == 0),
+                ("no block, refused", !exists && credit > 0),
+            ];
+            for (kind, holds) in kinds {
+                *counts.entry(kind).or_default() += u64::from(holds);
+            }
+        }
+    }
+    println!("pairs S and T in 6,000 cases: {counts:?}");
+    assert!(counts.values().all(|&count| count >= 10), "{counts:?}");
 }

@@ -98,8 +98,95 @@ fn whole_run() {
 /// "The sheet and the report", "What is turned away": the longest of both, and a line for every code, block and class.
 #[test]
 fn longest_sheet_and_report() {
-    assert_eq!([LONGEST_SHEET, LONGEST_REPORT], [11_720, 2_407]);
-    assert_eq!(all_lines(MOST_BLOCKS).len(), MOST_LINES);
+    assert_eq!([LONGEST_SHEET, LONGEST_REPORT], [12_360, 2_407]);
+    let mut sheet: Vec<u8> =
+        all_lines(MOST_BLOCKS).iter().flat_map(|&(code, block, class)| sheet_line(code, block, class, 1, 0)).collect();
+    assert_eq!(sheet.len(), LONGEST_SHEET);
+    assert_eq!(run(&sheet).map(|report| report.len()), Ok(LONGEST_REPORT));
+    // A line more, and a byte more.
+    sheet.extend(sheet_line("GEN", 0, 1, 0, 0));
+    assert_eq!(run(&sheet), Err(Refusal::nowhere(1)));
+    assert_eq!(run(&sheet[..=LONGEST_SHEET]), Err(Refusal::nowhere(1)));
+}
+
+/// #101: the figures that it prints, the largest pair, and pairs of which one is 0.
+#[test]
+fn survival_and_death() {
+    assert_eq!((aggregate(100, 100), mortality_credit(100, 100)), (71, 129));
+    assert_eq!(aggregate(LARGEST_AMOUNT, LARGEST_AMOUNT), 70_710_678_118_655);
+    assert_eq!(mortality_credit(LARGEST_AMOUNT, LARGEST_AMOUNT), 129_289_321_881_343);
+    // 60² + 20² − 1.5 × 60 × 20 is 2,200, between the squares of 46 and 47.
+    assert_eq!((aggregate(60, 20), mortality_credit(60, 20)), (47, 33));
+    // T is two thirds of S: the aggregate is T and the credit S.
+    assert_eq!((aggregate(300, 200), mortality_credit(300, 200)), (200, 300));
+    for amount in [0, 1, 2, 3, 1_000, LARGEST_AMOUNT] {
+        assert_eq!((mortality_credit(amount, 0), mortality_credit(0, amount)), (0, 0));
+    }
+    assert_eq!((mortality_credit(1, 1), mortality_credit(1, 2), mortality_credit(2, 1)), (1, 1, 1));
+}
+
+/// #101: the aggregate is the least, by its own words, and S and T may be exchanged.
+#[test]
+fn the_aggregate_is_the_least() {
+    for s in 0..60_u64 {
+        for t in 0..60 {
+            // S² + T² − 1.5 × S × T, doubled.
+            let enough = |n: u64| 2 * n * n + 3 * s * t >= 2 * s * s + 2 * t * t;
+            let n = aggregate(s, t);
+            assert!(enough(n) && (n == 0 || !enough(n - 1)), "{s} and {t}");
+            assert_eq!(n, aggregate(t, s));
+        }
+    }
+}
+
+/// Risk 1 of block 1, g, and S and T of a block.
+fn with_sums(block: u64, s: u64, t: u64) -> Vec<u8> {
+    let lines = [("RSK", 1, 1, 1_000, 129), ("MOR", block, 1, s, t), ("GEN", 0, SCALAR, 10_000, 0)];
+    lines.iter().flat_map(|&(code, block, class, one, two)| sheet_line(code, block, class, one, two)).collect()
+}
+
+/// #101: the report's figures are those after the credit; a credit above LT(1) is refused.
+#[test]
+fn the_credit_lowers_risk_1() {
+    let figures = |report: &[u8]| -> Vec<u64> {
+        let lines = std::str::from_utf8(report).unwrap().lines();
+        lines.map(|line| line.split_whitespace().last().unwrap().parse().unwrap()).collect()
+    };
+    // The credit of 100 and 100 is LT(1): IR(1) becomes 871 and LT(1) 0.
+    let report = run(&with_sums(1, 100, 100)).unwrap();
+    let [i, d, u, lt, k] = block(&[(0, 871)]);
+    assert_eq!(figures(&report), [i, d, u, lt, k, k, 0, k]);
+    assert_eq!((u, lt), (871, 0));
+    // A cent above.
+    assert_eq!(mortality_credit(101, 101), 130);
+    assert_eq!(run(&with_sums(1, 101, 101)), Err(Refusal::nowhere(16)));
+    // The line makes no block exist, and without RSK 1 LT(1) is 0.
+    assert_eq!(run(&with_sums(2, 1, 1)), Err(Refusal::nowhere(16)));
+    let report = run(&with_sums(2, 100, 0)).unwrap();
+    assert_eq!(report.len(), report_length(1));
+    assert_eq!(figures(&report)[2..4], [1_000, 129]);
+}
+
+/// #101: demand 3 takes the credit off the report, and one that is a cent off breaks it.
+#[test]
+fn demand_3_on_the_credit() {
+    let sheet = with_sums(1, 100, 99);
+    let report = String::from_utf8(run(&sheet).unwrap()).unwrap();
+    assert_eq!(demand3(&sheet, report.as_bytes()), Ok(()));
+    let with = |u: u64, lt: u64| {
+        let lines = [(3, u), (4, lt)].map(|(item, figure)| report_line("BLK", 1, item, figure));
+        let mut other = report.clone().into_bytes();
+        other[2 * REPORT_LINE_BYTES..4 * REPORT_LINE_BYTES].copy_from_slice(&lines.concat());
+        demand3(&sheet, &other)
+    };
+    let credit = mortality_credit(100, 99);
+    assert_eq!(credit, 128);
+    assert_eq!(with(1_000 - credit, 129 - credit), Ok(()));
+    let why = |answer: Result<(), String>| answer.unwrap_err();
+    assert!(why(with(1_000 - credit - 1, 129 - credit - 1)).contains("above the exact one"));
+    assert!(why(with(1_000 - credit + 1, 129 - credit + 1)).contains("below the exact one"));
+    assert!(why(with(1_000 - credit, 129)).contains("after a credit"));
+    assert!(why(with(1_001, 130)).contains("after a credit"));
 }
 
 /// "What is turned away": the block call's order and places.

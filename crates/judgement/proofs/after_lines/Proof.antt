@@ -1,22 +1,20 @@
--- Rules 12 and 13 in turn; past both, each number that is worked out is the lines' own. Assumes nothing.
+-- Rules 12 and 16 in turn; past both, rule 13 is told of lines whose credits none of its blocks' LT(1) falls short of. Assumes nothing.
 use mathlib.Core.Path.{_≡_, sym, _∙_}
 use mathlib.Core.List.{List}
-use mathlib.Core.Bool.{true}
-use Prim.Native.Nat.{_+_, _≤_}
-use native.Mathlib.Omega.{arith}
+use mathlib.Core.Bool.{true, false}
 use borrow.Author.Needs.{needs}
 use borrow.Author.Tests.{not-true, not-false}
-use Rattle.guideline.specs.Buffer.{available, mostAvailable}
+use Rattle.search.specs.First.{anyTo}
+use Rattle.guideline.specs.Sizes.{nonParticipating}
 use Rattle.sheet_line.specs.Codes.{scalarClass}
 use Rattle.sheet_line.specs.declared.Code.the-variants.{Gen}
 use Rattle.sheet_line.specs.declared.Entry.{Entry}
 use Rattle.ledger.specs.Entries.{hasLine}
-use Rattle.judgement.specs.Sheet.{sheetOf}
+use Rattle.judgement.specs.Judgement.{creditAbove}
 use Rattle.judgement.specs.Steps.{Holds}
-use Rattle.judgement.proofs.Tables.{general-is, scalar-is}
-use Rattle.judgement.proofs.Accepted.{available-small, scalar-ranged}
-use Rattle.judgement.proofs.Available.{available-is, buffer-is}
-use Rattle.judgement.proofs.Rules.{no-scalar, credits-above, passes, figured}
+use Rattle.judgement.proofs.Tables.{scalar-is}
+use Rattle.judgement.proofs.Accepted.{all-covered}
+use Rattle.judgement.proofs.Rules.{no-scalar, credit-above, credits-pass}
 use Rattle.judgement.proofs.after_lines.Statement.{statement}
 use Rattle.judgement.proofs.after_lines.Tie as tie
 
@@ -30,72 +28,36 @@ returns c es H = no-scalar es (sym (scalar-is H) ∙ sym (c .before .has-scalar 
 has-scalar-line : (c : tie.Else1) (es : List Entry) → Lines (c .before .before) es → hasLine es Gen 0 scalarClass ≡ true
 has-scalar-line c es H = sym (scalar-is H) ∙ sym (c .before .has-scalar .ensures) ∙ not-false _ (c .if1 .left)
 
--- back from the guarantee requirement to the start
-abbrev start : tie.After-general-amount → tie.Start
-start c = c .before .before .before .before .before .before
-
--- what rule 13 compares the credits with
-total : (c : tie.After-general-amount) →
-    let w = c .before .before in
-    (es : List Entry) → Lines (start c) es
-    → w .work-out .result .sum + c .general-amount .result + c .before .operational-figure .result ≡ available (sheetOf es)
-unfolding sheetOf
-total c es H =
-    let w = c .before .before in
-    available-is es _ _ _ (w .work-out .ensures es H .sum) (c .general-amount .ensures ∙ general-is H 2 (omega arith, omega arith))
-    (c .before .operational-figure .ensures es H)
-
-small : (c : tie.After-general-amount) →
-    let w = c .before .before in
-    w .work-out .result .sum + c .general-amount .result + c .before .operational-figure .result ≤ mostAvailable
-small c =
-    let l = start c .pre in
-    omega (arith, total c (l .0) (l .1), available-small (l .0) (l .1 .lines))
-
-credits-are : (c : tie.After-general-amount2) →
-    (es : List Entry) → Lines (start (c .before)) es → c .general-amount2 .result ≡ sheetOf es .credits
-unfolding sheetOf
-credits-are c es H = c .general-amount2 .ensures ∙ general-is H 5 (omega arith, omega arith)
+any-credit-above-requires : tie.Need-any-credit-above-requires
+any-credit-above-requires c κs = (c .before .before .before .before .pre, c .before .credits-of .ensures)
 
 returns-2 : tie.Need-returns-2
 returns-2 c es H =
-    let a = c .before .before in
-    let i = a .before .before .before .before in
-    credits-above es (has-scalar-line i es H) (omega (arith, c .if2 .taken, total a es H, credits-are (c .before) es H))
+    let a = c .before in
+    credit-above es (has-scalar-line (a .before .before .before) es H) (sym (a .any-credit-above .ensures es H) ∙ c .if2 .taken)
 
-scalar-is-g : (c : tie.After-general-amount3) →
-    (es : List Entry) → Lines (start (c .before .before .before)) es → c .general-amount3 .result ≡ sheetOf es .g
-unfolding sheetOf
-scalar-is-g c es H = c .general-amount3 .ensures ∙ general-is H 4 (omega arith, omega arith)
+-- no credit is above its block's LT(1)
+none-above : (c : tie.Else2) (es : List Entry) →
+    Lines (c .before .before .before .before .before .before) es → anyTo (creditAbove es) nonParticipating ≡ false
+none-above c es H = sym (c .before .any-credit-above .ensures es H) ∙ c .if2 .left
 
-scaled-requires : tie.Need-scaled-requires
-scaled-requires c κs =
-    let a = c .before .before .before in
-    let i = a .before .before .before .before in
-    let l = i .before .before .pre in
-    (omega (arith, scalar-is-g c (l .0) (l .1), scalar-ranged (l .0) (l .1 .lines) (has-scalar-line i (l .0) (l .1)) .1), omega (arith, small a))
+rule-13-requires : tie.Need-rule-13-requires
+rule-13-requires c κs =
+    let e = c .before .before in
+    let k = e .before .before .before in
+    let i = k .before in (
+      i .before .before .pre,
+      λ es H.
+          record { scalar = has-scalar-line i es H; each = k .credits-of .ensures es H; covered = all-covered es (H .lines) (none-above e es H) },
+    )
 
 returns-3 : tie.Need-returns-3
-unfolding sheetOf
 returns-3 c es H =
-    let g = c .before in
-    let k = g .before .before in
-    let a = k .before in
-    let w = a .before .before in
-    let worked = w .work-out .ensures es H in
-    figured es
-    (record {
-      count-is = worked .count;
-      rows-are = worked .front;
-      sum-is = worked .sum;
-      ro-is = a .before .operational-figure .ensures es H;
-      buffer-is = buffer-is es _ _ _ _ (scalar-is-g g es H) (total a es H) (credits-are k es H) (c .scaled .ensures);
-    })
-    ∙ passes es (has-scalar-line (w .before .before) es H) (omega (arith, g .before .if2 .left, total a es H, credits-are k es H))
+    let e = c .before .before .before in
+    c .rule-13 .ensures es H ∙ credits-pass es (has-scalar-line (e .before .before .before .before) es H) (none-above e es H)
 
 pub after-lines-spec : {M : Type 1} → statement M
 after-lines-spec =
     tie.close
     (tie.spec
-    (λ c κs. search needs) returns (λ c κs. search needs) (λ c κs. search needs) (λ c κs. search needs) (λ c. omega (arith, small c)) (λ c. omega (arith, small c))
-    (λ c κs. search needs) returns-2 (λ c κs. search needs) scaled-requires returns-3)
+    (λ c κs. search needs) returns (λ c κs. search needs) any-credit-above-requires returns-2 rule-13-requires returns-3)

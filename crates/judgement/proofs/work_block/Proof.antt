@@ -10,9 +10,9 @@ use Rattle.guideline.specs.Sizes.{blocks}
 use Rattle.guideline.specs.Block.{K, figuresOf}
 use Rattle.block.specs.Parts.{figureList, figures-are}
 use Rattle.sheet_line.specs.declared.Entry.{Entry}
-use Rattle.ledger.specs.Entries.{blockOf}
+use Rattle.judgement.specs.Sheet.{afterCredit}
 use Rattle.judgement.specs.Steps.{Holds}
-use Rattle.judgement.proofs.Tables.{exists-is, numbers-are}
+use Rattle.judgement.proofs.Tables.{exists-is}
 use Rattle.judgement.proofs.Accepted.{block-accepted}
 use Rattle.judgement.proofs.Figured.{absent, present, fits}
 use Rattle.judgement.proofs.work_block.Statement.{statement}
@@ -22,18 +22,21 @@ returns : tie.Need-returns
 returns c es H =
     let e = c .before in
     let s = e .before .before .pre in
-    absent es (s .0 .0) (s .1 .1 es H) (sym (exists-is H _ (s .0 .0) (s .0 .1)) ∙ sym (e .block-exists .ensures) ∙ not-true _ (c .if1 .taken))
+    absent es (s .0 .0) (s .1 .1 .1 es H) (sym (exists-is H _ (s .0 .0) (s .0 .1)) ∙ sym (e .block-exists .ensures) ∙ not-true _ (c .if1 .taken))
 
 figures-of-requires : tie.Need-figures-of-requires
 figures-of-requires c κs =
     let n = c .before in
     let s = n .before .before .before .before .pre in
-    let H = s .1 .0 .1 in
-    rw (n .block-numbers .ensures ∙ numbers-are H _ (s .0 .0) (s .0 .1)) (block-accepted _ (H .lines) _)
+    let l = s .1 .0 in
+    rw (n .numbers-after-credit .ensures (l .0) (l .1)) (block-accepted (l .0) (l .1 .lines) (s .1 .1 .0 (l .0) (l .1) .covered) _)
 
 -- there is room for a row more, and the sum with its K fits
-room : (c : tie.Start) → (c .args .w .count < blocks) × (c .args .w .sum + K (blockOf (c .pre .1 .0 .0) (c .args .block)) ≤ 10 * limit * blocks)
-room c = let l = c .pre .1 .0 in fits (l .0) (c .pre .0 .0) (c .pre .1 .1 (l .0) (l .1)) (c .pre .0 .1) (l .1 .lines)
+room : (c : tie.Start) → (c .args .w .count < blocks) × (c .args .w .sum + K (afterCredit (c .pre .1 .0 .0) (c .args .block)) ≤ 10 * limit * blocks)
+room c =
+    let l = c .pre .1 .0 in
+    let p = c .pre .1 .1 in
+    fits (l .0) (c .pre .0 .0) (p .1 (l .0) (l .1)) (c .pre .0 .1) (l .1 .lines) (p .0 (l .0) (l .1) .covered)
 
 -- back from the figures to the start, and from the stored row to the figures
 abbrev start : tie.After-figures-of → tie.Start
@@ -46,22 +49,19 @@ store-requires : tie.Need-store-requires
 store-requires c κs =
     let s = start (c .before .before) in
     let l = s .pre .1 .0 in
-    omega (arith, room s, s .pre .1 .1 (l .0) (l .1) .long)
+    omega (arith, room s, s .pre .1 .1 .1 (l .0) (l .1) .long)
 
 -- the block's numbers are those of the lines, and so are its figures
 figured : (c : tie.After-figures-of) →
     let s = start c in
     let r = c .figures-of .result in
     (es : List Entry) → Holds es (s .args .firsts .now) (s .args .seconds .now) (s .args .marks .now)
-    → (figureList r ≡ figuresOf (blockOf es (s .args .block))) × (r .k ≡ K (blockOf es (s .args .block)))
+    → (figureList r ≡ figuresOf (afterCredit es (s .args .block))) × (r .k ≡ K (afterCredit es (s .args .block)))
 figured c es H =
-    let n = c .before .before in
-    let s = start c in
-    let e = n .block-numbers .ensures ∙ numbers-are H _ (s .pre .0 .0) (s .pre .0 .1) in
-    let f = c .figures-of .ensures ∙ ap figuresOf e in
+    let f = c .figures-of .ensures ∙ ap figuresOf (c .before .before .numbers-after-credit .ensures es H) in
     (f, figures-are _ _ f .4)
 
-add-sum : tie.Need-add-t17
+add-sum : tie.Need-add-t18
 add-sum c =
     let f = figures (c .before .before .before .before .before) in
     let s = start f in
@@ -76,7 +76,7 @@ returns-2 c es H =
     let s = start f in
     let w = figured f es H in
     rw (o .store .ensures)
-    (present es (s .pre .0 .0) (s .pre .1 .1 es H) (room s .0) (sym (exists-is H _ (s .pre .0 .0) (s .pre .0 .1)) ∙ sym (e .block-exists .ensures) ∙ not-false _ (i .if1 .left))
+    (present es (s .pre .0 .0) (s .pre .1 .1 .1 es H) (room s .0) (sym (exists-is H _ (s .pre .0 .0) (s .pre .0 .1)) ∙ sym (e .block-exists .ensures) ∙ not-false _ (i .if1 .left))
     _ _ (w .0) (w .1))
 
 pub work-block-spec : {M : Type 1} → statement M

@@ -10,20 +10,20 @@ use Rattle.judgement.proofs.work_out.Statement.{statement}
 use Rattle.judgement.proofs.work_out.Tie as tie
 
 abbrev Inv-loop : tie.InvT-loop
-Inv-loop firsts seconds marks rows₀ w₀ block₀ rows w block = (block ≤ blocks) × OfLines firsts seconds marks (λ es. WorkedOut es block w rows)
+Inv-loop firsts seconds marks credits rows₀ w₀ block₀ rows w block = (block ≤ blocks) × OfLines firsts seconds marks (λ es. WorkedOut es block w rows)
 
 abbrev μ-loop : tie.MeasureT-loop
-μ-loop firsts seconds marks rows₀ w₀ block₀ rows w block = blocks - block
+μ-loop firsts seconds marks credits rows₀ w₀ block₀ rows w block = blocks - block
 
 loop-holds : tie.Need-loop-holds Inv-loop μ-loop
-loop-holds c = (search needs, λ es H. none es _ (c .before .pre .1))
+loop-holds c = (search needs, λ es H. none es _ (c .before .pre .1 .1))
 
 work-block-requires : tie.Need-work-block-requires Inv-loop μ-loop
 work-block-requires c κs =
     let l = c .before .before .loop in
     let s = c .before .before .before .before .pre in
     let e : l .block + 1 - 1 ≡ l .block = omega arith in
-    (search needs, (s .0, λ es H. rw e (l .inv .1 es H)))
+    (search needs, (s .0, (s .1 .0, λ es H. rw e (l .inv .1 es H))))
 
 loop-again : tie.Need-loop-again Inv-loop μ-loop
 loop-again c = (search needs, c .before .before .work-block .ensures)
@@ -35,7 +35,7 @@ returns c es H =
     rw e at (l .inv .1 es H)
 
 same-length : tie.Need-same-length Inv-loop μ-loop
-same-length c = let s = c .before .before .before .pre in c .before .loop .inv .1 (s .0 .0) (s .0 .1) .long ∙ sym (s .1)
+same-length c = let s = c .before .before .before .pre in c .before .loop .inv .1 (s .0 .0) (s .0 .1) .long ∙ sym (s .1 .1)
 
 pub work-out-spec : {M : Type 1} → statement M
 work-out-spec =

@@ -65,12 +65,14 @@ fn put(column: usize, bytes: &[u8]) -> Vec<u8> {
     sheet
 }
 
-/// All 293 lines, ascending, every amount the largest; LT (but for risk 7), prior volumes and credits as given.
+/// All 309 lines, ascending, every amount the largest; LT (but for risk 7), prior volumes and credits as given. T is two
+/// thirds of them, with which the credit of survival and death business is LT(1) itself.
 fn full(seconds: u64) -> Vec<Line> {
     const MOST: u64 = LARGEST_AMOUNT;
     let amounts = |(code, block, class): (&'static str, u64, u64)| match (code, class) {
         ("RSK", EXPENSES) | ("OTH", _) => (code, block, class, MOST, 0),
         ("RSK" | "VOL", _) => (code, block, class, MOST, seconds),
+        ("MOR", _) => (code, block, class, MOST, seconds / 3 * 2),
         (_, SCALAR) => (code, block, class, LARGEST_SCALAR, 0),
         (_, CREDITS) => (code, block, class, seconds, 0),
         _ => (code, block, class, MOST, 0),
@@ -78,7 +80,7 @@ fn full(seconds: u64) -> Vec<Line> {
     all_lines(MOST_BLOCKS).into_iter().map(amounts).collect()
 }
 
-/// Every hundredth line in turn: their number, 293, is prime, so that each comes once.
+/// Every hundredth line in turn: 100 has no divisor in common with their number, 309, so that each comes once.
 fn shuffled(lines: &[Line]) -> Vec<Line> {
     (0..lines.len()).map(|i| lines[(100 * i + 7) % lines.len()]).collect()
 }
@@ -91,6 +93,8 @@ fn cases() -> Vec<Case> {
         rows_5_and_6,
         rows_8_to_10,
         rows_11_to_14,
+        survival_and_death,
+        row_16,
         two_bad_lines,
         duplicates,
         scalars,
@@ -111,7 +115,8 @@ fn cases() -> Vec<Case> {
 
 /// The rows that a sheet can give, each with its number and place, alone and beside a fault that is tested later.
 fn rows_1_to_4(c: &mut Cases) {
-    // 1 beside 2: a full sheet and one byte more. (Alone, without 2, it is a whole line more.)
+    // 1 beside 2: a full sheet and one byte more. (Alone, without 2, it is a whole line more, which the program's room
+    // for a sheet and one byte doesn't hold.)
     c.room(0, Err(nowhere(1)), [sheet(&full(0)), b"\n".to_vec()].concat());
     // 2 alone: the last line feed is missing.
     c.refused(nowhere(2), sheet(&[RISK, G])[..79].to_vec());
@@ -202,6 +207,62 @@ fn rows_11_to_14(c: &mut Cases) {
     c.room(report_length(0), Err(nowhere(14)), sheet(&[RISK, G]));
 }
 
+/// S and T, of which the credit lowers IR(1) and LT(1).
+fn survival_and_death(c: &mut Cases) {
+    let sums = |block: u64, s: u64, t: u64| ("MOR", block, 1, s, t);
+    // The papers' 100 and 100: a credit of 129, below LT(1) and LT(1) itself.
+    c.accepted(1, sheet(&[("RSK", 1, 1, 1_000, 400), sums(1, 100, 100), G]));
+    c.accepted(1, sheet(&[sums(1, 100, 100), G, ("RSK", 1, 1, 129, 129)]));
+    // Before the block's other lines; T above S; the other block has no credit.
+    c.accepted(
+        2,
+        sheet(&[
+            sums(16, 7, 60_001),
+            ("RSK", 16, 3, 500, 77),
+            ("RSK", 2, 1, 900, 800),
+            ("RSK", 16, 1, 900, 800),
+            ("OTH", 16, 2, 333, 0),
+            G,
+        ]),
+    );
+    // The line makes no block exist: a credit of 0, with S and with T.
+    c.accepted(0, sheet(&[sums(1, LARGEST_AMOUNT, 0), sums(2, 0, LARGEST_AMOUNT), sums(3, 0, 0), G]));
+    // A block that exists by others: LT(1) is 0, and so is the credit.
+    c.accepted(1, sheet(&[("OTH", 4, 1, 50, 0), sums(4, 0, 12), G]));
+    // 5: block 0 and block 17.
+    c.refused(at(5, 1), sheet(&[sums(0, 0, 0), G]));
+    c.refused(at(5, 1), sheet(&[sums(17, 0, 0), G]));
+    // 6: class 2, and class 0.
+    c.refused(at(6, 1), sheet(&[("MOR", 1, 2, 0, 0), G]));
+    c.refused(at(6, 1), sheet(&[("MOR", 16, 0, 0, 0), G]));
+    // 4: letters of the code in another order.
+    c.refused(at(4, 1), sheet(&[("MRO", 1, 1, 0, 0), G]));
+    // 11: it stood before, beside 16.
+    c.refused(at(11, 3), sheet(&[sums(1, 5, 5), G, sums(1, 5, 5)]));
+}
+
+/// 16, a credit above its block's LT(1), alone and beside what is tested before it and after it.
+fn row_16(c: &mut Cases) {
+    let sums = ("MOR", 1, 1, 101, 101);
+    let risk = ("RSK", 1, 1, 1_000, 129);
+    // Alone: the credit of 101 and 101 is 130, a cent above.
+    c.refused(nowhere(16), sheet(&[risk, sums, G]));
+    // Alone: the block has no line of risk 1, or isn't there at all.
+    c.refused(nowhere(16), sheet(&[("RSK", 1, 2, 1_000, 400), sums, G]));
+    c.refused(nowhere(16), sheet(&[G, ("RSK", 1, 1, 1_000, 400), ("MOR", 9, 1, 1, 1)]));
+    // Alone: the largest credit, which is above the largest amount.
+    let (most, largest) = (LARGEST_AMOUNT, ("MOR", 16, 1, LARGEST_AMOUNT, LARGEST_AMOUNT));
+    c.refused(nowhere(16), sheet(&[("RSK", 16, 1, most, most), largest, G]));
+    // Beside a bad line after it.
+    c.refused(at(9, 4), sheet(&[risk, sums, G, ("RSK", 1, 2, 0, 1)]));
+    // Beside 12.
+    c.refused(nowhere(12), sheet(&[risk, sums]));
+    // Beside 13.
+    c.refused(nowhere(16), sheet(&[risk, sums, G, ("GEN", 0, CREDITS, most, 0)]));
+    // Beside 14: no room either.
+    c.room(0, Err(nowhere(16)), sheet(&[risk, sums, G]));
+}
+
 /// Two bad lines: the first one answers.
 fn two_bad_lines(c: &mut Cases) {
     // 11 in line 2, 3 in line 3.
@@ -244,7 +305,7 @@ fn scalars(c: &mut Cases) {
     c.refused(at(10, 1), sheet(&[("GEN", 0, SCALAR, 20_001, 0)]));
 }
 
-/// 293 lines with 16 blocks at the largest amounts.
+/// 309 lines with 16 blocks at the largest amounts.
 fn largest_amounts(c: &mut Cases) {
     // Ascending; LT, prior volumes and credits the largest as well.
     c.accepted(16, sheet(&full(LARGEST_AMOUNT)));
@@ -442,7 +503,7 @@ mod tests {
     #[test]
     fn the_reference_answers_as_written() {
         let cases = cases();
-        assert!(cases.len() <= 115, "{} cases", cases.len());
+        assert!(cases.len() <= 135, "{} cases", cases.len());
         for (at, case) in cases.iter().enumerate() {
             assert!(case.sheet.len() <= LONGEST_SHEET + 1 && case.room <= 2_500);
             assert_eq!(input(case).len(), 12 + case.sheet.len());
@@ -467,6 +528,6 @@ mod tests {
     fn every_row_of_a_sheet_stands() {
         let numbers: std::collections::BTreeSet<u8> =
             cases().iter().filter_map(|case| case.answer.err().map(|refusal| refusal.number)).collect();
-        assert_eq!(numbers.into_iter().collect::<Vec<u8>>(), [1, 2, 3, 4, 5, 6, 8, 9, 10, 11, 12, 13, 14]);
+        assert_eq!(numbers.into_iter().collect::<Vec<u8>>(), [1, 2, 3, 4, 5, 6, 8, 9, 10, 11, 12, 13, 14, 16]);
     }
 }

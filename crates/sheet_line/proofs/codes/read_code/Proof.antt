@@ -10,4 +10,4 @@ read-code-spec =
     tie.close
     (tie.spec
     (λ c κs. search tests) (λ c. search tests depth 12) (λ c κs. search tests) (λ c. search tests depth 12) (λ c κs. search tests)
-    (λ c. search tests depth 12) (λ c κs. search tests) (λ c. search tests depth 12) (λ c. search tests depth 12))
+    (λ c. search tests depth 12) (λ c κs. search tests) (λ c. search tests depth 12) (λ c κs. search tests) (λ c. search tests depth 12) (λ c. search tests depth 12))

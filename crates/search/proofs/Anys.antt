@@ -1,0 +1,39 @@
+-- Whether one of the numbers 1 to n passes a test: one number more, and what follows where none does. Assumes nothing.
+use mathlib.Core.Path.{_≡_, refl, sym}
+use mathlib.Core.Bool.{Bool, true, false, true≢false}
+use Prim.Native.Nat.{ℕ, zero, suc, _≤_}
+use native.Mathlib.Decide.{ℕ-discrete}
+use native.Mathlib.Omega.{arith}
+use Rattle.search.specs.First.{anyTo}
+use Rattle.search.proofs.Picks.{if-true, if-false, by-test}
+
+module _ (P : ℕ → Bool) where
+  pub none-yet : anyTo P 0 ≡ false
+  unfolding anyTo
+  none-yet = refl
+
+  -- where none of the first n passes, the next one decides
+  pub next-decides : (n : ℕ) → anyTo P n ≡ false → anyTo P (suc n) ≡ P (suc n)
+  unfolding anyTo
+  next-decides n e = if-false _ e
+
+  -- what one of the first passes goes on
+  pub goes-on : (m n : ℕ) → m ≤ n → anyTo P m ≡ true → anyTo P n ≡ true
+  unfolding anyTo
+  goes-on m zero h e = let z : m ≡ 0 = omega arith in absurd (true≢false (sym (rw z at e)))
+  goes-on m (suc n) h e =
+      elim (ℕ-discrete m (suc n)) [
+        | yes q ↦ rw q at e
+        | no q ↦ if-true _ (goes-on m n (omega arith) e)
+      ]
+
+  -- where none passes, each doesn't
+  pub none-to : (n : ℕ) → anyTo P n ≡ false → (b : ℕ) → 1 ≤ b → b ≤ n → P b ≡ false
+  unfolding anyTo
+  none-to zero e b l h = absurd (omega arith)
+  none-to (suc n) e b l h =
+      let each = by-test (λ t. t ≡ false → (anyTo P n ≡ false) × (P (suc n) ≡ false)) (anyTo P n) true (P (suc n)) (λ q r. absurd (true≢false r)) (λ q r. (q, r)) e in
+      elim (ℕ-discrete b (suc n)) [
+        | yes q ↦ rw q (each .1)
+        | no q ↦ none-to n (each .0) b l (omega arith)
+      ]
