@@ -25,19 +25,21 @@
       1  nowhere             the sheet is longer than TSAV_LONGEST_SHEET
       2  nowhere             its length isn't a multiple of 40
       3  line                columns 4 to 40 break the layout
-      4  line                the code isn't RSK, OTH, MOR, VOL or GEN
+      4  line                the code isn't RSK, OTH, MOR, VOL, GEN or CRD
       5  line                the block is outside the code's range
-      6  line                the class is outside the code's range
+      6  line                the class is outside the range of the code, for CRD also of the block
       7  position            an amount is above TSAV_LARGEST_AMOUNT
-      8  line or position    a second amount where there is none: OTH, GEN, level and trend of expenses
+      8  line or position    a second amount where there is none: OTH, GEN, CRD, level and trend of expenses
       9  line or position    a level and trend part is above its component
      10  line                the scalar is outside 1 to 20,000
      11  line                a line with this code, block and class stood before
      12  nowhere             there is no scalar line
-     13  nowhere             the credits are above sum of K + guarantee requirement + RO
+     13  nowhere             the credits that belong to no block (CRD of block 0, GEN class 5) are above what is left: sum of K,
+                             less the dividend credits, + guarantee requirement + RO
      14  nowhere             the lent report is shorter than the report
      15  nowhere             the list of volumes is longer than TSAV_MOST_VOLUMES, or no multiple of TSAV_TERRITORY_NUMBERS
-     16  nowhere             the credit of a MOR line is above level and trend of its block's mortality */
+     16  nowhere             the credit of a MOR line is above level and trend of its block's mortality
+     17  nowhere             a dividend credit (CRD of a block) is above its block's K, or the block has no RSK or OTH line */
 
 #ifndef TSAV_H
 #define TSAV_H
@@ -64,16 +66,16 @@ extern "C" {
 #define TSAV_MOST_VOLUMES 256
 #define TSAV_GENERAL_FIGURES 3
 
-/* The blocks of a sheet, and the bytes of a sheet's line and of a report's. */
-#define TSAV_MOST_BLOCKS 16
+/* The blocks of a sheet, of which those from 17 on are participating, and the bytes of a sheet's line and of a report's. */
+#define TSAV_MOST_BLOCKS 32
 #define TSAV_SHEET_LINE 40
 #define TSAV_REPORT_LINE 29
 
-/* 309 lines. */
-#define TSAV_LONGEST_SHEET 12360
+/* 501 lines. */
+#define TSAV_LONGEST_SHEET 20040
 
-/* The report of 16 blocks. With this room a sheet is never refused by 14. */
-#define TSAV_LONGEST_REPORT 2407
+/* The report of 32 blocks. With this room a sheet is never refused by 14; with less, only one whose report is longer. */
+#define TSAV_LONGEST_REPORT 4727
 
 #define TSAV_NOWHERE 0
 #define TSAV_LINE 1
@@ -114,7 +116,8 @@ uint64_t tsav_operational(const uint64_t *volumes, size_t count, const uint64_t 
    Accepted, written holds the report's length, 29 * (5 * n + 3) for n blocks; so many bytes of report, from its start, are
    the report, and those behind them are untouched.
 
-   Refusals, tested in this order: 1, 2; then the first bad line, in it 3, 4, 5, 6, 8, 9, 10, 11; then 12, 16, 13, 14. */
+   Refusals, tested in this order: 1, 2; then the first bad line, in it 3, 4, 5, 6, 8, 9, 10, 11; then 12, 16, 17, 13,
+   14. */
 uint64_t tsav_sheet(const uint8_t *sheet, size_t bytes, uint8_t *report, size_t room, uint64_t written[1],
                     uint64_t place[2]);
 

@@ -64,6 +64,7 @@ class Calls(unittest.TestCase):
         self.refused(11, 14, None, tsav.sheet, SHEET + SHEET[: tsav.SHEET_LINE])
         self.refused(12, None, None, tsav.sheet, b"")
         self.refused(16, None, None, tsav.sheet, SHEET + b"MOR  2  1              1              1\n")
+        self.refused(17, None, None, tsav.sheet, SHEET + b"CRD 17  1              0              0\n")
 
     def test_the_longest_report(self):
         lines = [b"GEN  0  4          10000              0\n"]

@@ -30,13 +30,14 @@ TERRITORY_NUMBERS = 16
 MOST_VOLUMES = 16 * TERRITORY_NUMBERS
 GENERAL_FIGURES = 3
 
-# The blocks of a sheet; the bytes of a line of the sheet and of the report, the line feed among them.
-MOST_BLOCKS = 16
+# The blocks of a sheet, of which those from 17 on are participating; the bytes of a line of the sheet and of the report,
+# the line feed among them.
+MOST_BLOCKS = 32
 SHEET_LINE = 40
 REPORT_LINE = 29
 
-# 309 lines; five report lines for each block, and three of totals.
-LONGEST_SHEET = 309 * SHEET_LINE
+# 501 lines; five report lines for each block, and three of totals.
+LONGEST_SHEET = 501 * SHEET_LINE
 LONGEST_REPORT = REPORT_LINE * (BLOCK_FIGURES * MOST_BLOCKS + 3)
 
 # The kinds of a place.

@@ -56,16 +56,23 @@ impl Draws {
         numbers
     }
 
-    /// A sheet that is accepted, of these lines, among which RSK 1 of a block stands before MOR.
+    /// A sheet that is accepted, of these lines, among which RSK 1 of a block stands before MOR, and OTH 3 before CRD.
     pub fn sheet(&mut self, lines: &[Line], size: Size) -> Vec<u8> {
-        let mut mortality_lt = 0;
+        let (mut mortality_lt, mut market) = (0, 0);
         let line = |&(code, block, class): &Line| {
             let amount = self.amount(size);
             let (first, second) = match (code, class) {
                 ("GEN", SCALAR) => (1 + self.below(LARGEST_SCALAR), 0),
                 // The credits are within what there is, which is at least RO.
                 ("GEN", CREDITS) => (self.below(1_000), 0),
-                ("RSK", EXPENSES) | ("OTH" | "GEN", _) => (amount, 0),
+                ("CRD", _) if block == 0 => (self.below(1_000), 0),
+                // A block's K isn't below its requirement for market.
+                ("CRD", _) => (self.part(market / 2), 0),
+                ("OTH", _) => {
+                    market = amount;
+                    (amount, 0)
+                }
+                ("RSK", EXPENSES) | ("GEN", _) => (amount, 0),
                 ("RSK", 1) => {
                     mortality_lt = self.part(amount);
                     (amount, mortality_lt)
@@ -84,7 +91,7 @@ impl Draws {
 /// The lines of document 01's whole run: one block, one volume, the first general figure and the scalar.
 pub fn small_lines() -> Vec<Line> {
     let in_run = |&(code, _, class): &Line| match code {
-        "MOR" => false,
+        "MOR" | "CRD" => false,
         "VOL" => class == 1,
         "GEN" => class == 1 || class == SCALAR,
         _ => true,

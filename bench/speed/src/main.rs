@@ -32,8 +32,8 @@ const FULL_SHEETS: usize = 64;
 const SMALL_SHEETS: usize = 1024;
 const TABLE_SHEETS: usize = 64;
 
-/// The blocks of the sheets in the table, each with every line that so many blocks can have. The last are full sheets, of 309.
-const TABLE: [usize; 6] = [0, 1, 2, 4, 8, MOST_BLOCKS];
+/// The blocks of the sheets in the table, each with every line that so many blocks can have. The last are full sheets, of 501.
+const TABLE: [usize; 7] = [0, 1, 2, 4, 8, 16, MOST_BLOCKS];
 
 const SIZES: [(&str, Size); 2] = [("", Size::Middling), (", near the limit", Size::NearTheLimit)];
 

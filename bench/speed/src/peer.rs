@@ -1,4 +1,4 @@
-//! The calculator of document 01, with request #101 of document 02, as a good programmer writes it with u128: no
+//! The calculator of document 01, with requests #101 and #102 of document 02, as a good programmer writes it with u128: no
 //! allocation, every figure worked out once, and everything tested that the papers have tested. It is here for its speed;
 //! tests/reference, written to be plain, is the independent calculation.
 //!
@@ -6,8 +6,9 @@
 //! the same without a jump and in words, as ours goes; and Newton's.
 
 use reference::{
-    Refusal, BLOCK_NUMBERS, FIGURES, GENERAL_CLASSES, GENERAL_NUMBERS, LARGEST_AMOUNT, LARGEST_SCALAR, LINE_BYTES,
-    LONGEST_SHEET, MOST_BLOCKS, MOST_VOLUMES, REPORT_LINE_BYTES, RISKS, TERRITORY_NUMBERS, VOLUME_CLASSES,
+    Refusal, ADJUSTABLE_PRODUCTS, BLOCK_NUMBERS, FIGURES, GENERAL_CLASSES, GENERAL_NUMBERS, LARGEST_AMOUNT,
+    LARGEST_SCALAR, LINE_BYTES, LONGEST_SHEET, MOST_BLOCKS, MOST_TERRITORIES, MOST_VOLUMES, NON_PARTICIPATING,
+    REPORT_LINE_BYTES, RISKS, TERRITORY_NUMBERS, VOLUME_CLASSES,
 };
 
 /// The least whole number whose square is at least the radicand.
@@ -148,9 +149,12 @@ struct Sheet {
     blocks: [[u64; BLOCK_NUMBERS]; MOST_BLOCKS],
     volumes: [u64; MOST_VOLUMES],
     general: [u64; GENERAL_CLASSES],
-    /// S and T of each block.
-    sums: [[u64; 2]; MOST_BLOCKS],
-    /// A bit for each class: of RSK, then OTH, then VOL, then MOR, for each block; of GEN in the last.
+    /// S and T of each block without participation.
+    sums: [[u64; 2]; NON_PARTICIPATING],
+    /// The dividend credit of each block, and the sum of the credits of adjustable products.
+    dividends: [u64; MOST_BLOCKS],
+    adjustable: u64,
+    /// A bit for each class: of RSK, then OTH, then VOL and MOR or CRD, for each block; of GEN and CRD in the last.
     seen: [u32; MOST_BLOCKS + 1],
 }
 
@@ -166,7 +170,9 @@ pub fn sheet(bytes: &[u8], report: &mut [u8], root: Root) -> Result<usize, Refus
         blocks: [[0; BLOCK_NUMBERS]; MOST_BLOCKS],
         volumes: [0; MOST_VOLUMES],
         general: [0; GENERAL_CLASSES],
-        sums: [[0; 2]; MOST_BLOCKS],
+        sums: [[0; 2]; NON_PARTICIPATING],
+        dividends: [0; MOST_BLOCKS],
+        adjustable: 0,
         seen: [0; MOST_BLOCKS + 1],
     };
     for (at, line) in bytes.chunks_exact(LINE_BYTES).enumerate() {
@@ -177,11 +183,12 @@ pub fn sheet(bytes: &[u8], report: &mut [u8], root: Root) -> Result<usize, Refus
     sheet.report(report, root)
 }
 
-/// The bits of `seen` that say that a block exists, those of RSK and OTH; where those of OTH, VOL and MOR begin.
+/// The bits of `seen` that say that a block exists, those of RSK and OTH; where those of OTH, VOL, MOR and CRD begin.
 const EXISTS: u32 = (1 << VOLUMES_FROM) - 1;
 const OTHERS_FROM: usize = RISKS;
 const VOLUMES_FROM: usize = RISKS + 3;
 const SUMS_FROM: usize = VOLUMES_FROM + VOLUME_CLASSES;
+const CREDITS_FROM: usize = VOLUMES_FROM;
 
 impl Sheet {
     /// A line: the number of the rule that turns it away, if there is one.
@@ -198,9 +205,11 @@ impl Sheet {
         let (blocks, classes, bits_from) = match &line[..3] {
             b"RSK" => (1..=MOST_BLOCKS, RISKS, 0),
             b"OTH" => (1..=MOST_BLOCKS, 3, OTHERS_FROM),
-            b"MOR" => (1..=MOST_BLOCKS, 1, SUMS_FROM),
-            b"VOL" => (1..=MOST_BLOCKS, VOLUME_CLASSES, VOLUMES_FROM),
+            b"MOR" => (1..=NON_PARTICIPATING, 1, SUMS_FROM),
+            b"VOL" => (1..=MOST_TERRITORIES, VOLUME_CLASSES, VOLUMES_FROM),
             b"GEN" => (0..=0, GENERAL_CLASSES, 0),
+            b"CRD" if block == 0 => (0..=0, ADJUSTABLE_PRODUCTS, CREDITS_FROM),
+            b"CRD" => (NON_PARTICIPATING + 1..=MOST_BLOCKS, 1, CREDITS_FROM),
             _ => return Some(4),
         };
         if !blocks.contains(&block) {
@@ -222,12 +231,15 @@ impl Sheet {
         None
     }
 
-    /// The amounts of a line at their places, by the first letter of its code, its block and its class, both from 0.
+    /// The amounts of a line at their places, by the first letter of its code, its block and its class, both from 0; block 0 of
+    /// the sheet comes last.
     fn store(&mut self, code: u8, block: usize, class: usize, amounts: [u64; 2]) {
         match code {
             b'R' => self.blocks[block][2 * class..2 * class + 2].copy_from_slice(&amounts),
             b'O' => self.blocks[block][2 * RISKS + class] = amounts[0],
             b'M' => self.sums[block] = amounts,
+            b'C' if block == MOST_BLOCKS => self.adjustable += amounts[0],
+            b'C' => self.dividends[block] = amounts[0],
             b'V' => {
                 let from = TERRITORY_NUMBERS * block + 2 * class;
                 self.volumes[from..from + 2].copy_from_slice(&amounts);
@@ -251,7 +263,7 @@ impl Sheet {
         Ok(())
     }
 
-    /// Rules 12 to 14, and the report.
+    /// Rules 12, 16, 17, 13 and 14, and the report.
     fn report(&mut self, report: &mut [u8], root: Root) -> Result<usize, Refusal> {
         let [_, guarantee, _, scalar, credits] = self.general;
         if scalar == 0 {
@@ -259,16 +271,24 @@ impl Sheet {
         }
         self.take_credits(root)?;
         let mut rows = [(0, [0; FIGURES]); MOST_BLOCKS];
-        let (mut blocks, mut sum) = (0, 0);
+        let (mut blocks, mut sum, mut dividends) = (0, 0, 0);
         for (number, (numbers, seen)) in self.blocks.iter().zip(self.seen).enumerate() {
             if seen & EXISTS != 0 {
                 rows[blocks] = (number as u64 + 1, figures(numbers, root));
-                sum += rows[blocks].1[4];
+                let k = rows[blocks].1[4];
+                if k < self.dividends[number] {
+                    return Err(Refusal::nowhere(17));
+                }
+                sum += k;
+                dividends += self.dividends[number];
                 blocks += 1;
+            } else if number >= NON_PARTICIPATING && seen & (1 << CREDITS_FROM) != 0 {
+                return Err(Refusal::nowhere(17));
             }
         }
         let ro = operational(&self.volumes, &self.general);
-        let Some(bracket) = (sum + guarantee + ro).checked_sub(credits) else {
+        let left = sum - dividends + guarantee + ro;
+        let Some(bracket) = left.checked_sub(credits + self.adjustable) else {
             return Err(Refusal::nowhere(13));
         };
         let length = REPORT_LINE_BYTES * (FIGURES * blocks + 3);
@@ -290,7 +310,7 @@ fn amounts_refused(code: u8, class: usize, first: u64, second: u64) -> Option<u8
     match code {
         b'R' if class == RISKS && second != 0 => Some(8),
         b'R' if first < second => Some(9),
-        b'O' | b'G' if second != 0 => Some(8),
+        b'O' | b'G' | b'C' if second != 0 => Some(8),
         b'G' if class == 4 && !(1..=LARGEST_SCALAR).contains(&first) => Some(10),
         _ => None,
     }

@@ -46,7 +46,7 @@ pub(crate) fn operational(answer: u64, place: [u64; 2], volumes: usize) -> Resul
 pub(crate) fn sheet(answer: u64, place: [u64; 2], bytes: usize) -> Result<(), Error> {
     let listed = match answer {
         0 => return Ok(()),
-        1 | 2 | 12..=14 | 16 => nowhere(place),
+        1 | 2 | 12..=14 | 16 | 17 => nowhere(place),
         3..=6 | 8..=11 => line(place).filter(|line| (1..=bytes / SHEET_LINE).contains(line)).map(Place::Line),
         _ => None,
     };
@@ -132,7 +132,7 @@ mod tests {
         let listed: [[&[u64]; 3]; 3] = [
             [&[], &[], &[7, 8, 9]], // block
             [&[15], &[], &[7]],     // operational
-            [&[1, 2, 12, 13, 14, 16], &[3, 4, 5, 6, 8, 9, 10, 11], &[]],
+            [&[1, 2, 12, 13, 14, 16, 17], &[3, 4, 5, 6, 8, 9, 10, 11], &[]],
         ];
         for ((name, call), listed) in CALLS.into_iter().zip(listed) {
             for (kind, numbers) in (NOWHERE..).zip(listed) {
@@ -152,15 +152,16 @@ mod tests {
         assert_eq!(block(9, [POSITION, 11]), refused(9, Place::Position(11)));
         assert_eq!(operational(7, [POSITION, 34], VOLUMES), refused(7, Place::Position(34)));
         assert_eq!(operational(15, [NOWHERE, 0], 1), refused(15, Place::Nowhere));
-        assert_eq!(sheet(11, [LINE, 309], LONGEST_SHEET), refused(11, Place::Line(309)));
+        assert_eq!(sheet(11, [LINE, 501], LONGEST_SHEET), refused(11, Place::Line(501)));
         assert_eq!(sheet(16, [NOWHERE, 0], SHEET_LINE), refused(16, Place::Nowhere));
+        assert_eq!(sheet(17, [NOWHERE, 0], SHEET_LINE), refused(17, Place::Nowhere));
         assert_eq!(sheet(1, [NOWHERE, 0], LONGEST_SHEET + 1), refused(1, Place::Nowhere));
     }
 
     #[test]
     fn numbers_that_no_refusal_has() {
         // 263 is 7 in its lowest byte.
-        for number in [17, 255, 256, 263, u64::MAX] {
+        for number in [18, 255, 256, 263, u64::MAX] {
             for place in [[NOWHERE, 0], [LINE, 1], [POSITION, 0]] {
                 for (name, call) in CALLS {
                     assert_eq!(call(number, place), broken(number, place), "{name}");

@@ -28,15 +28,15 @@ pub const MOST_VOLUMES: usize = 16 * TERRITORY_NUMBERS;
 /// The general figures of the operational call.
 pub const GENERAL_NUMBERS: usize = 3;
 
-/// The blocks of a sheet.
-pub const MOST_BLOCKS: usize = 16;
+/// The blocks of a sheet, of which those from 17 on are participating.
+pub const MOST_BLOCKS: usize = 32;
 
 /// The bytes of a sheet's line and of a report's, the line feed among them.
 pub const SHEET_LINE: usize = 40;
 pub const REPORT_LINE: usize = 29;
 
-/// 309 lines.
-pub const LONGEST_SHEET: usize = 309 * SHEET_LINE;
+/// 501 lines.
+pub const LONGEST_SHEET: usize = 501 * SHEET_LINE;
 
 /// With this room a sheet is never refused by 14.
 pub const LONGEST_REPORT: usize = report_length(MOST_BLOCKS);
@@ -47,7 +47,7 @@ pub const fn report_length(blocks: usize) -> usize {
 }
 
 /// The refusals are numbered from 1 to this.
-pub const LAST_REFUSAL: usize = 16;
+pub const LAST_REFUSAL: usize = 17;
 
 /// A block's figures: I and D in half cents, U, LT and K in cents.
 #[derive(Clone, Copy, Debug, PartialEq, Eq)]

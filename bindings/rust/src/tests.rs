@@ -63,6 +63,8 @@ fn refusals_of_the_sheet_call() {
     assert_eq!(sheet_of(&[WHOLE_RUN, &WHOLE_RUN[..SHEET_LINE]].concat()), refused(11, Place::Line(14)));
     let above = b"MOR  2  1              1              1\n";
     assert_eq!(sheet_of(&[WHOLE_RUN, above].concat()), refused(16, Place::Nowhere));
+    let no_block = b"CRD 17  1              0              0\n";
+    assert_eq!(sheet_of(&[WHOLE_RUN, no_block].concat()), refused(17, Place::Nowhere));
     let mut report = *b"any content";
     assert_eq!(sheet(WHOLE_RUN, &mut report), refused(14, Place::Nowhere));
     assert_eq!(&report, b"any content");

@@ -4,6 +4,7 @@ use Rattle.search.specs.Pick.{pick}
 use Rattle.search.specs.First.{anyTo}
 use Rattle.search.specs.Least.{leastFrom}
 use Rattle.search.specs.Ascending.{ascending}
+use Rattle.search.specs.Total.{sumTo}
 use Rattle.field.specs.Field.{digits, field, digitOrSpace, leadingDigits, decimal}
 use Rattle.guideline.specs.Factors.{factors, factor, soFar}
 use Rattle.guideline.specs.Block.{A, U, LT, Vh, y, ys, Q4, largestOf, largest, root, I, a, D, requirement, K, figuresOf}
@@ -18,7 +19,7 @@ use Rattle.ledger.specs.Entries.{hasKey, lookup, exists, pairs, blockBy, volume
 use Rattle.ledger.specs.Reading.{onLine, readFrom}
 use Rattle.report.specs.Rows.{itemsFrom}
 use Rattle.judgement.specs.Sheet.{creditOf, afterCredit, blocksTo, sheetOf}
-use Rattle.judgement.specs.Judgement.{creditAbove, rule13, rule16, rule12, ruleLines, rule2, judgement}
+use Rattle.judgement.specs.Judgement.{creditAbove, rule13, dividendBarred, rule17, rule16, rule12, ruleLines, rule2, judgement}
 use Rattle.aggregate.specs.Call.{blockRowsOf, rule14, afterJudgement, sheetCall}
 use Rattle.dummies.specs.Dummies.{areBytes}
 use Rattle.dummies.specs.Answers.{answers, given, claimed}
@@ -29,5 +30,5 @@ unfolding
     requirement K figuresOf total volume growth operationalNumerator RO sumK available bracket buffer key reportLine
     printRows equalBytes numberIn numberAt isCode codeAmong spaced layoutOf lettered line.outside line.secondBarred line.trendAbove line.scalarOutside
     line.rule10 line.rule9 line.rule8 line.rule6 line.rule5 line.parseLine hasKey lookup exists pairs blockBy volumesBy onLine readFrom itemsFrom
-    twiceRadicand aggregated credit lowered creditOf afterCredit blocksTo sheetOf anyTo creditAbove rule13 rule16 rule12 ruleLines rule2 judgement blockRowsOf rule14 afterJudgement sheetCall areBytes
+    twiceRadicand aggregated credit lowered creditOf afterCredit blocksTo sheetOf anyTo creditAbove sumTo dividendBarred rule13 rule17 rule16 rule12 ruleLines rule2 judgement blockRowsOf rule14 afterJudgement sheetCall areBytes
 computed = refl

@@ -13,7 +13,7 @@ use Rattle.search.proofs.Picks.{never}
 use Rattle.refusal.specs.Outcome.{Outcome}
 use Rattle.refusal.specs.Outcome.Outcome.{accepted}
 use Rattle.guideline.specs.Sizes.{tenThousandths}
-use Rattle.guideline.specs.Buffer.{Sheet, available, buffer, bufferAt, AcceptedSheet}
+use Rattle.guideline.specs.Buffer.{Sheet, buffer, CreditsWithin, bufferAt, AcceptedSheet}
 use Rattle.guideline.specs.Demand.{BufferDemand}
 use Rattle.guideline.proofs.Demand.{buffer-demand}
 use Rattle.sheet_line.specs.declared.Entry.{Entry}
@@ -103,7 +103,7 @@ Below a = tenThousandths * a .filledIn + a .allowance ≤ tenThousandths * a .bu
 module _ (call : Call) (meets : MeetsDemand3 call) where
   -- the buffer that it gives a sheet would have to be near the one that is due
   pub filled-in-near :
-      BufferOfFirst call → (s r vs : List ℕ) (es : List Entry) → Lent s r → judgement s ≡ sound es → sheetOf es .credits ≤ available (filledIn (sheetOf es)) →
+      BufferOfFirst call → (s r vs : List ℕ) (es : List Entry) → Lent s r → judgement s ≡ sound es → CreditsWithin (filledIn (sheetOf es)) →
       sheetCall s r .outcome ≡ accepted vs →
       (FarBelow (sheetOf es) (buffer (filledIn (sheetOf es))) → ⊥) × (FarAbove (sheetOf es) (buffer (filledIn (sheetOf es))) → ⊥)
   filled-in-near filled s r vs es l j c e =

@@ -19,7 +19,7 @@ use Rattle.refusal.specs.declared.Place.{Place}
 use Rattle.field.specs.declared.Field.the-variants.{Value, Bad}
 use Rattle.guideline.specs.Sizes.{blocks, blockFigures, FitsColumns}
 use Rattle.guideline.specs.Block.{AcceptedBlock, K, figuresOf}
-use Rattle.guideline.specs.Buffer.{Sheet, count, available, buffer, AcceptedSheet}
+use Rattle.guideline.specs.Buffer.{Sheet, count, buffer, CreditsWithin, AcceptedSheet}
 use Rattle.guideline.proofs.Figures.{figures-fit, figures-long}
 use Rattle.guideline.proofs.Totals.{totals-fit}
 use Rattle.report_line.specs.Line.{Row, printRows, equalBytes, numberIn, numberAt}
@@ -48,7 +48,7 @@ first-long : (bs : List (List ℕ)) → length (firstForAll bs) ≡ length bs
 first-long [] = refl
 first-long (b ∷ bs) = ap suc (length-map bs _)
 
-filled-accepted : (s : Sheet) → AcceptedSheet s → s .credits ≤ available (filledIn s) → AcceptedSheet (filledIn s)
+filled-accepted : (s : Sheet) → AcceptedSheet s → CreditsWithin (filledIn s) → AcceptedSheet (filledIn s)
 filled-accepted s v h =
     record {
       blocks-pass = first-accepted (s .blocks) (v .blocks-pass);
@@ -94,7 +94,7 @@ pub none-accepted : (x n : ℕ) (p : Place) (r : List ℕ) → Reads x (untouche
 unfolding Reads
 none-accepted x n p r vs e = never (cc)
 
-module _ (es : List Entry) (v : AcceptedSheet (sheetOf es)) (h : sheetOf es .credits ≤ available (filledIn (sheetOf es))) where
+module _ (es : List Entry) (v : AcceptedSheet (sheetOf es)) (h : CreditsWithin (filledIn (sheetOf es))) where
   -- every figure has its columns
   five : (length (firstFigures es) ≡ blockFigures) × Each FitsColumns (firstFigures es)
   five =

@@ -1,5 +1,5 @@
 -- The plainest program of each kind of dummy meets the premise of its kind: four by what they give. The one that fills in the first block
--- refuses by rule 13 of its own sum of K and else as the sheet call does, and what is read of its report is in FilledIn.
+-- refuses by rules 17 and 13 of its own sum of K and else as the sheet call does, and what is read of its report is in FilledIn.
 -- Assumes nothing.
 use mathlib.Core.Path.{_≡_, refl, _∙_}
 use mathlib.Core.Bool.{Bool, true, false}
@@ -11,7 +11,7 @@ use borrow.Author.Tests.{ltb-false}
 use Rattle.search.specs.Pick.{pick}
 use Rattle.search.proofs.Picks.{by-test, if-ge}
 use Rattle.refusal.specs.declared.Place.the-variants.{Nowhere}
-use Rattle.guideline.specs.Buffer.{available, buffer}
+use Rattle.guideline.specs.Buffer.{buffer, CreditsWithin}
 use Rattle.sheet_line.specs.declared.Entry.{Entry}
 use Rattle.judgement.specs.Sheet.{sheetOf}
 use Rattle.judgement.specs.Judgement.{Judgement, judgement}
@@ -20,7 +20,7 @@ use Rattle.judgement.proofs.Accepted.{sound-accepted}
 use Rattle.aggregate.specs.Call.{Done, rule14, afterJudgement, sheetCall}
 use Rattle.dummies.specs.Dummies.{TurnsAllAway, ConstantReport, WritesNothing, TooShortAtOnce, FirstFilledIn, filledIn, BufferOfFirst}
 use Rattle.dummies.specs.Programs.{turnsAway, writesConstant, claimsSuccess, saysTooShort}
-use Rattle.dummies.specs.Programs.{filled14, filled13, afterFilling, fillsIn}
+use Rattle.dummies.specs.Programs.{filled14, filled17, filled13, afterFilling, fillsIn}
 use Rattle.dummies.proofs.FilledIn.{SameK, Reads, none-read, none-accepted, k-same, reads-filled}
 
 pub turns-away-met : TurnsAllAway turnsAway
@@ -51,23 +51,26 @@ picked-outcome false a b c e = e
 
 module _ (s r : List ℕ) where
   same : (j : Judgement) → judgement s ≡ j → SameK (afterFilling j r)
-  unfolding afterFilling filled13 filled14
+  unfolding afterFilling filled17 filled13 filled14
   same (turnedAway n p) e = none-read n p r
   same (sound es) e =
-      by-test SameK _ _ _ (λ t. none-read _ _ r) (λ t. by-test SameK _ _ _ (λ u. none-read _ _ r) (λ u. k-same es (sound-accepted s es e) (ltb-false _ _ t) r))
+      by-test SameK _ _ _ (λ d. none-read _ _ r) λ d.
+      by-test SameK _ _ _ (λ t. none-read _ _ r) λ t.
+      by-test SameK _ _ _ (λ u. none-read _ _ r) (λ u. k-same es (sound-accepted s es e) (ltb-false _ _ d, ltb-false _ _ t) r)
 
   reads : (es : List Entry) → judgement s ≡ sound es → Reads (buffer (filledIn (sheetOf es))) (fillsIn s r)
-  unfolding fillsIn afterFilling filled13 filled14
+  unfolding fillsIn afterFilling filled17 filled13 filled14
   reads es e =
       let x = buffer (filledIn (sheetOf es)) in
       rw e
-      (by-test (Reads x) _ _ _ (λ t. none-accepted x _ _ r)
-      (λ t. by-test (Reads x) _ _ _ (λ u. none-accepted x _ _ r) (λ u. reads-filled es (sound-accepted s es e) (ltb-false _ _ t) r)))
+      (by-test (Reads x) _ _ _ (λ d. none-accepted x _ _ r) λ d.
+      by-test (Reads x) _ _ _ (λ t. none-accepted x _ _ r) λ t.
+      by-test (Reads x) _ _ _ (λ u. none-accepted x _ _ r) (λ u. reads-filled es (sound-accepted s es e) (ltb-false _ _ d, ltb-false _ _ t) r))
 
   -- it tests rule 14 as the sheet call does
-  outcome-same : (es : List Entry) → judgement s ≡ sound es → sheetOf es .credits ≤ available (filledIn (sheetOf es)) → fillsIn s r .outcome ≡ sheetCall s r .outcome
-  unfolding fillsIn afterFilling filled13 filled14 sheetCall afterJudgement rule14
-  outcome-same es e h = rw (e, if-ge _ h) (picked-outcome _ _ _ _ refl)
+  outcome-same : (es : List Entry) → judgement s ≡ sound es → CreditsWithin (filledIn (sheetOf es)) → fillsIn s r .outcome ≡ sheetCall s r .outcome
+  unfolding fillsIn afterFilling filled17 filled13 filled14 sheetCall afterJudgement rule14
+  outcome-same es e h = rw (e, if-ge _ (h .0), if-ge _ (h .1)) (picked-outcome _ _ _ _ refl)
 
 pub first-filled-in-met : FirstFilledIn fillsIn
 unfolding SameK fillsIn

@@ -1,7 +1,7 @@
 -- Small sheets, and what the sheet call answers to each: the dummies are refuted there. Assumes nothing.
 use mathlib.Core.Bool.{Bool, true}
 use mathlib.Core.List.{List, [], _∷_, _++_}
-use Prim.Native.Nat.{ℕ}
+use Prim.Native.Nat.{ℕ, _+_}
 use lib.ListN.{getD, replicate}
 use Rattle.refusal.specs.Outcome.{Outcome}
 use Rattle.refusal.specs.Outcome.Outcome.{accepted}
@@ -35,7 +35,7 @@ component b n = printLine (record { code = Rsk; block = b; class = 1; first = n;
 abbrev pub room : ℕ → List ℕ
 room n = replicate n 35
 
--- what is looked at of a judged sheet: the allowance, the credits, the buffer, and the one with the first block in place of each
+-- what is looked at of a judged sheet: the allowance, all credits together, the buffer, and the one with the first block in place of each
 pub record Amounts : Type 0 where
   pub allowance : ℕ
   pub credits : ℕ
@@ -47,7 +47,7 @@ abbrev pub amountsOf : Judgement → Amounts
 amountsOf (turnedAway n p) = record { allowance = 0; credits = 0; buffer = 0; filledIn = 0 }
 amountsOf (sound es) =
     let s = sheetOf es in
-    record { allowance = allowance s; credits = s .credits; buffer = Buffer.buffer s; filledIn = Buffer.buffer (filledIn s) }
+    record { allowance = allowance s; credits = s .CRᵢ + Buffer.free s; buffer = Buffer.buffer s; filledIn = Buffer.buffer (filledIn s) }
 
 -- what is looked at of an answer: whether all that was handed over is bytes, the sheet's amounts, the outcome, the report's first byte, and the
 -- numbers read back of the buffer and of K of blocks 1 and 2

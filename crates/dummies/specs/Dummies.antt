@@ -12,7 +12,7 @@ use Rattle.refusal.specs.Outcome.Outcome.{accepted, refused}
 use Rattle.refusal.specs.declared.Place.{Place}
 use Rattle.field.specs.declared.Field.the-variants.{Value}
 use Rattle.guideline.specs.Sizes.{tenThousandths}
-use Rattle.guideline.specs.Buffer.{Sheet, available, buffer, lessAllowance}
+use Rattle.guideline.specs.Buffer.{Sheet, buffer, CreditsWithin, lessAllowance}
 use Rattle.report_line.specs.Line.{numberAt}
 use Rattle.sheet_line.specs.declared.Entry.{Entry}
 use Rattle.report.specs.Rows.{BLK, TOT}
@@ -84,12 +84,14 @@ firstForAll (b ∷ bs) = b ∷ map (λ c. b) bs
 
 -- a sheet with its first block in place of each
 abbrev pub filledIn : Sheet → Sheet
-filledIn s = record { blocks = firstForAll (s .blocks); volumes = s .volumes; general = s .general; g = s .g; credits = s .credits }
+filledIn s =
+    record { blocks = firstForAll (s .blocks); volumes = s .volumes; general = s .general; g = s .g; CRᵢ = s .CRᵢ; CRⱼ = s .CRⱼ; CG = s .CG }
 
--- it accepts what the sheet call accepts, unless rule 13 by its own sum of K turns the sheet away; and the buffer that it reports is of that sum
+-- it accepts what the sheet call accepts, unless rule 17 or 13 by its own sum of K turns the sheet away; and the buffer that it reports is of
+-- that sum
 pub record BufferOfFirst (call : Call) : Type 0 where
   pub accepts :
-      (s r vs : List ℕ) (es : List Entry) → Lent s r → judgement s ≡ sound es → sheetOf es .credits ≤ available (filledIn (sheetOf es)) →
+      (s r vs : List ℕ) (es : List Entry) → Lent s r → judgement s ≡ sound es → CreditsWithin (filledIn (sheetOf es)) →
       sheetCall s r .outcome ≡ accepted vs → call s r .outcome ≡ accepted vs
   pub reads-buffer :
       (s r vs : List ℕ) (es : List Entry) → Lent s r → judgement s ≡ sound es → call s r .outcome ≡ accepted vs →

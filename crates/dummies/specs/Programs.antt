@@ -12,7 +12,7 @@ use Rattle.refusal.specs.declared.Place.the-variants.{Nowhere}
 use Rattle.guideline.specs.Sizes.{blocks}
 use Rattle.guideline.specs.Block.{figuresOf}
 use Rattle.guideline.specs.Operational.{RO}
-use Rattle.guideline.specs.Buffer.{count, sumK, available, buffer}
+use Rattle.guideline.specs.Buffer.{count, sumK, free, available, buffer}
 use Rattle.report_line.specs.Line.{Row, printRows}
 use Rattle.sheet_line.specs.declared.Entry.{Entry}
 use Rattle.ledger.specs.Entries.{exists}
@@ -69,12 +69,20 @@ filled14 es r = pick (ltb (length r) (reportLength (count (sheetOf es)))) (untou
 
 -- rule 13, by its own sum of K
 unfoldable pub filled13 : List Entry → List ℕ → Done
-filled13 es r = pick (ltb (available (filledIn (sheetOf es))) (sheetOf es .credits)) (untouched 13 Nowhere r) (filled14 es r)
+filled13 es r =
+    let s = filledIn (sheetOf es) in
+    pick (ltb (available s) (free s)) (untouched 13 Nowhere r) (filled14 es r)
+
+-- rule 17, of all dividend credits together against that sum
+unfoldable pub filled17 : List Entry → List ℕ → Done
+filled17 es r =
+    let s = filledIn (sheetOf es) in
+    pick (ltb (sumK (s .blocks)) (s .CRᵢ)) (untouched 17 Nowhere r) (filled13 es r)
 
 -- by what the sheet was judged to be
 unfoldable pub afterFilling : Judgement → List ℕ → Done
 afterFilling (turnedAway n p) r = untouched n p r
-afterFilling (sound es) r = filled13 es r
+afterFilling (sound es) r = filled17 es r
 
 -- the program
 unfoldable pub fillsIn : Call

@@ -13,7 +13,7 @@ use Rattle.search.specs.Each.{Each}
 use Rattle.guideline.specs.Sizes.{blocks, FitsColumns, tenThousandths, largestScalar}
 use Rattle.guideline.specs.Block.{K, AcceptedBlock}
 use Rattle.guideline.specs.Operational.{OperationalAmounts, operationalNumerator, operationalDenominator, RO}
-use Rattle.guideline.specs.Buffer.{Sheet, count, guarantee, sumK, available, bracket, buffer, AcceptedSheet, mostAvailable}
+use Rattle.guideline.specs.Buffer.{Sheet, count, GFD, ROof, sumK, free, available, bracket, buffer, AcceptedSheet, mostAvailable}
 use Rattle.guideline.proofs.Figures.{u-fits, k-high}
 use Rattle.guideline.proofs.Charges.{numerator-fits}
 
@@ -55,11 +55,11 @@ module _
 
 module _ (s : Sheet) (v : AcceptedSheet s) where
   pub bracket-fits : bracket s ≤ mostAvailable
-  unfolding bracket
+  unfolding bracket available
   bracket-fits = omega (arith, available-fits s (v .blocks-pass) (v .few) (v .amounts))
 
   -- the bracket, with no difference
-  pub bracket-is : bracket s + s .credits ≡ sumK (s .blocks) + guarantee s + RO (s .volumes) (s .general)
+  pub bracket-is : bracket s + (s .CRᵢ + free s) ≡ sumK (s .blocks) + GFD s + ROof s
   unfolding bracket available
   bracket-is = omega (arith, v .credits-within)
 

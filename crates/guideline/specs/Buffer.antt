@@ -5,7 +5,7 @@ use Prim.Native.Nat.{ℕ, _+_, _-_, _*_, _≤_}
 use native.Mathlib.Omega.{arith}
 use lib.Dec.{leb}
 use lib.ListN.{length, getD}
-use lib.IntN.{ℤ, pos, _+ℤ_, _-ℤ_, _*ℤ_}
+use lib.IntN.{ℤ, pos, _+ℤ_, _-ℤ_, _*ℤ_, negℤ-+ℤ}
 use Rattle.amount.specs.Amount.{limit}
 use Rattle.integer.proofs.Integer.{ring}
 use Rattle.search.specs.Least.{least}
@@ -17,51 +17,67 @@ use Rattle.guideline.specs.Difference.{uncut, times-diff}
 use Rattle.guideline.specs.Fraction.{Fraction, numerator, _≤ᶠ_, _<ᶠ_, whole, ratio, plus, ≤ᶠ-<ᶠ-trans}
 use Rattle.guideline.specs.Exact.{Fits, kAt}
 
--- a sheet's amounts: the blocks that exist, ascending, each its 17 numbers; the operational call's numbers; g, in ten-thousandths; the
--- group and deposit credits
+-- a sheet's amounts: the blocks that exist, of both sorts, ascending, each its 17 numbers; the operational call's numbers; g, in
+-- ten-thousandths; ∑ CR_i, the dividend credits of the participating blocks; ∑ CR_j, the credits of adjustable products; CG, the group and
+-- deposit credits
 pub record Sheet : Type 0 where
   pub blocks : List (List ℕ)
   pub volumes : List ℕ
   pub general : List ℕ
   pub g : ℕ
-  pub credits : ℕ
+  pub CRᵢ : ℕ
+  pub CRⱼ : ℕ
+  pub CG : ℕ
 
 -- n, 'how many blocks exist in the sheet'
 abbrev pub count : Sheet → ℕ
 count s = length (s .blocks)
 
--- the guarantee requirement is the second of the general figures
-abbrev pub guarantee : Sheet → ℕ
-guarantee s = getD (s .general) 1 0
+-- GFD, the guarantee requirement, is the second of the general figures
+abbrev pub GFD : Sheet → ℕ
+GFD s = getD (s .general) 1 0
+
+-- RO of the sheet's operational numbers
+abbrev pub ROof : Sheet → ℕ
+ROof s = RO (s .volumes) (s .general)
 
 -- 'sum of K'
 unfoldable pub sumK : List (List ℕ) → ℕ
 sumK [] = 0
 sumK (b ∷ bs) = K b + sumK bs
 
--- 'sum of K + guarantee requirement + RO, as reported', which rule 13 compares the credits with
+-- 'all credits that belong to no block' (document 02, #102)
+abbrev pub free : Sheet → ℕ
+free s = s .CRⱼ + s .CG
+
+-- 'what is left', which rule 13 compares them with: 'sum of K + guarantee requirement + RO, as reported', less the dividend credits
 unfoldable pub available : Sheet → ℕ
-available s = sumK (s .blocks) + guarantee s + RO (s .volumes) (s .general)
+available s = sumK (s .blocks) - s .CRᵢ + GFD s + ROof s
 
 -- no more is ever available: ten amounts for each block, one for the guarantee requirement and four for RO
 abbrev pub mostAvailable : ℕ
 mostAvailable = 10 * limit * blocks + 5 * limit
 
--- the bracket of the buffer
+-- the bracket of the buffer, section 11.3: '∑ K_sans part + ∑ (K_part i − CR_i) − ∑ CR_j − CG + GFD + RO'
 unfoldable pub bracket : Sheet → ℕ
-bracket s = available s - s .credits
+bracket s = sumK (s .blocks) - s .CRᵢ + GFD s + ROof s - (s .CRⱼ + s .CG)
 
--- in ℤ, where rule 13 is met: 'sum of K − group and deposit credits + guarantee requirement + RO'
+-- what rules 17 and 13 leave: the credits are within what they are taken from
+abbrev pub CreditsWithin : Sheet → Type 0
+CreditsWithin s = (s .CRᵢ ≤ sumK (s .blocks)) × (free s ≤ available s)
+
+-- in ℤ, where they are, the bracket is the paper's: nothing of it is cut
 pub bracket-difference :
-    (s : Sheet) → s .credits ≤ available s →
-    pos (bracket s) ≡ pos (sumK (s .blocks)) -ℤ pos (s .credits) +ℤ pos (guarantee s) +ℤ pos (RO (s .volumes) (s .general))
+    (s : Sheet) → CreditsWithin s →
+    pos (bracket s) ≡ pos (sumK (s .blocks)) -ℤ pos (s .CRᵢ) -ℤ pos (s .CRⱼ) -ℤ pos (s .CG) +ℤ pos (GFD s) +ℤ pos (ROof s)
 unfolding bracket available
 bracket-difference s h =
-    uncut (available s) (s .credits) (bracket s) (omega arith)
-    ∙ moved (pos (sumK (s .blocks))) (pos (s .credits)) (pos (guarantee s)) (pos (RO (s .volumes) (s .general)))
+    let k = sumK (s .blocks) in
+    uncut (k + GFD s + ROof s) (s .CRᵢ + free s) (bracket s) (omega arith)
+    ∙ moved (pos k) (pos (s .CRᵢ)) (pos (s .CRⱼ)) (pos (s .CG)) (pos (GFD s)) (pos (ROof s))
   where
-    moved : (k c g r : ℤ) → k +ℤ g +ℤ r -ℤ c ≡ k -ℤ c +ℤ g +ℤ r
-    moved k c g r = simp ring
+    moved : (k c d e g r : ℤ) → k +ℤ g +ℤ r -ℤ (c +ℤ (d +ℤ e)) ≡ k -ℤ c -ℤ d -ℤ e +ℤ g +ℤ r
+    moved k c d e g r = simp (ring, negℤ-+ℤ)
 
 -- 'Buffer = g × (..), rounded up to a cent. The scalar multiplies the whole bracket'
 unfoldable pub buffer : Sheet → ℕ
@@ -85,7 +101,7 @@ operationalAt s = ratio (pos (operationalNumerator (s .volumes) (s .general))) o
 
 -- 'the bracket of the buffer, unrounded', at the chosen d
 abbrev pub bracketAt : (s : Sheet) → Choice (s .blocks) → Fraction
-bracketAt s c = plus (sumAt (s .blocks) c) (plus (operationalAt s) (whole (guarantee s) (s .credits)))
+bracketAt s c = plus (sumAt (s .blocks) c) (plus (operationalAt s) (whole (GFD s) (s .CRᵢ + free s)))
 
 -- g times it
 abbrev pub bufferAt : (s : Sheet) → Choice (s .blocks) → Fraction
@@ -129,4 +145,4 @@ pub record AcceptedSheet (s : Sheet) : Type 0 where
   pub amounts : OperationalAmounts (s .volumes) (s .general)
   pub g-low : 1 ≤ s .g
   pub g-high : s .g ≤ largestScalar
-  pub credits-within : s .credits ≤ available s
+  pub credits-within : CreditsWithin s

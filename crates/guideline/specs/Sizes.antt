@@ -6,9 +6,13 @@ use Prim.Native.Nat.{ℕ, _+_, _*_, _^_, _<_}
 abbrev pub nonParticipating : ℕ
 nonParticipating = 16
 
--- blocks 1 to this one
+-- participating blocks, which follow: 17 to 32
+abbrev pub participating : ℕ
+participating = 16
+
+-- blocks 1 to this one, of both sorts
 abbrev pub blocks : ℕ
-blocks = nonParticipating
+blocks = nonParticipating + participating
 
 -- the insurance risks of section 11.2.1
 abbrev pub risks : ℕ
@@ -57,6 +61,10 @@ territoryNumbers = 2 * volumeClasses
 -- the volumes of all territories: 256 numbers
 abbrev pub volumeNumbers : ℕ
 volumeNumbers = territories * territoryNumbers
+
+-- the adjustable products of section 11.3 that can have a credit
+abbrev pub adjustableProducts : ℕ
+adjustableProducts = 16
 
 -- the general figures of section 8.2.3: gross components, guarantee requirement, ceded premiums
 abbrev pub generalFigures : ℕ

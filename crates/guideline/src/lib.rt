@@ -9,8 +9,11 @@ ghost use Rattle.guideline.specs.Operational.{volumeFactors};
 // How many there are of each thing: specs/Sizes has the same names. Blocks without participation: 1 to this one. They alone have MOR lines.
 pub const NON_PARTICIPATING: usize = 16;
 
-// Blocks 1 to this one.
-pub const BLOCKS: usize = NON_PARTICIPATING;
+// Participating blocks, which follow: 17 to 32.
+pub const PARTICIPATING: usize = 16;
+
+// Blocks 1 to this one, of both sorts.
+pub const BLOCKS: usize = NON_PARTICIPATING + PARTICIPATING;
 
 // The insurance risks of section 11.2.1.
 pub const RISKS: usize = 7;
@@ -47,6 +50,9 @@ pub const TERRITORY_NUMBERS: usize = 2 * VOLUME_CLASSES;
 
 // The volumes of all territories.
 pub const VOLUME_NUMBERS: usize = TERRITORIES * TERRITORY_NUMBERS;
+
+// The adjustable products of section 11.3 that can have a credit.
+pub const ADJUSTABLE_PRODUCTS: usize = 16;
 
 // The general figures of section 8.2.3: gross components, guarantee requirement, ceded premiums.
 pub const GENERAL_FIGURES: usize = 3;

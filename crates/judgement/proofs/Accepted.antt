@@ -1,9 +1,9 @@
 -- What the rules leave of a sheet: its blocks and amounts are accepted, its totals fit; so the sheet of a sound judgement is an accepted sheet,
 -- and a refusal's number and place are as they must be. The rules are walked once, by `by-rules`. Assumes nothing.
-use mathlib.Core.Path.{_≡_, refl, subst}
+use mathlib.Core.Path.{_≡_, refl, sym, _∙_, subst}
 use mathlib.Core.Bool.{true, false}
-use mathlib.Core.List.{List, [], _∷_}
-use Prim.Native.Nat.{ℕ, _+_, _≤_}
+use mathlib.Core.List.{List, [], _∷_, _++_, append-nil}
+use Prim.Native.Nat.{ℕ, zero, suc, _+_, _*_, _≤_}
 use native.Mathlib.Decide.{decLe}
 use native.Mathlib.Omega.{arith}
 use lib.Dec.{eqb, ltb}
@@ -11,34 +11,38 @@ use lib.ListN.{length}
 use borrow.Author.Tests.{ltb-true, ltb-false, eqb-true}
 use Rattle.search.specs.Each.{Each}
 use Rattle.search.specs.First.{anyTo}
-use Rattle.search.proofs.Picks.{by-test, never}
+use Rattle.search.specs.Ascending.{ascending}
+use Rattle.search.specs.Total.{sumTo}
+use Rattle.search.proofs.Picks.{if-true, if-false, by-test, never}
 use Rattle.search.proofs.Ascents.{few, each-ascending}
-use Rattle.search.proofs.Anys.{none-to}
+use Rattle.search.proofs.Totals.{sum-most}
+use Rattle.amount.specs.Amount.{limit}
+use Rattle.search.proofs.Anys.{none-before, none-to}
 use Rattle.refusal.specs.Outcome.{printed, Judging, judging}
 use Rattle.refusal.specs.declared.Place.{Place}
 use Rattle.refusal.specs.declared.Place.the-variants.{Line, Nowhere}
-use Rattle.guideline.specs.Sizes.{nonParticipating, blocks, largestScalar}
-use Rattle.guideline.specs.Block.{lt, U, LT, AcceptedBlock}
+use Rattle.guideline.specs.Sizes.{nonParticipating, blocks, adjustableProducts, largestScalar}
+use Rattle.guideline.specs.Block.{lt, U, LT, K, AcceptedBlock}
 use Rattle.guideline.specs.Operational.{OperationalAmounts}
-use Rattle.guideline.specs.Buffer.{available, AcceptedSheet, mostAvailable}
+use Rattle.guideline.specs.Buffer.{sumK, free, available, AcceptedSheet, mostAvailable}
 use Rattle.guideline.proofs.Figures.{accepted-of}
-use Rattle.guideline.proofs.Totals.{available-fits}
+use Rattle.guideline.proofs.Totals.{sum-more, available-fits}
 use Rattle.sheet_line.specs.Codes.{Key, scalarClass}
 use Rattle.sheet_line.specs.declared.Code.{Code}
-use Rattle.sheet_line.specs.declared.Code.the-variants.{Rsk, Oth, Mor, Vol, Gen}
+use Rattle.sheet_line.specs.declared.Code.the-variants.{Rsk, Oth, Mor, Vol, Gen, Crd}
 use Rattle.sheet_line.specs.declared.Entry.{Entry}
 use Rattle.sheet_line.specs.Rules.{AcceptedLine}
-use Rattle.ledger.specs.Entries.{ofBlock, exists, hasLine, DistinctKeys, blockOf, survivalSum, deathSum}
+use Rattle.ledger.specs.Entries.{lookup, markOf, ofBlock, exists, hasLine, DistinctKeys, blockOf, survivalSum, deathSum, dividendCredit, adjustableCredit}
 use Rattle.ledger.specs.Reading.{Reading, reading}
 use Rattle.ledger.specs.Reading.Reading.{complete, stopped}
-use Rattle.ledger.proofs.Bounds.{first-most, second-most, none-outside, block-ruled, length-volumes, volumes-most, general-most, scalar-within}
+use Rattle.ledger.proofs.Bounds.{first-most, second-most, none-outside, none-unmarked, block-ruled, length-volumes, volumes-most, general-most, scalar-within}
 use Rattle.ledger.specs.Tables.{mostLines, longestSheet}
 use Rattle.ledger.proofs.Lines.{all-read, reading-distinct, reading-stopped}
 use Rattle.mortality.specs.Credit.{CreditDemand}
 use Rattle.mortality.proofs.Credits.{credit-demand, none-with-0}
 use Rattle.mortality.proofs.Accepted.{lowered-accepted, lowered-sums}
 use Rattle.judgement.specs.Sheet.{creditOf, afterCredit, blocksTo, sheetOf}
-use Rattle.judgement.specs.Judgement.{Judgement, rule13, creditAbove, rule16, rule12, ruleLines, rule2, judgement}
+use Rattle.judgement.specs.Judgement.{Judgement, rule13, dividendBarred, rule17, creditAbove, rule16, rule12, ruleLines, rule2, judgement}
 use Rattle.judgement.specs.Judgement.Judgement.{turnedAway, sound}
 use Rattle.judgement.specs.Steps.{Covered}
 
@@ -80,9 +84,33 @@ module _ (es : List Entry) (all : Each AcceptedLine es) where
         ceded = general-most es all 3;
       }
 
+  pub free-small : free (sheetOf es) ≤ limit * (adjustableProducts + 1)
+  unfolding sheetOf
+  free-small = omega (arith, sum-most (adjustableCredit es) limit (λ c. first-most es all Crd 0 c) adjustableProducts, general-most es all 5)
+
   pub scalar-ranged : hasLine es Gen 0 scalarClass ≡ true → (1 ≤ sheetOf es .g) × (sheetOf es .g ≤ largestScalar)
   unfolding sheetOf
   scalar-ranged h = scalar-within es all (ltb-true _ _ h)
+
+-- a dividend credit that isn't barred is at most its block's K, or there is none
+barred-none : (es : List Entry) → Each AcceptedLine es → (b : ℕ) → dividendBarred es b ≡ false
+    → (exists es b ≡ true → dividendCredit es b ≤ K (afterCredit es b)) × (exists es b ≡ false → dividendCredit es b ≡ 0)
+unfolding dividendBarred
+barred-none es all b h = (
+  λ t. ltb-false _ _ (sym (if-true _ t) ∙ h),
+  λ t. none-unmarked es all Crd b 1 (let z : lookup markOf es Crd b 1 ≤ 0 = ltb-false _ _ (sym (if-false _ t) ∙ h) in omega arith),
+)
+
+-- where rule 17 bars none, the dividend credits are within the K of their blocks
+pub dividends-most : (es : List Entry) → Each AcceptedLine es → (n : ℕ) → anyTo (dividendBarred es) n ≡ false → sumTo (dividendCredit es) n ≤ sumK (blocksTo es n)
+unfolding sumTo blocksTo ascending
+dividends-most es all zero h = omega arith
+dividends-most es all (suc n) h =
+    let low = dividends-most es all n (none-before (dividendBarred es) n h) in
+    let bs = ascending (exists es) (λ b. afterCredit es b ∷ []) n in
+    by-test (λ l. sumTo (dividendCredit es) n + dividendCredit es (suc n) ≤ sumK (bs ++ l)) (exists es (suc n)) _ _
+    (λ t. omega (arith, low, sum-more bs (afterCredit es (suc n)), barred-none es all (suc n) (none-to (dividendBarred es) (suc n) h (suc n) (omega arith) (omega arith)) .0 t))
+    (λ t. rw (append-nil bs) (omega (arith, low, barred-none es all (suc n) (none-to (dividendBarred es) (suc n) h (suc n) (omega arith) (omega arith)) .1 t)))
 
 -- what holds once no credit is above its block's LT(1)
 module _ (es : List Entry) (all : Each AcceptedLine es) (covered : Covered es) where
@@ -112,6 +140,7 @@ block-within Oth b c e v = (v .low, v .high)
 block-within Mor b c e v = never (cc)
 block-within Vol b c e v = never (cc)
 block-within Gen b c e v = never (cc)
+block-within Crd b c e v = never (cc)
 
 pub exists-within : (es : List Entry) → Each AcceptedLine es → (b : ℕ) → exists es b ≡ true → (1 ≤ b) × (b ≤ blocks)
 unfolding exists
@@ -133,7 +162,8 @@ pub record Passed (s : List ℕ) (es : List Entry) : Type 0 where
   pub lines : Each AcceptedLine es
   pub scalar : hasLine es Gen 0 scalarClass ≡ true
   pub covered : Covered es
-  pub credits : sheetOf es .credits ≤ available (sheetOf es)
+  pub dividends : anyTo (dividendBarred es) blocks ≡ false
+  pub credits : free (sheetOf es) ≤ available (sheetOf es)
 
 module _ (s : List ℕ) (P : Judgement → Type 0) (refused : (n : ℕ) (p : Place) → Judging n → printed p ≤ mostLines → P (turnedAway n p))
     (passed : (es : List Entry) → Passed s es → P (sound es)) where
@@ -142,13 +172,14 @@ module _ (s : List ℕ) (P : Judgement → Type 0) (refused : (n : ℕ) (p : Pla
   nowhere n z w h = refused n Nowhere (judging n z w h) (omega arith)
 
   after-12 : (es : List Entry) → reading s ≡ complete es → Each AcceptedLine es → P (rule12 es)
-  unfolding rule12 rule16 rule13
+  unfolding rule12 rule16 rule17 rule13
   after-12 es r all =
       by-test P _ _ _
       (λ t.
       by-test P _ _ _ (λ c. nowhere 16 refl refl refl) λ c.
+      by-test P _ _ _ (λ d. nowhere 17 refl refl refl) λ d.
       by-test P _ _ _ (λ u. nowhere 13 refl refl refl) λ u.
-      passed es (record { read = r; lines = all; scalar = t; covered = all-covered es all c; credits = ltb-false _ _ u }))
+      passed es (record { read = r; lines = all; scalar = t; covered = all-covered es all c; dividends = d; credits = ltb-false _ _ u }))
       (λ t. nowhere 12 refl refl refl)
 
   after-lines : length s ≤ longestSheet → (o : Reading) → reading s ≡ o → P (ruleLines o)
@@ -198,5 +229,5 @@ sound-accepted s es e =
       amounts = amounts-within es (p .lines);
       g-low = scalar-ranged es (p .lines) (p .scalar) .0;
       g-high = scalar-ranged es (p .lines) (p .scalar) .1;
-      credits-within = p .credits;
+      credits-within = (dividends-most es (p .lines) blocks (p .dividends), p .credits);
     }

@@ -10,7 +10,7 @@ use Rattle.refusal.specs.declared.Place.{Place}
 use Rattle.refusal.specs.declared.Place.the-variants as place
 use Rattle.guideline.specs.Sizes.{nonParticipating, blocks}
 use Rattle.guideline.specs.Operational.{RO}
-use Rattle.guideline.specs.Buffer.{count, sumK, available, buffer}
+use Rattle.guideline.specs.Buffer.{count, sumK, free, available, buffer}
 use Rattle.sheet_line.specs.Line.{sheetLineBytes}
 use Rattle.sheet_line.specs.Codes.{scalarClass}
 use Rattle.sheet_line.specs.declared.Code.the-variants.{Gen}
@@ -24,7 +24,7 @@ use Rattle.ledger.specs.declared.Answer.{Answer}
 use Rattle.ledger.specs.declared.Answer.the-variants as answer
 use Rattle.ledger.proofs.Lines.{all-read}
 use Rattle.judgement.specs.Sheet.{sheetOf, rowsTo}
-use Rattle.judgement.specs.Judgement.{Judgement, rule13, creditAbove, rule16, rule12, ruleLines, rule2, judgement, findings}
+use Rattle.judgement.specs.Judgement.{Judgement, rule13, dividendBarred, rule17, creditAbove, rule16, rule12, ruleLines, rule2, judgement, findings}
 use Rattle.judgement.specs.Judgement.Judgement.{turnedAway, sound}
 use Rattle.judgement.specs.Judgement.Findings.{refusal, figures}
 use Rattle.judgement.specs.Steps.{Holds, LinesOf}
@@ -72,7 +72,7 @@ module _ (s : List ℕ) where
           unfolding ruleLines
           good-lines = ap findings (sym (lined ∙ ap ruleLines read))
 
--- ---- rules 12, 16 and 13
+-- ---- rules 12, 16, 17 and 13
 
 module _ (es : List Entry) where
   pub no-scalar : hasLine es Gen 0 scalarClass ≡ false → refusal 12 place.Nowhere ≡ findings (rule12 es)
@@ -84,17 +84,22 @@ module _ (es : List Entry) where
     unfolding rule12 rule16 findings
     credit-above e = sym (ap findings (if-true _ h ∙ if-true _ e))
 
-    pub credits-pass : anyTo (creditAbove es) nonParticipating ≡ false → findings (rule13 es) ≡ findings (rule12 es)
+    pub credits-pass : anyTo (creditAbove es) nonParticipating ≡ false → findings (rule17 es) ≡ findings (rule12 es)
     unfolding rule12 rule16
     credits-pass e = sym (ap findings (if-true _ h ∙ if-false _ e))
 
-  pub credits-above : available (sheetOf es) < sheetOf es .credits → refusal 13 place.Nowhere ≡ findings (rule13 es)
-  unfolding rule13 findings
-  credits-above k = sym (ap findings (if-lt _ k))
+  pub dividend-above : anyTo (dividendBarred es) blocks ≡ true → refusal 17 place.Nowhere ≡ findings (rule17 es)
+  unfolding rule17 findings
+  dividend-above e = sym (ap findings (if-true _ e))
 
-  pub passes : sheetOf es .credits ≤ available (sheetOf es) → findings (sound es) ≡ findings (rule13 es)
-  unfolding rule13
-  passes k = sym (ap findings (if-ge _ k))
+  module _ (h : anyTo (dividendBarred es) blocks ≡ false) where
+    pub credits-above : available (sheetOf es) < free (sheetOf es) → refusal 13 place.Nowhere ≡ findings (rule17 es)
+    unfolding rule17 rule13 findings
+    credits-above k = sym (ap findings (if-false _ h ∙ if-lt _ k))
+
+    pub passes : free (sheetOf es) ≤ available (sheetOf es) → findings (sound es) ≡ findings (rule17 es)
+    unfolding rule17 rule13
+    passes k = sym (ap findings (if-false _ h ∙ if-ge _ k))
 
 -- ---- what a judgement has to tell
 

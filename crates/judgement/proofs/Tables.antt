@@ -1,13 +1,14 @@
 -- What is read off the tables that hold a sheet's lines is what the lines say. Assumes nothing.
-use mathlib.Core.Path.{_≡_}
+use mathlib.Core.Path.{_≡_, ap}
 use mathlib.Core.List.{List}
 use Prim.Native.Nat.{ℕ, _≤_}
+use lib.Dec.{ltb}
 use Rattle.guideline.specs.Sizes.{blocks}
 use Rattle.sheet_line.specs.Codes.{generalClasses, scalarClass, Key}
 use Rattle.sheet_line.specs.declared.Code.{Code}
 use Rattle.sheet_line.specs.declared.Code.the-variants.{Gen}
 use Rattle.sheet_line.specs.declared.Entry.{Entry}
-use Rattle.ledger.specs.Entries.{lookup, firstOf, secondOf, exists, hasLine, blockBy, volumesBy, blockOf, volumesOf, generalAmount}
+use Rattle.ledger.specs.Entries.{lookup, firstOf, secondOf, markOf, exists, hasLine, blockBy, volumesBy, blockOf, volumesOf, generalAmount}
 use Rattle.ledger.specs.Tables.{tabled, hasMark, blockMarked}
 use Rattle.ledger.proofs.Indexes.{lookup-table}
 use Rattle.ledger.proofs.Marks.{exists-table}
@@ -29,6 +30,9 @@ module _ {es : List Entry} {f s m : List ℕ} (H : Holds es f s m) where
 
   pub amount-is : (k : Code) (b c : ℕ) → Key k b c → (tabled f k b c ≡ lookup firstOf es k b c) × (tabled s k b c ≡ lookup secondOf es k b c)
   amount-is k b c v = rw (H .tables .first, H .tables .second) (lookup-table firstOf es k b c v (H .lines), lookup-table secondOf es k b c v (H .lines))
+
+  pub mark-is : (k : Code) (b c : ℕ) → Key k b c → hasMark m k b c ≡ hasLine es k b c
+  mark-is k b c v = rw (H .tables .mark) (ap (λ (n : ℕ). ltb 0 n) (lookup-table markOf es k b c v (H .lines)))
 
   pub scalar-is : hasMark m Gen 0 scalarClass ≡ hasLine es Gen 0 scalarClass
   scalar-is = rw (H .tables .mark) (scalar-table es (H .lines))

@@ -1,5 +1,5 @@
 -- A sheet judged by every rule but 14, after document 01, 'What is turned away': 'Order: 1, 2; then the first bad line, in it 3, 4, 5, 6, 8, 9,
--- 10, 11; then 12, 13', and document 02's 16 'after 12 and before 13'. Each rule ends in the next one. Assumes nothing.
+-- 10, 11; then 12, 13', and document 02's 16, 'after 12 and before 13', and 17, 'after 16 and before 13'. Each rule ends in the next one. Assumes nothing.
 use mathlib.Core.Bool.{Bool}
 use mathlib.Core.List.{List}
 use Prim.Native.Nat.{ℕ, _*_, _%_}
@@ -10,18 +10,18 @@ use Rattle.search.specs.First.{anyTo}
 use Rattle.refusal.specs.declared.Place.{Place}
 use Rattle.refusal.specs.declared.Place.the-variants as place
 use Rattle.guideline.specs.Sizes.{nonParticipating, blocks, rowNumbers}
-use Rattle.guideline.specs.Block.{lt}
+use Rattle.guideline.specs.Block.{lt, K}
 use Rattle.guideline.specs.Operational.{RO}
-use Rattle.guideline.specs.Buffer.{count, sumK, available, buffer}
+use Rattle.guideline.specs.Buffer.{count, sumK, free, available, buffer}
 use Rattle.sheet_line.specs.Line.{sheetLineBytes}
 use Rattle.sheet_line.specs.Codes.{scalarClass}
-use Rattle.sheet_line.specs.declared.Code.the-variants.{Gen}
+use Rattle.sheet_line.specs.declared.Code.the-variants.{Gen, Crd}
 use Rattle.sheet_line.specs.declared.Entry.{Entry}
-use Rattle.ledger.specs.Entries.{hasLine, blockOf}
+use Rattle.ledger.specs.Entries.{hasLine, exists, blockOf, dividendCredit}
 use Rattle.ledger.specs.Reading.{Reading, reading}
 use Rattle.ledger.specs.Reading.Reading.{complete, stopped}
 use Rattle.ledger.specs.Tables.{longestSheet}
-use Rattle.judgement.specs.Sheet.{creditOf, sheetOf, rowsTo}
+use Rattle.judgement.specs.Sheet.{creditOf, afterCredit, sheetOf, rowsTo}
 use Rattle.judgement.specs.declared.Verdict.{Verdict}
 use Rattle.judgement.specs.declared.Verdict.the-variants.{Sound, TurnedAway}
 
@@ -32,9 +32,18 @@ pub data Judgement : Type 0 where
   -- the lines of a sheet that no rule turns away
   sound : List Entry → Judgement
 
--- rule 13: 'credits above sum of K + guarantee requirement + RO, as reported'
+-- rule 13: 'credits above sum of K + guarantee requirement + RO, as reported', with document 02's #102 'all credits that belong to no block'
+-- against 'what is left'
 unfoldable pub rule13 : List Entry → Judgement
-rule13 es = pick (ltb (available (sheetOf es)) (sheetOf es .credits)) (turnedAway 13 place.Nowhere) (sound es)
+rule13 es = pick (ltb (available (sheetOf es)) (free (sheetOf es))) (turnedAway 13 place.Nowhere) (sound es)
+
+-- a dividend credit 'above its block's K or for a block that has no RSK or OTH line', whatever its amount
+unfoldable pub dividendBarred : List Entry → ℕ → Bool
+dividendBarred es b = pick (exists es b) (ltb (K (afterCredit es b)) (dividendCredit es b)) (hasLine es Crd b 1)
+
+-- rule 17, 'after 16 and before 13'
+unfoldable pub rule17 : List Entry → Judgement
+rule17 es = pick (anyTo (dividendBarred es) blocks) (turnedAway 17 place.Nowhere) (rule13 es)
 
 -- a credit above its block's LT(1)
 unfoldable pub creditAbove : List Entry → ℕ → Bool
@@ -42,7 +51,7 @@ creditAbove es b = ltb (lt (blockOf es b) 1) (creditOf es b)
 
 -- rule 16: 'a sheet with a credit above its block's LT(1)', of whichever block has a MOR line
 unfoldable pub rule16 : List Entry → Judgement
-rule16 es = pick (anyTo (creditAbove es) nonParticipating) (turnedAway 16 place.Nowhere) (rule13 es)
+rule16 es = pick (anyTo (creditAbove es) nonParticipating) (turnedAway 16 place.Nowhere) (rule17 es)
 
 -- rule 12: 'no g line'
 unfoldable pub rule12 : List Entry → Judgement
@@ -57,7 +66,7 @@ ruleLines (complete es) = rule12 es
 unfoldable pub rule2 : List ℕ → Judgement
 rule2 s = pick (eqb (length s % sheetLineBytes) 0) (ruleLines (reading s)) (turnedAway 2 place.Nowhere)
 
--- rule 1, 'sheet above 11,720 bytes' (12,360 with MOR), and then the others
+-- rule 1, 'sheet above 11,720 bytes' (20,040 with MOR and CRD), and then the others
 unfoldable pub judgement : List ℕ → Judgement
 judgement s = pick (ltb longestSheet (length s)) (turnedAway 1 place.Nowhere) (rule2 s)
 

@@ -3,12 +3,13 @@ use mathlib.Core.List.{List, [], _∷_}
 use Prim.Native.Nat.{ℕ}
 use Rattle.sheet_line.specs.Codes.{grossClass, guaranteeClass, cededClass, scalarClass, creditsClass}
 use Rattle.search.specs.Ascending.{ascending}
-use Rattle.guideline.specs.Sizes.{blocks}
+use Rattle.search.specs.Total.{sumTo}
+use Rattle.guideline.specs.Sizes.{blocks, adjustableProducts}
 use Rattle.guideline.specs.Block.{figuresOf}
 use Rattle.guideline.specs.Buffer.{Sheet}
 use Rattle.mortality.specs.Credit.{credit, lowered}
 use Rattle.sheet_line.specs.declared.Entry.{Entry}
-use Rattle.ledger.specs.Entries.{exists, blockOf, volumesOf, generalAmount, survivalSum, deathSum}
+use Rattle.ledger.specs.Entries.{exists, blockOf, volumesOf, generalAmount, survivalSum, deathSum, dividendCredit, adjustableCredit}
 
 -- the reported credit of a block, section 11.1.1; a block without a MOR line has S and T zero, and no credit
 unfoldable pub creditOf : List Entry → ℕ → ℕ
@@ -22,7 +23,8 @@ afterCredit es b = lowered (creditOf es b) (blockOf es b)
 unfoldable pub blocksTo : List Entry → ℕ → List (List ℕ)
 blocksTo es n = ascending (exists es) (λ b. afterCredit es b ∷ []) n
 
--- 'GEN: 1 gross components, 2 guarantee requirement, 3 ceded premiums, 4 g, 5 credits'
+-- 'GEN: 1 gross components, 2 guarantee requirement, 3 ceded premiums, 4 g, 5 credits', and CRD's credits; a block without participation has
+-- no dividend credit
 unfoldable pub sheetOf : List Entry → Sheet
 sheetOf es =
     record {
@@ -30,7 +32,9 @@ sheetOf es =
       volumes = volumesOf es;
       general = generalAmount es grossClass ∷ generalAmount es guaranteeClass ∷ generalAmount es cededClass ∷ [];
       g = generalAmount es scalarClass;
-      credits = generalAmount es creditsClass;
+      CRᵢ = sumTo (dividendCredit es) blocks;
+      CRⱼ = sumTo (adjustableCredit es) adjustableProducts;
+      CG = generalAmount es creditsClass;
     }
 
 -- a row for each of the blocks 1 to n that exist, ascending: the block's number, and its five figures

@@ -6,6 +6,9 @@ use mathlib.Core.List.{List}
 use Prim.Native.Nat.{ℕ, _+_, _*_, _≤_, _<_}
 use lib.ListN.{length, getD, take}
 use Rattle.search.specs.Each.{Each}
+use Rattle.search.specs.First.{anyTo}
+use Rattle.search.specs.Pick.{pick}
+use Rattle.search.specs.Total.{sumTo}
 use Rattle.guideline.specs.Sizes.{nonParticipating, rowNumbers, tableNumbers}
 use Rattle.guideline.specs.Block.{lt}
 use Rattle.guideline.specs.Buffer.{sumK}
@@ -13,10 +16,10 @@ use Rattle.sheet_line.specs.Codes.{scalarClass}
 use Rattle.sheet_line.specs.declared.Code.the-variants.{Gen}
 use Rattle.sheet_line.specs.declared.Entry.{Entry}
 use Rattle.sheet_line.specs.Rules.{AcceptedLine}
-use Rattle.ledger.specs.Entries.{hasLine, blockOf}
+use Rattle.ledger.specs.Entries.{hasLine, blockOf, dividendCredit}
 use Rattle.ledger.specs.Tables.{TablesOf}
 use Rattle.judgement.specs.Sheet.{creditOf, blocksTo, rowsTo}
-use Rattle.judgement.specs.Judgement.{Judgement}
+use Rattle.judgement.specs.Judgement.{Judgement, dividendBarred}
 use Rattle.judgement.specs.Judgement.Judgement.{sound}
 use Rattle.judgement.specs.declared.Worked.{Worked}
 
@@ -51,9 +54,22 @@ pub record Credited (es : List Entry) (credits : List ℕ) : Type 0 where
   pub each : Credits es credits
   pub covered : Covered es
 
--- the blocks 1 to n of the lines are worked out: how many exist, the sum of their K, and their rows in front of a table for all blocks
+-- what is known of some blocks and of those after them
+abbrev pub join : Worked → Worked → Worked
+join w more =
+    record {
+      count = w .count + more .count;
+      sum = w .sum + more .sum;
+      dividends = w .dividends + more .dividends;
+      barred = pick (w .barred) true (more .barred);
+    }
+
+-- the blocks 1 to n of the lines are worked out: how many exist, the sum of their K, the sum of their dividend credits, whether one of these is
+-- barred by rule 17, and the blocks' rows in front of a table for all blocks
 pub record WorkedOut (es : List Entry) (n : ℕ) (w : Worked) (rows : List ℕ) : Type 0 where
   pub count : w .count ≡ length (blocksTo es n)
   pub sum : w .sum ≡ sumK (blocksTo es n)
+  pub dividends : w .dividends ≡ sumTo (dividendCredit es) n
+  pub barred : w .barred ≡ anyTo (dividendBarred es) n
   pub front : take (rowNumbers * w .count) rows ≡ rowsTo es n
   pub long : length rows ≡ tableNumbers

@@ -1,21 +1,26 @@
 // A sheet judged by every rule but 14, and what its report is to say.
 ghost use mathlib.Core.Path.{_≡_};
+ghost use mathlib.Core.Bool.{Bool};
 ghost use mathlib.Core.List.{_∷_};
-ghost use Prim.Native.Nat.{_+_, _-_, _*_, _≤_, _<_};
+ghost use Prim.Native.Nat.{_+_, _-_, _*_, _^_, _≤_, _<_};
 ghost use lib.Dec.{leb};
 ghost use lib.ListN.{length};
 ghost use borrow.Rule.Slice.PartMut.{putMid};
 ghost use Rattle.guideline.specs.Buffer.{mostAvailable};
 ghost use Rattle.search.specs.First.{anyTo};
+ghost use Rattle.search.specs.Total.{sumTo};
+ghost use Rattle.search.specs.Pick.{pick};
+ghost use Rattle.ledger.specs.Entries.{hasLine, dividendCredit, adjustableCredit};
 ghost use Rattle.search.specs.Least.{least};
-ghost use Rattle.guideline.specs.Sizes.{nonParticipating, blocks, rowNumbers, tenThousandths, largestScalar, tableNumbers};
+ghost use Rattle.guideline.specs.Sizes.{nonParticipating, blocks, adjustableProducts, rowNumbers, tenThousandths, largestScalar, tableNumbers};
 ghost use Rattle.guideline.specs.Operational.{RO};
 ghost use Rattle.ledger.specs.Tables.{Empty};
 ghost use Rattle.block.specs.Parts.{figureList};
-ghost use Rattle.judgement.specs.Judgement.{judgement, creditAbove, rule12, rule13, findings, stated};
-ghost use Rattle.judgement.specs.Sheet.{afterCredit, sheetOf};
-ghost use Rattle.judgement.specs.Steps.{Ledger, OfLines, LinesOf, Credits, Credited, WorkedOut};
+ghost use Rattle.judgement.specs.Judgement.{judgement, creditAbove, rule12, rule17, findings, stated};
+ghost use Rattle.judgement.specs.Sheet.{creditOf, afterCredit, sheetOf};
+ghost use Rattle.judgement.specs.Steps.{Ledger, OfLines, LinesOf, Credits, Credited, join, WorkedOut};
 use block::Figures;
+use guideline::ADJUSTABLE_PRODUCTS;
 use guideline::BLOCK_NUMBERS;
 use guideline::BLOCKS;
 use guideline::NON_PARTICIPATING;
@@ -74,7 +79,7 @@ pub fn judge(
     }
 }
 
-// Rules 12 and 16, of lines that are all good, and then rule 13.
+// Rules 12 and 16, of lines that are all good, and then rules 17 and 13.
 fn after_lines(
     firsts: &[u64; PLACES],
     seconds: &[u64; PLACES],
@@ -91,7 +96,7 @@ fn after_lines(
     if any_credit_above(firsts, seconds, marks, &credits) {
         return Verdict::TurnedAway(16, Place::Nowhere);
     }
-    rule_13(firsts, seconds, marks, &credits, rows)
+    rule_17(firsts, seconds, marks, &credits, rows)
 }
 
 // The credits of blocks 1 to 16. One can pass the largest amount, and its block's LT(1).
@@ -136,8 +141,8 @@ fn any_credit_above(
     false
 }
 
-// Rule 13, of lines that rule 16 lets pass too, and the totals.
-fn rule_13(
+// Rules 17 and 13, of lines that rule 16 lets pass too, and the totals.
+fn rule_17(
     firsts: &[u64; PLACES],
     seconds: &[u64; PLACES],
     marks: &[u8; PLACES],
@@ -146,20 +151,24 @@ fn rule_13(
 ) -> Verdict
     requires { ⌜ Ledger (now firsts) (now seconds) (now marks) ⌝ }
     requires { ⌜ OfLines (now firsts) (now seconds) (now marks) (λ es. Credited es (now credits)) ⌝ }
-    ensures { λ r. ⌜ OfLines (now (firsts .entry)) (now (seconds .entry)) (now (marks .entry)) (λ es. stated r (now (rows .exit)) ≡ findings (rule13 es)) ⌝ }
+    ensures { λ r. ⌜ OfLines (now (firsts .entry)) (now (seconds .entry)) (now (marks .entry)) (λ es. stated r (now (rows .exit)) ≡ findings (rule17 es)) ⌝ }
 {
     let w = work_out(firsts, seconds, marks, credits, rows);
     let count = w.count;
     let sum = w.sum;
+    if w.barred {
+        return Verdict::TurnedAway(17, Place::Nowhere);
+    }
     let ro = operational_figure(firsts, seconds, marks);
-    let available = sum + ledger::general_amount(firsts, GUARANTEE_CLASS) + ro;
-    let group_credits = ledger::general_amount(firsts, CREDITS_CLASS);
-    if available < group_credits {
+    let available = sum - w.dividends + ledger::general_amount(firsts, GUARANTEE_CLASS) + ro;
+    let free = adjustable_credits(firsts, seconds, marks)
+        + ledger::general_amount(firsts, CREDITS_CLASS);
+    if available < free {
         return Verdict::TurnedAway(13, Place::Nowhere);
     }
     let buffer = scaled(
         ledger::general_amount(firsts, SCALAR_CLASS),
-        available - group_credits,
+        available - free,
     );
     Verdict::Sound(Totals {
         count,
@@ -167,6 +176,20 @@ fn rule_13(
         ro,
         buffer,
     })
+}
+
+// The sum of the credits of adjustable products.
+fn adjustable_credits(firsts: &[u64; PLACES], seconds: &[u64; PLACES], marks: &[u8; PLACES]) -> u64
+    requires { ⌜ Ledger (now firsts) (now seconds) (now marks) ⌝ }
+    ensures { λ r. ⌜ OfLines (now (firsts .entry)) (now (seconds .entry)) (now (marks .entry)) (λ es. r ≡ sumTo (adjustableCredit es) adjustableProducts) ⌝ }
+{
+    let mut sum = 0u64;
+    let mut i = 0;
+    while i < ADJUSTABLE_PRODUCTS {
+        i += 1;
+        sum += ledger::amount_of(firsts, Code::Crd, 0, i);
+    }
+    sum
 }
 
 // g × bracket over 10,000, rounded up. The product can pass a word: the bracket is split by 10,000 first.
@@ -192,10 +215,13 @@ fn operational_figure(firsts: &[u64; PLACES], seconds: &[u64; PLACES], marks: &[
     operational::operational(&volumes, &general)
 }
 
-// What is known of the blocks up to some number: how many exist, and the sum of their K.
+// What is known of the blocks up to some number: how many exist, the sum of their K, the sum of their dividend credits, and whether rule 17
+// bars one of these.
 struct Worked {
     count: usize,
     sum: u64,
+    dividends: u64,
+    barred: bool,
 }
 
 // The rows of the blocks that exist, ascending, from the table's front on.
@@ -211,7 +237,12 @@ fn work_out(
     requires { ⌜ length (now rows) ≡ tableNumbers ⌝ }
     ensures { λ r. ⌜ OfLines (now (firsts .entry)) (now (seconds .entry)) (now (marks .entry)) (λ es. WorkedOut es blocks r (now (rows .exit))) ⌝ }
 {
-    let mut w = Worked { count: 0, sum: 0 };
+    let mut w = Worked {
+        count: 0,
+        sum: 0,
+        dividends: 0,
+        barred: false,
+    };
     let mut block: usize = 0;
     while block < BLOCKS {
         block += 1;
@@ -236,15 +267,39 @@ fn work_block(
     requires { ⌜ OfLines (now firsts) (now seconds) (now marks) (λ es. WorkedOut es (block - 1) w (now rows)) ⌝ }
     ensures { λ r. ⌜ OfLines (now (firsts .entry)) (now (seconds .entry)) (now (marks .entry)) (λ es. WorkedOut es block r (now (rows .exit))) ⌝ }
 {
+    let dividend = dividend_credit(firsts, seconds, marks, block);
     if !ledger::block_exists(marks, block) {
-        return w;
+        let absent = Worked {
+            count: 0,
+            sum: 0,
+            dividends: dividend,
+            barred: has_dividend(firsts, seconds, marks, block),
+        };
+        return joined(w, absent);
     }
     let numbers = numbers_after_credit(firsts, seconds, marks, credits, block);
     let f = block::figures_of(&numbers);
     store(rows, ROW_NUMBERS * w.count, block, f);
+    let present = Worked {
+        count: 1,
+        sum: f.k,
+        dividends: dividend,
+        barred: f.k < dividend,
+    };
+    joined(w, present)
+}
+
+// What is known of some blocks and of those after them.
+fn joined(w: Worked, more: Worked) -> Worked
+    requires { ⌜ (w .count + more .count < 2 ^ 64) × (w .sum + more .sum < 2 ^ 64) × (w .dividends + more .dividends < 2 ^ 64) ⌝ }
+    ensures { λ r. ⌜ r ≡ join w more ⌝ }
+{
+    let barred = either(w.barred, more.barred);
     Worked {
-        count: w.count + 1,
-        sum: w.sum + f.k,
+        count: w.count + more.count,
+        sum: w.sum + more.sum,
+        dividends: w.dividends + more.dividends,
+        barred,
     }
 }
 
@@ -262,7 +317,70 @@ fn numbers_after_credit(
     ensures { λ r. ⌜ OfLines (now (firsts .entry)) (now (seconds .entry)) (now (marks .entry)) (λ es. r ≡ afterCredit es block) ⌝ }
 {
     let entered = ledger::block_numbers(firsts, seconds, block);
-    mortality::lowered(entered, credits[block - 1])
+    mortality::lowered(entered, credit_of(firsts, seconds, marks, credits, block))
+}
+
+// The mortality credit of a block: participating ones have none.
+fn credit_of(
+    firsts: &[u64; PLACES],
+    seconds: &[u64; PLACES],
+    marks: &[u8; PLACES],
+    credits: &[u64; NON_PARTICIPATING],
+    block: usize,
+) -> u64
+    requires { ⌜ 1 ≤ block ⌝ }
+    requires { ⌜ Ledger (now firsts) (now seconds) (now marks) ⌝ }
+    requires { ⌜ OfLines (now firsts) (now seconds) (now marks) (λ es. Credited es (now credits)) ⌝ }
+    ensures { λ r. ⌜ OfLines (now (firsts .entry)) (now (seconds .entry)) (now (marks .entry)) (λ es. r ≡ creditOf es block) ⌝ }
+{
+    if NON_PARTICIPATING < block {
+        return 0;
+    }
+    credits[block - 1]
+}
+
+// The dividend credit of a block: those without participation have none.
+fn dividend_credit(
+    firsts: &[u64; PLACES],
+    seconds: &[u64; PLACES],
+    marks: &[u8; PLACES],
+    block: usize,
+) -> u64
+    requires { ⌜ (1 ≤ block) × (block ≤ blocks) ⌝ }
+    requires { ⌜ Ledger (now firsts) (now seconds) (now marks) ⌝ }
+    ensures { λ r. ⌜ OfLines (now (firsts .entry)) (now (seconds .entry)) (now (marks .entry)) (λ es. r ≡ dividendCredit es block) ⌝ }
+{
+    if block <= NON_PARTICIPATING {
+        return 0;
+    }
+    ledger::amount_of(firsts, Code::Crd, block, 1)
+}
+
+// Whether a block has the line of a dividend credit, of whatever amount.
+fn has_dividend(
+    firsts: &[u64; PLACES],
+    seconds: &[u64; PLACES],
+    marks: &[u8; PLACES],
+    block: usize,
+) -> bool
+    requires { ⌜ (1 ≤ block) × (block ≤ blocks) ⌝ }
+    requires { ⌜ Ledger (now firsts) (now seconds) (now marks) ⌝ }
+    ensures { λ r. ⌜ OfLines (now (firsts .entry)) (now (seconds .entry)) (now (marks .entry)) (λ es. r ≡ hasLine es Code.Crd block 1) ⌝ }
+{
+    if block <= NON_PARTICIPATING {
+        return false;
+    }
+    ledger::has_mark(marks, Code::Crd, block, 1)
+}
+
+// Whether one of two things is so.
+fn either(one: bool, other: bool) -> bool
+    ensures { λ r. ⌜ r ≡ pick one Bool.true other ⌝ }
+{
+    if one {
+        return true;
+    }
+    other
 }
 
 // A block's row, from a place of the table on.

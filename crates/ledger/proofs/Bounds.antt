@@ -50,8 +50,12 @@ module _ (es : List Entry) (all : Each AcceptedLine es) where
   trend-none b = looked-up (λ f s m. s ≡ 0) Rsk b expensesClass refl (λ f s v a. a .single refl) es all
 
   -- a code has no line outside its range
-  pub none-outside : (k : Code) (b c : ℕ) → (Key k b c → ⊥) → (lookup firstOf es k b c ≡ 0) × (lookup secondOf es k b c ≡ 0)
-  none-outside k b c n = looked-up (λ f s m. (f ≡ 0) × (s ≡ 0)) k b c (refl, refl) (λ f s v a. absurd (n v)) es all
+  pub none-outside : (k : Code) (b c : ℕ) → (Key k b c → ⊥) → (lookup firstOf es k b c ≡ 0) × (lookup secondOf es k b c ≡ 0) × (lookup markOf es k b c ≡ 0)
+  none-outside k b c n = looked-up (λ f s m. (f ≡ 0) × (s ≡ 0) × (m ≡ 0)) k b c (refl, refl, refl) (λ f s v a. absurd (n v)) es all
+
+  -- a line that isn't there has no amount
+  pub none-unmarked : (k : Code) (b c : ℕ) → lookup markOf es k b c ≡ 0 → lookup firstOf es k b c ≡ 0
+  none-unmarked k b c = looked-up (λ f s m. m ≡ 0 → f ≡ 0) k b c (λ z. refl) (λ f s v a z. absurd (omega arith)) es all
 
   -- rule 10 lets no other scalar pass, where there is one
   pub scalar-within : 0 < lookup markOf es Gen 0 scalarClass → (1 ≤ generalAmount es scalarClass) × (generalAmount es scalarClass ≤ largestScalar)

@@ -16,7 +16,7 @@ use Rattle.guideline.specs.Sizes.{blocks}
 use Rattle.sheet_line.specs.Codes.{rangeOf, Key}
 use Rattle.sheet_line.specs.Rules.{AcceptedLine}
 use Rattle.sheet_line.specs.declared.Code.{Code}
-use Rattle.sheet_line.specs.declared.Code.the-variants.{Rsk, Oth, Mor, Vol, Gen}
+use Rattle.sheet_line.specs.declared.Code.the-variants.{Rsk, Oth, Mor, Vol, Gen, Crd}
 use Rattle.sheet_line.specs.declared.Entry.{Entry}
 use Rattle.ledger.specs.Entries.{markOf, ofBlock, exists}
 use Rattle.ledger.specs.Tables.{places, blockPlaces, columnsBefore, indexOf, indexFor, table, anyMark, blockMarked}
@@ -79,14 +79,15 @@ module _ (m : List ℕ) (p : ℕ) where
 -- ---- the marks of entries
 
 -- the codes whose lines make a block exist have the first columns of its row; the others have later ones, or row 0
-columns-of : (k : Code)
-    → ((ofBlock k ≡ true) × (columnsBefore k + rangeOf k .classes ≤ blockPlaces))
-    ⊎ ((ofBlock k ≡ false) × ((blockPlaces ≤ columnsBefore k) ⊎ (rangeOf k .highest ≤ 0)))
-columns-of Rsk = inl (refl, omega arith)
-columns-of Oth = inl (refl, omega arith)
-columns-of Mor = inr (refl, inl (omega arith))
-columns-of Vol = inr (refl, inl (omega arith))
-columns-of Gen = inr (refl, inr (omega arith))
+columns-of : (k : Code) (b : ℕ)
+    → ((ofBlock k ≡ true) × (columnsBefore k + rangeOf k b .classes ≤ blockPlaces))
+    ⊎ ((ofBlock k ≡ false) × ((blockPlaces ≤ columnsBefore k) ⊎ (rangeOf k b .highest ≤ 0)))
+columns-of Rsk b = inl (refl, omega arith)
+columns-of Oth b = inl (refl, omega arith)
+columns-of Mor b = inr (refl, inl (omega arith))
+columns-of Vol b = inr (refl, inl (omega arith))
+columns-of Gen b = inr (refl, inr (omega arith))
+columns-of Crd b = inr (refl, inl (omega arith))
 
 -- the places of a block's RSK and OTH lines
 abbrev Within : ℕ → ℕ → Type 0
@@ -98,14 +99,14 @@ row-line : (k : Code) (b c d : ℕ) → Key k b c → 1 ≤ d → (t : Bool)
     ⊎ ((indexOf Rsk d 1 ≤ indexOf k b c → indexOf k b c < indexOf Rsk d 1 + blockPlaces → ⊥) × (pick (ofBlock k) (pick (eqb b d) true t) t ≡ t))
 unfolding indexOf
 row-line k b c d v h t =
-    elim (columns-of k) [
+    elim (columns-of k b) [
       | inl o ↦ elim (ℕ-discrete b d) [
         | yes q ↦ inl ((omega arith, omega arith), if-true _ (o .0) ∙ if-eq _ q)
-        | no q ↦ inr (λ l u. omega (arith, column-most k), if-true _ (o .0) ∙ if-ne _ q)
+        | no q ↦ inr (λ l u. omega (arith, column-most k b), if-true _ (o .0) ∙ if-ne _ q)
       ]
       | inr o ↦ elim (o .1) [
-        | inl w ↦ inr (λ l u. omega (arith, column-most k), if-false _ (o .0))
-        | inr w ↦ inr (λ l u. omega (arith, column-most k), if-false _ (o .0))
+        | inl w ↦ inr (λ l u. omega (arith, column-most k b), if-false _ (o .0))
+        | inr w ↦ inr (λ l u. omega (arith, column-most k b), if-false _ (o .0))
       ]
     ]
 

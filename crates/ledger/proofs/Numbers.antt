@@ -64,7 +64,7 @@ pairs-same f g f′ g′ (suc n) p q =
 
 module _ (es : List Entry) (all : Each AcceptedLine es) where
   -- a code's line, where block and class are in its range
-  entry-at : (k : Code) (b c : ℕ) → (rangeOf k .lowest ≤ b) × (b ≤ rangeOf k .highest) → (1 ≤ c) × (c ≤ rangeOf k .classes)
+  entry-at : (k : Code) (b c : ℕ) → (rangeOf k b .lowest ≤ b) × (b ≤ rangeOf k b .highest) → (1 ≤ c) × (c ≤ rangeOf k b .classes)
       → (f : Entry → ℕ) → tabled (table f es) k b c ≡ lookup f es k b c
   entry-at k b c h l f = lookup-table f es k b c (record { low = h .0; high = h .1; one = l .0; most = l .1 }) all
 

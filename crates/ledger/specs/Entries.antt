@@ -10,7 +10,7 @@ use Rattle.search.specs.Pick.{pick}
 use Rattle.guideline.specs.Sizes.{volumeClasses, volumePairs}
 use Rattle.sheet_line.specs.Codes.{riskClasses}
 use Rattle.sheet_line.specs.declared.Code.{Code}
-use Rattle.sheet_line.specs.declared.Code.the-variants.{Rsk, Oth, Mor, Vol, Gen}
+use Rattle.sheet_line.specs.declared.Code.the-variants.{Rsk, Oth, Mor, Vol, Gen, Crd}
 use Rattle.sheet_line.specs.declared.Entry.{Entry}
 
 -- a code's place in the order of codes
@@ -20,6 +20,7 @@ rank Oth = 1
 rank Mor = 2
 rank Vol = 3
 rank Gen = 4
+rank Crd = 5
 
 -- whether an entry has this code, block and class
 unfoldable pub hasKey : Code → ℕ → ℕ → Entry → Bool
@@ -68,6 +69,7 @@ ofBlock Oth = true
 ofBlock Mor = false
 ofBlock Vol = false
 ofBlock Gen = false
+ofBlock Crd = false
 
 -- 'A block exists when it has an RSK or OTH line, zeros included'
 unfoldable pub exists : List Entry → ℕ → Bool
@@ -109,3 +111,11 @@ survivalSum es b = lookup firstOf es Mor b 1
 -- and T
 abbrev pub deathSum : List Entry → ℕ → ℕ
 deathSum es b = lookup secondOf es Mor b 1
+
+-- 'A line CRD with block 17–32 and class 1 is that block's dividend credit' (document 02, #102), 0 where there is none
+abbrev pub dividendCredit : List Entry → ℕ → ℕ
+dividendCredit es b = lookup firstOf es Crd b 1
+
+-- 'CRD with block 0 and class 1–16 is a credit of an adjustable product'
+abbrev pub adjustableCredit : List Entry → ℕ → ℕ
+adjustableCredit es c = lookup firstOf es Crd 0 c

@@ -1,5 +1,5 @@
--- The tables that hold a sheet's entries: a row for each block, with a column for each class that RSK, OTH, VOL and MOR have, and row 0
--- for GEN. First amounts, second amounts and marks have a table each. Assumes nothing.
+-- The tables that hold a sheet's entries: a row for each block, with a column for each class that RSK, OTH, VOL, MOR and CRD have, and row 0
+-- for GEN and CRD. First amounts, second amounts and marks have a table each. Assumes nothing.
 use mathlib.Core.Path.{_≡_}
 use Prim.Native.Nat.{ℕ, zero, suc, _+_, _-_, _*_}
 use mathlib.Core.List.{List, [], _∷_}
@@ -7,11 +7,11 @@ use mathlib.Core.Bool.{Bool, true, false}
 use lib.Dec.{ltb, eqb}
 use lib.ListN.{getD, set, replicate}
 use Rattle.search.specs.Pick.{pick}
-use Rattle.guideline.specs.Sizes.{nonParticipating, blocks, volumeClasses, volumePairs}
-use Rattle.sheet_line.specs.Codes.{riskClasses, otherClasses, mortalityClasses, generalClasses}
+use Rattle.guideline.specs.Sizes.{nonParticipating, participating, blocks, volumeClasses, volumePairs, adjustableProducts}
+use Rattle.sheet_line.specs.Codes.{riskClasses, otherClasses, mortalityClasses, generalClasses, dividendClasses}
 use Rattle.sheet_line.specs.Line.{sheetLineBytes}
 use Rattle.sheet_line.specs.declared.Code.{Code}
-use Rattle.sheet_line.specs.declared.Code.the-variants.{Rsk, Oth, Mor, Vol, Gen}
+use Rattle.sheet_line.specs.declared.Code.the-variants.{Rsk, Oth, Mor, Vol, Gen, Crd}
 use Rattle.sheet_line.specs.declared.Entry.{Entry}
 use Rattle.ledger.specs.Entries.{firstOf, secondOf, markOf}
 use Rattle.ledger.specs.Reading.{Reading, entriesOf, outcomeOf, stated}
@@ -21,17 +21,19 @@ use Rattle.ledger.specs.declared.Answer.{Answer}
 abbrev pub blockPlaces : ℕ
 blockPlaces = riskClasses + otherClasses
 
--- the places of a row: a column for each class that a block's RSK, OTH, VOL and MOR lines have
+-- the places of a row. The columns behind RSK and OTH are VOL's and MOR's in the rows of blocks 1 to 16, and CRD's, of which row 0 has the
+-- most, in the others
 abbrev pub rowPlaces : ℕ
-rowPlaces = blockPlaces + volumeClasses + mortalityClasses
+rowPlaces = blockPlaces + adjustableProducts
 
--- the places of a table: a row for each block, and one for GEN
+-- the places of a table: a row for each block, and row 0
 abbrev pub places : ℕ
 places = rowPlaces * (blocks + 1)
 
--- the lines that a sheet can have, one for each code, block and class: 309
+-- the lines that a sheet can have, one for each code, block and class: 501
 abbrev pub mostLines : ℕ
-mostLines = blocks * blockPlaces + nonParticipating * mortalityClasses + volumePairs + generalClasses
+mostLines =
+    blocks * blockPlaces + nonParticipating * mortalityClasses + volumePairs + generalClasses + participating * dividendClasses + adjustableProducts
 
 -- the bytes of that many lines
 abbrev pub longestSheet : ℕ
@@ -44,6 +46,7 @@ columnsBefore Oth = riskClasses
 columnsBefore Mor = blockPlaces + volumeClasses
 columnsBefore Vol = blockPlaces
 columnsBefore Gen = 0
+columnsBefore Crd = blockPlaces
 
 -- the index of a code, block and class in the tables
 unfoldable pub indexOf : Code → ℕ → ℕ → ℕ

@@ -1,6 +1,6 @@
 // The lines of a sheet read into tables that the caller lends, and the figures that are taken off them.
 //
-// A table has a row for each block, with a column for each class that RSK, OTH, VOL and MOR have, and row 0 for GEN. The marks of the lines
+// A table has a row for each block, with a column for each class that RSK, OTH, VOL, MOR and CRD have, and row 0 for GEN and CRD. The marks of the lines
 // that stood before are a table of their own.
 ghost use mathlib.Core.Path.{_≡_};
 ghost use Prim.Native.Nat.{_+_, _≤_, _<_};
@@ -9,9 +9,11 @@ ghost use Rattle.guideline.specs.Sizes.{blocks};
 ghost use Rattle.ledger.specs.Entries.{blockBy, volumesBy};
 ghost use Rattle.ledger.specs.Reading.{reading};
 ghost use Rattle.ledger.specs.Tables.{places, columnsBefore, indexOf, Empty, Filled, Entered, tabled, hasMark, blockMarked};
+use guideline::ADJUSTABLE_PRODUCTS;
 use guideline::BLOCK_NUMBERS;
 use guideline::BLOCKS;
 use guideline::NON_PARTICIPATING;
+use guideline::PARTICIPATING;
 use guideline::VOLUME_CLASSES;
 use guideline::VOLUME_NUMBERS;
 use guideline::VOLUME_PAIRS;
@@ -20,6 +22,7 @@ use sheet_line::Code;
 use sheet_line::Entry;
 use sheet_line::Line;
 use sheet_line::SHEET_LINE_BYTES;
+use sheet_line::codes::DIVIDEND_CLASSES;
 use sheet_line::codes::GENERAL_CLASSES;
 use sheet_line::codes::MORTALITY_CLASSES;
 use sheet_line::codes::OTHER_CLASSES;
@@ -33,13 +36,15 @@ const BLOCK_PLACES: usize = RISK_CLASSES + OTHER_CLASSES;
 pub const MOST_LINES: usize = BLOCKS * BLOCK_PLACES
     + NON_PARTICIPATING * MORTALITY_CLASSES
     + VOLUME_PAIRS
-    + GENERAL_CLASSES;
+    + GENERAL_CLASSES
+    + PARTICIPATING * DIVIDEND_CLASSES
+    + ADJUSTABLE_PRODUCTS;
 
 // The bytes of that many lines.
 pub const LONGEST_SHEET: usize = SHEET_LINE_BYTES * MOST_LINES;
 
-// The places of a row.
-const ROW_PLACES: usize = BLOCK_PLACES + VOLUME_CLASSES + MORTALITY_CLASSES;
+// The places of a row. The columns behind RSK and OTH are VOL's and MOR's in the rows of blocks 1 to 16, and CRD's in the others.
+const ROW_PLACES: usize = BLOCK_PLACES + ADJUSTABLE_PRODUCTS;
 
 // The places of a table.
 pub const PLACES: usize = ROW_PLACES * (BLOCKS + 1);
@@ -106,7 +111,7 @@ fn enter(
 }
 
 // Whether a code, block and class has a mark.
-fn has_mark(marks: &[u8; PLACES], code: Code, block: usize, class: usize) -> bool
+pub fn has_mark(marks: &[u8; PLACES], code: Code, block: usize, class: usize) -> bool
     requires { ⌜ Key code block class ⌝ }
     ensures { λ r. ⌜ r ≡ hasMark (now (marks .entry)) code block class ⌝ }
 {
@@ -131,6 +136,7 @@ fn columns_before(code: Code) -> usize
         Code::Mor => BLOCK_PLACES + VOLUME_CLASSES,
         Code::Vol => BLOCK_PLACES,
         Code::Gen => 0,
+        Code::Crd => BLOCK_PLACES,
     }
 }
 

@@ -58,7 +58,7 @@ totals = 3
 abbrev pub reportLength : ℕ → ℕ
 reportLength n = reportLineBytes * (blockFigures * n + totals)
 
--- that of all blocks, 2,407 bytes
+-- that of all blocks, 4,727 bytes
 abbrev pub longestReport : ℕ
 longestReport = reportLength blocks
 

@@ -1,10 +1,11 @@
 -- Whether one of the numbers 1 to n passes a test: one number more, and what follows where none does. Assumes nothing.
 use mathlib.Core.Path.{_≡_, refl, sym}
 use mathlib.Core.Bool.{Bool, true, false, true≢false}
-use Prim.Native.Nat.{ℕ, zero, suc, _≤_}
+use Prim.Native.Nat.{ℕ, zero, suc, _-_, _≤_}
 use native.Mathlib.Decide.{ℕ-discrete}
 use native.Mathlib.Omega.{arith}
 use Rattle.search.specs.First.{anyTo}
+use Rattle.search.specs.Pick.{pick}
 use Rattle.search.proofs.Picks.{if-true, if-false, by-test}
 
 module _ (P : ℕ → Bool) where
@@ -27,13 +28,25 @@ module _ (P : ℕ → Bool) where
         | no q ↦ if-true _ (goes-on m n (omega arith) e)
       ]
 
+  -- where none passes, none of those before does, nor the last
+  none-of-both : (n : ℕ) → anyTo P (suc n) ≡ false → (anyTo P n ≡ false) × (P (suc n) ≡ false)
+  unfolding anyTo
+  none-of-both n = by-test (λ t. t ≡ false → (anyTo P n ≡ false) × (P (suc n) ≡ false)) (anyTo P n) true (P (suc n)) (λ q r. absurd (true≢false r)) (λ q r. (q, r))
+
+  pub none-before : (n : ℕ) → anyTo P (suc n) ≡ false → anyTo P n ≡ false
+  none-before n e = none-of-both n e .0
+
   -- where none passes, each doesn't
   pub none-to : (n : ℕ) → anyTo P n ≡ false → (b : ℕ) → 1 ≤ b → b ≤ n → P b ≡ false
-  unfolding anyTo
   none-to zero e b l h = absurd (omega arith)
   none-to (suc n) e b l h =
-      let each = by-test (λ t. t ≡ false → (anyTo P n ≡ false) × (P (suc n) ≡ false)) (anyTo P n) true (P (suc n)) (λ q r. absurd (true≢false r)) (λ q r. (q, r)) e in
       elim (ℕ-discrete b (suc n)) [
-        | yes q ↦ rw q (each .1)
-        | no q ↦ none-to n (each .0) b l (omega arith)
+        | yes q ↦ rw q (none-of-both n e .1)
+        | no q ↦ none-to n (none-before n e) b l (omega arith)
       ]
+
+  -- one number more
+  pub any-next : (n : ℕ) → 1 ≤ n → anyTo P n ≡ pick (anyTo P (n - 1)) true (P n)
+  unfolding anyTo
+  any-next zero h = absurd (omega arith)
+  any-next (suc n) h = let e : suc n - 1 ≡ n = omega arith in rw e

@@ -11,3 +11,4 @@ pub mod Stretches
 pub mod Roots
 pub mod Tests
 pub mod Counts
+pub mod Totals

@@ -4,3 +4,4 @@ pub mod Least
 pub mod First
 pub mod Each
 pub mod Ascending
+pub mod Total

@@ -2,7 +2,7 @@
 use mathlib.Core.Path.{_≡_, refl, ap, _∙_}
 use mathlib.Core.List.{List}
 use mathlib.Core.Bool.{Bool, true, false, not}
-use Prim.Native.Nat.{ℕ, _≤_, _<_}
+use Prim.Native.Nat.{ℕ, zero, suc, _≤_, _<_}
 use native.Mathlib.Omega.{arith}
 use lib.ListN.{length, length-append}
 use borrow.Author.Tests.{eq-eqb, le-ltb}
@@ -18,7 +18,7 @@ use Rattle.sheet_line.specs.Line.{sheetLineBytes, spaced, separatedOf, c
 use Rattle.sheet_line.specs.Rules.{outside, singleOf, secondBarred, hasTrend, trendAbove, isScalar, scalarOutside}
 use Rattle.sheet_line.specs.Rules.{rule5, rule6, rule8, rule9, rule10, parseLine, AcceptedLine}
 use Rattle.sheet_line.specs.declared.Code.{Code}
-use Rattle.sheet_line.specs.declared.Code.the-variants.{Rsk, Oth, Mor, Vol, Gen}
+use Rattle.sheet_line.specs.declared.Code.the-variants.{Rsk, Oth, Mor, Vol, Gen, Crd}
 use Rattle.sheet_line.specs.declared.codes.Coded.the-variants.{Known}
 use Rattle.sheet_line.specs.declared.columns.Layout.the-variants.{Kept}
 use Rattle.sheet_line.specs.declared.Entry.{Entry}
@@ -32,6 +32,7 @@ three-letters Oth = refl
 three-letters Mor = refl
 three-letters Vol = refl
 three-letters Gen = refl
+three-letters Crd = refl
 
 pub length-print : (e : Entry) → length (printLine e) ≡ sheetLineBytes
 unfolding lettered
@@ -63,6 +64,7 @@ printed-code Oth e = refl
 printed-code Mor e = refl
 printed-code Vol e = refl
 printed-code Gen e = refl
+printed-code Crd e = refl
 
 -- ---- the tests of rules 5 to 10 do not hold of an entry that they leave
 
@@ -91,6 +93,8 @@ key-small Oth b c v = omega arith
 key-small Mor b c v = omega arith
 key-small Vol b c v = omega arith
 key-small Gen b c v = omega arith
+key-small Crd zero c v = omega arith
+key-small Crd (suc b) c v = omega arith
 
 pub parse-print : (e : Entry) → AcceptedLine e → parseLine (printLine e) ≡ Good e
 unfolding parseLine

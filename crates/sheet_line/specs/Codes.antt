@@ -1,29 +1,30 @@
 -- The codes of a line: document 01's table of them, the sheet and the report. A code more is a clause more in each definition.
 -- Bytes are numbers: R is 82. Assumes nothing.
-use Prim.Native.Nat.{ℕ, _≤_}
+use Prim.Native.Nat.{ℕ, zero, suc, _+_, _≤_}
 use mathlib.Core.List.{List, [], _∷_}
 use mathlib.Core.Bool.{Bool, false}
 use lib.Dec.{eqb}
 use lib.ListN.{getD}
 use Rattle.search.specs.Pick.{pick}
-use Rattle.guideline.specs.Sizes.{nonParticipating, blocks, risks, otherAmounts, territories, volumeClasses}
+use Rattle.guideline.specs.Sizes.{nonParticipating, blocks, risks, otherAmounts, territories, volumeClasses, adjustableProducts}
 use Rattle.sheet_line.specs.declared.Code.{Code}
-use Rattle.sheet_line.specs.declared.Code.the-variants.{Rsk, Oth, Mor, Vol, Gen}
+use Rattle.sheet_line.specs.declared.Code.the-variants.{Rsk, Oth, Mor, Vol, Gen, Crd}
 use Rattle.sheet_line.specs.declared.codes.Coded.{Coded}
 use Rattle.sheet_line.specs.declared.codes.Coded.the-variants.{Known, Unknown}
 use Rattle.sheet_line.specs.declared.codes.Range.{Range}
 
--- the codes, in the table's order, with document 02's MOR after OTH
+-- the codes, in the table's order, with document 02's MOR after OTH and CRD last
 abbrev pub codes : List Code
-codes = Rsk ∷ Oth ∷ Mor ∷ Vol ∷ Gen ∷ []
+codes = Rsk ∷ Oth ∷ Mor ∷ Vol ∷ Gen ∷ Crd ∷ []
 
--- the bytes of a code: RSK, OTH, MOR, VOL, GEN
+-- the bytes of a code: RSK, OTH, MOR, VOL, GEN, CRD
 abbrev pub lettersOf : Code → List ℕ
 lettersOf Rsk = 82 ∷ 83 ∷ 75 ∷ []
 lettersOf Oth = 79 ∷ 84 ∷ 72 ∷ []
 lettersOf Mor = 77 ∷ 79 ∷ 82 ∷ []
 lettersOf Vol = 86 ∷ 79 ∷ 76 ∷ []
 lettersOf Gen = 71 ∷ 69 ∷ 78 ∷ []
+lettersOf Crd = 67 ∷ 82 ∷ 68 ∷ []
 
 -- RSK's classes: mortality to expenses
 abbrev pub riskClasses : ℕ
@@ -45,6 +46,10 @@ mortalityClasses = 1
 abbrev pub generalClasses : ℕ
 generalClasses = 5
 
+-- CRD's classes of a participating block: one, its dividend credit (document 02, #102)
+abbrev pub dividendClasses : ℕ
+dividendClasses = 1
+
 -- the class of GEN that holds the gross components
 abbrev pub grossClass : ℕ
 grossClass = 1
@@ -65,20 +70,23 @@ creditsClass = 5
 abbrev pub scalarClass : ℕ
 scalarClass = 4
 
--- the columns Block and Class of the table: 1–16 and 1–7, 1–16 and 1–3, 1–16 and 1, 1–16 and 1–8, 0 and 1–5
-abbrev pub rangeOf : Code → Range
-rangeOf Rsk = record { lowest = 1; highest = blocks; classes = riskClasses }
-rangeOf Oth = record { lowest = 1; highest = blocks; classes = otherClasses }
-rangeOf Mor = record { lowest = 1; highest = nonParticipating; classes = mortalityClasses }
-rangeOf Vol = record { lowest = 1; highest = territories; classes = volumeClasses }
-rangeOf Gen = record { lowest = 0; highest = 0; classes = generalClasses }
+-- the columns Block and Class of the table, for the range that a block falls under: 1–32 and 1–7, 1–32 and 1–3, 1–16 and 1, 1–16 and 1–8,
+-- 0 and 1–5; of CRD 0 and 1–16, or 17–32 and 1
+abbrev pub rangeOf : Code → ℕ → Range
+rangeOf Rsk b = record { lowest = 1; highest = blocks; classes = riskClasses }
+rangeOf Oth b = record { lowest = 1; highest = blocks; classes = otherClasses }
+rangeOf Mor b = record { lowest = 1; highest = nonParticipating; classes = mortalityClasses }
+rangeOf Vol b = record { lowest = 1; highest = territories; classes = volumeClasses }
+rangeOf Gen b = record { lowest = 0; highest = 0; classes = generalClasses }
+rangeOf Crd zero = record { lowest = 0; highest = 0; classes = adjustableProducts }
+rangeOf Crd (suc b) = record { lowest = nonParticipating + 1; highest = blocks; classes = dividendClasses }
 
 -- a block and a class that a code has
 pub record Key (k : Code) (b c : ℕ) : Type 0 where
-  pub low : rangeOf k .lowest ≤ b
-  pub high : b ≤ rangeOf k .highest
+  pub low : rangeOf k b .lowest ≤ b
+  pub high : b ≤ rangeOf k b .highest
   pub one : 1 ≤ c
-  pub most : c ≤ rangeOf k .classes
+  pub most : c ≤ rangeOf k b .classes
 
 -- columns 1 to 3 of a line are these letters
 unfoldable pub isCode : List ℕ → List ℕ → Bool

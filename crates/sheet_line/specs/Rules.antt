@@ -12,7 +12,7 @@ use Rattle.guideline.specs.Sizes.{largestScalar}
 use Rattle.sheet_line.specs.Codes.{expensesClass, scalarClass, rangeOf, Key, codeOf}
 use Rattle.sheet_line.specs.Line.{layoutOf}
 use Rattle.sheet_line.specs.declared.Code.{Code}
-use Rattle.sheet_line.specs.declared.Code.the-variants.{Rsk, Oth, Mor, Vol, Gen}
+use Rattle.sheet_line.specs.declared.Code.the-variants.{Rsk, Oth, Mor, Vol, Gen, Crd}
 use Rattle.sheet_line.specs.declared.codes.Coded.{Coded}
 use Rattle.sheet_line.specs.declared.codes.Coded.the-variants.{Known, Unknown}
 use Rattle.sheet_line.specs.declared.columns.Numbers.{Numbers}
@@ -30,19 +30,20 @@ outside low high n = pick (ltb n low) true (ltb high n)
 
 -- rule 5: 'block outside the code's range'
 abbrev pub blockOutside : Entry → Bool
-blockOutside e = outside (rangeOf (e .code) .lowest) (rangeOf (e .code) .highest) (e .block)
+blockOutside e = outside (rangeOf (e .code) (e .block) .lowest) (rangeOf (e .code) (e .block) .highest) (e .block)
 
 -- rule 6: 'class outside the code's range'
 abbrev pub classOutside : Entry → Bool
-classOutside e = outside 1 (rangeOf (e .code) .classes) (e .class)
+classOutside e = outside 1 (rangeOf (e .code) (e .block) .classes) (e .class)
 
--- the lines that have one amount alone: OTH, GEN, and RSK's expenses, as LT(7) is zero
+-- the lines that have one amount alone: OTH, GEN, CRD, and RSK's expenses, as LT(7) is zero
 abbrev pub singleOf : Code → ℕ → Bool
 singleOf Rsk c = eqb c expensesClass
 singleOf Oth c = true
 singleOf Mor c = false
 singleOf Vol c = false
 singleOf Gen c = true
+singleOf Crd c = true
 
 -- rule 8: 'second amount not 0 for OTH or GEN; LT(7) not 0'
 unfoldable pub secondBarred : Code → ℕ → ℕ → Bool
@@ -55,6 +56,7 @@ hasTrend Oth = false
 hasTrend Mor = false
 hasTrend Vol = false
 hasTrend Gen = false
+hasTrend Crd = false
 
 -- rule 9: 'LT above IR'
 unfoldable pub trendAbove : Code → ℕ → ℕ → Bool
@@ -67,6 +69,7 @@ isScalar Oth c = false
 isScalar Mor c = false
 isScalar Vol c = false
 isScalar Gen c = eqb c scalarClass
+isScalar Crd c = false
 
 -- rule 10: 'g outside 1–20,000'
 unfoldable pub scalarOutside : Code → ℕ → ℕ → Bool
@@ -98,7 +101,7 @@ rule5 e = pick (blockOutside e) (Refused 5) (rule6 e)
 abbrev pub entryOf : Code → Numbers → Entry
 entryOf k n = record { code = k; block = n .block; class = n .class; first = n .first; second = n .second }
 
--- rule 4: 'code isn't one of the four', five with MOR; then rule 5
+-- rule 4: 'code isn't one of the four', six with MOR and CRD; then rule 5
 abbrev pub rule4 : Coded → Numbers → Line
 rule4 Unknown n = Refused 4
 rule4 (Known k) n = rule5 (entryOf k n)

@@ -4,6 +4,7 @@ ghost use Prim.Native.Nat.{_≤_};
 ghost use lib.ListN.{length};
 ghost use Rattle.sheet_line.specs.Codes.{rangeOf, isCode, codeOf};
 use super::Code;
+use guideline::ADJUSTABLE_PRODUCTS;
 use guideline::BLOCKS;
 use guideline::NON_PARTICIPATING;
 use guideline::OTHER_AMOUNTS;
@@ -17,7 +18,8 @@ pub enum Coded {
     Unknown,
 }
 
-// The blocks and the classes that a code has: blocks from the lowest to the highest, classes from 1 on.
+// The blocks and the classes that a code has: blocks from the lowest to the highest, classes from 1 on. CRD has two such ranges, one for
+// block 0 and one for the others.
 pub struct Range {
     pub lowest: u64,
     pub highest: u64,
@@ -54,6 +56,9 @@ pub const CREDITS_CLASS: usize = 5;
 // The class of GEN that holds the scalar g.
 pub const SCALAR_CLASS: usize = 4;
 
+// CRD's classes of a participating block: one, its dividend credit.
+pub const DIVIDEND_CLASSES: usize = 1;
+
 // Compares the codes one after the other.
 pub(crate) fn read_code(s: &[u8]) -> Coded
     requires { ⌜ 3 ≤ length (now s) ⌝ }
@@ -74,6 +79,9 @@ pub(crate) fn read_code(s: &[u8]) -> Coded
     if starts_with(s, b"GEN") {
         return Coded::Known(Code::Gen);
     }
+    if starts_with(s, b"CRD") {
+        return Coded::Known(Code::Crd);
+    }
     Coded::Unknown
 }
 
@@ -91,9 +99,9 @@ fn starts_with(s: &[u8], letters: &[u8; 3]) -> bool
     s[2] == letters[2]
 }
 
-// The blocks and the classes that a code has.
-pub(crate) fn range_of(code: Code) -> Range
-    ensures { λ r. ⌜ r ≡ rangeOf code ⌝ }
+// The range of a code that a block falls under.
+pub(crate) fn range_of(code: Code, block: u64) -> Range
+    ensures { λ r. ⌜ r ≡ rangeOf code block ⌝ }
 {
     match code {
         Code::Rsk => Range {
@@ -121,5 +129,24 @@ pub(crate) fn range_of(code: Code) -> Range
             highest: 0,
             classes: GENERAL_CLASSES as u64,
         },
+        Code::Crd => credit_range(block),
+    }
+}
+
+// CRD's range: adjustable products in block 0, else a dividend credit of a participating block.
+fn credit_range(block: u64) -> Range
+    ensures { λ r. ⌜ r ≡ rangeOf Code.Crd block ⌝ }
+{
+    if block == 0 {
+        return Range {
+            lowest: 0,
+            highest: 0,
+            classes: ADJUSTABLE_PRODUCTS as u64,
+        };
+    }
+    Range {
+        lowest: NON_PARTICIPATING as u64 + 1,
+        highest: BLOCKS as u64,
+        classes: DIVIDEND_CLASSES as u64,
     }
 }

@@ -21,6 +21,7 @@ pub enum Code {
     Mor,
     Vol,
     Gen,
+    Crd,
 }
 
 // A line's code and numbers.

@@ -22,7 +22,7 @@ pub(crate) fn rule_3(layout: Layout, coded: Coded) -> Line
     rule_4(coded, n)
 }
 
-// Rule 4: the code isn't one of the five.
+// Rule 4: the code isn't one of the six.
 fn rule_4(coded: Coded, n: Numbers) -> Line
     ensures { λ r. ⌜ r ≡ rule4 coded n ⌝ }
 {
@@ -43,7 +43,7 @@ fn rule_5(e: Entry) -> Line
     ensures { λ r. ⌜ r ≡ rule5 e ⌝ }
 {
     let code = e.code;
-    let range = super::codes::range_of(code);
+    let range = super::codes::range_of(code, e.block);
     if outside(range.lowest, range.highest, e.block) {
         return Line::Refused(5);
     }
@@ -55,7 +55,7 @@ fn rule_6(e: Entry) -> Line
     ensures { λ r. ⌜ r ≡ rule6 e ⌝ }
 {
     let code = e.code;
-    let range = super::codes::range_of(code);
+    let range = super::codes::range_of(code, e.block);
     if outside(1, range.classes, e.class) {
         return Line::Refused(6);
     }
@@ -125,6 +125,7 @@ fn single(code: Code, class: u64) -> bool
         Code::Mor => false,
         Code::Vol => false,
         Code::Gen => true,
+        Code::Crd => true,
     }
 }
 
@@ -149,6 +150,7 @@ fn has_trend(code: Code) -> bool
         Code::Mor => false,
         Code::Vol => false,
         Code::Gen => false,
+        Code::Crd => false,
     }
 }
 
@@ -172,5 +174,6 @@ fn is_scalar(code: Code, class: u64) -> bool
         Code::Mor => false,
         Code::Vol => false,
         Code::Gen => class == SCALAR_CLASS as u64,
+        Code::Crd => false,
     }
 }

@@ -15,6 +15,9 @@
 //!
 //! Between the ends the bracket can't decide, and the sheet counts as agreeing.
 //!
+//! #102: all credits are taken off the bracket, those of participating blocks, of adjustable products and the group's; n
+//! counts blocks of both sorts.
+//!
 //! #101: the exact values take IR(1) and LT(1) after the reported credit, which is by how much a block's reported U and
 //! LT are below the sheet's. The exact credit is S + T less the root of S² + T² − 1.5 × S × T; whole numbers decide.
 
@@ -101,7 +104,8 @@ fn judge_buffer(sheet: &Sheet, blocks: &[(u64, [u64; BLOCK_NUMBERS])], buffer: u
     let of = |amount: u64| Big::from(u128::from(amount));
     let (g, ten_thousand, fifty_thousand) = (of(sheet.scalar()), Big::from(10_000), Big::from(50_000));
     let ro = Big::from(over_50_000(&sheet.volumes, &sheet.operational()));
-    let reported = (of(buffer) * ten_thousand + g * of(sheet.credits())) * fifty_thousand * cents;
+    let credits = of(sheet.dividends() + sheet.free_credits());
+    let reported = (of(buffer) * ten_thousand + g * credits) * fifty_thousand * cents;
     let exact = |sum_of_k: Big| g * ((sum_of_k + of(sheet.guarantee()) * cents) * fifty_thousand + ro * cents);
     // The allowance is g × (2n + 1) + 1 cents.
     let n = blocks.len() as u128;

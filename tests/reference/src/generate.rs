@@ -2,7 +2,7 @@
 //! The same seed and index always give the same case.
 
 use crate::block::{EXPENSES_LT, PC};
-use crate::sheet::{ranges, read_sheet, CODE, FIELDS, LINE_FEED, SPACES};
+use crate::sheet::{last_class, read_sheet, Sheet, CODE, FIELDS, LINE_FEED, SPACES};
 use crate::*;
 
 /// Case `index` of `seed`: a sheet and the length of the report to lend.
@@ -202,11 +202,11 @@ impl Manner {
 fn sound_lines(random: &mut Random) -> Vec<Line> {
     let mut lines = Vec::new();
     let manner = Manner { style: random.below(STYLES + 1), full: random.one_in(12), density: random.from(1, 8) };
-    for block in numbers(random, manner.full) {
+    for block in numbers(random, manner.full, MOST_BLOCKS) {
         block_lines(random, &manner, block, &mut lines);
     }
     mortality_lines(random, &manner, &mut lines);
-    for block in numbers(random, manner.full) {
+    for block in numbers(random, manner.full, MOST_TERRITORIES) {
         for class in 1..=VOLUME_CLASSES as u64 {
             if manner.stands(random) {
                 let (current, prior) = volumes(random, manner.style);
@@ -215,6 +215,8 @@ fn sound_lines(random: &mut Random) -> Vec<Line> {
         }
     }
     general_lines(random, &manner, &mut lines);
+    dividend_lines(random, &manner, &mut lines);
+    free_credit_lines(random, &manner, &mut lines);
     match random.below(4) {
         0 => {}
         1 => lines.reverse(),
@@ -249,7 +251,7 @@ fn block_lines(random: &mut Random, manner: &Manner, block: u64, lines: &mut Vec
 
 /// The MOR lines, of some blocks that exist and of a few that don't, with credits up to LT(1).
 fn mortality_lines(random: &mut Random, manner: &Manner, lines: &mut Vec<Line>) {
-    for block in 1..=MOST_BLOCKS as u64 {
+    for block in 1..=NON_PARTICIPATING as u64 {
         let exists = lines.iter().any(|l| l.block == block);
         if manner.stands(random) && (manner.full || exists || random.one_in(4)) {
             let (s, t) = sums(random, manner.style, mortality_lt(lines, block));
@@ -303,7 +305,7 @@ fn largest(wanted: impl Fn(u64) -> bool) -> u64 {
     fits
 }
 
-/// The GEN lines. The credits come last, because the lines before them limit them.
+/// The GEN lines but for the credits, which come last, because the lines before them limit them.
 fn general_lines(random: &mut Random, manner: &Manner, lines: &mut Vec<Line>) {
     for class in 1..SCALAR {
         if manner.stands(random) {
@@ -313,19 +315,49 @@ fn general_lines(random: &mut Random, manner: &Manner, lines: &mut Vec<Line>) {
     let any = random.from(1, LARGEST_SCALAR);
     let g = random.pick(&[1, 2, 9_000, 9_999, 10_000, 10_000, 10_001, LARGEST_SCALAR - 1, LARGEST_SCALAR, any]);
     lines.push(general_line(SCALAR, g));
-    if manner.full || random.one_in(2) {
-        let first = credits(random, lines);
-        lines.push(general_line(CREDITS, first));
+}
+
+/// Dividend credits up to K, of some participating blocks that exist.
+fn dividend_lines(random: &mut Random, manner: &Manner, lines: &mut Vec<Line>) {
+    for (block, [.., k]) in sheet_of(lines).figures() {
+        if block > NON_PARTICIPATING as u64 && manner.stands(random) {
+            lines.push(credit_line(block, 1, part_of(random, k.min(LARGEST_AMOUNT))));
+        }
     }
+}
+
+/// The group credits and those of some adjustable products, together up to what is left, which is often used up.
+fn free_credit_lines(random: &mut Random, manner: &Manner, lines: &mut Vec<Line>) {
+    let mut left = sheet_of(lines).before_free_credits();
+    let mut free: Vec<Line> = Vec::new();
+    if manner.full || random.one_in(2) {
+        free.push(general_line(CREDITS, 0));
+    }
+    let products = manner.full || random.one_in(2);
+    for class in 1..=ADJUSTABLE_PRODUCTS as u64 {
+        if products && manner.stands(random) {
+            free.push(credit_line(0, class, 0));
+        }
+    }
+    random.shuffle(&mut free);
+    for mut line in free {
+        line.first = part_of(random, left.min(LARGEST_AMOUNT));
+        left -= line.first;
+        lines.push(line);
+    }
+}
+
+fn credit_line(block: u64, class: u64, first: u64) -> Line {
+    Line { code: "CRD", block, class, first, second: 0 }
 }
 
 fn general_line(class: u64, first: u64) -> Line {
     Line { code: "GEN", block: 0, class, first, second: 0 }
 }
 
-/// Which of the blocks 1 to 16: none, a few, any number, all.
-fn numbers(random: &mut Random, all: bool) -> Vec<u64> {
-    let mut numbers: Vec<u64> = (1..=MOST_BLOCKS as u64).collect();
+/// Which of the blocks or territories up to the last: none, a few, any number, all.
+fn numbers(random: &mut Random, all: bool, last: usize) -> Vec<u64> {
+    let mut numbers: Vec<u64> = (1..=last as u64).collect();
     if all {
         return numbers;
     }
@@ -388,15 +420,9 @@ fn volumes(random: &mut Random, style: u64) -> (u64, u64) {
     }
 }
 
-/// Credits up to the bracket, which the other lines give.
-fn credits(random: &mut Random, lines: &[Line]) -> u64 {
-    let most = bracket(lines).min(LARGEST_AMOUNT);
-    part_of(random, most)
-}
-
-/// Sum of K + guarantee requirement + RO of lines that a sheet may have.
-fn bracket(lines: &[Line]) -> u64 {
-    read_sheet(&bytes(lines)).expect("sound lines").before_credits()
+/// What lines say that rules 3 to 12 and 16 let pass.
+fn sheet_of(lines: &[Line]) -> Sheet {
+    read_sheet(&bytes(lines)).expect("sound lines")
 }
 
 /// Rooms: none, too little, exact, a byte or more too many, the longest report's.
@@ -421,13 +447,13 @@ fn room(random: &mut Random, lines: &[Line]) -> usize {
 /// A sound sheet with one fault, or two or three of any kinds together.
 fn damaged(random: &mut Random, mut lines: Vec<Line>) -> Vec<u8> {
     let faults = random.pick(&[1, 1, 1, 2, 2, 3]);
-    let mut kinds: Vec<u64> = (0..faults).map(|_| random.below(19)).collect();
-    // Faults of amounts come before faults of bytes, credits first, because they need sound lines.
+    let mut kinds: Vec<u64> = (0..faults).map(|_| random.below(20)).collect();
+    // Faults of amounts come before faults of bytes, those of 13, 17 and 16 first, because they need sound lines.
     kinds.sort();
     kinds.dedup();
     let mut sheet = None;
     for kind in kinds {
-        if kind < 10 {
+        if kind < 11 {
             damage_lines(random, &mut lines, kind);
             // Later faults need a line to stand in.
             if lines.is_empty() {
@@ -445,58 +471,103 @@ fn damage_lines(random: &mut Random, lines: &mut Vec<Line>, kind: u64) {
     match kind {
         // 13
         0 => credits_above_bracket(random, lines),
+        // 17
+        1 => dividend_too_large(random, lines),
         // 16
-        1 => credit_above_lt(random, lines),
+        2 => credit_above_lt(random, lines),
         // 5
-        2 => {
+        3 => {
             let at = random.at(lines.len());
             lines[at].block = block_outside(random, lines[at].code);
         }
         // 6
-        3 => {
+        4 => {
             let at = random.at(lines.len());
-            lines[at].class = class_outside(random, lines[at].code);
+            lines[at].class = class_outside(random, &lines[at]);
         }
         // 8: a second amount that must be 0
-        4 => {
-            let at = line_of(random, lines, |l| l.code == "OTH" || l.code == "GEN");
+        5 => {
+            let at = line_of(random, lines, |l| matches!(l.code, "OTH" | "GEN" | "CRD"));
             lines[at].second = some_amount(random);
         }
         // 8: LT(7), which may be above IR(7) too
-        5 => {
+        6 => {
             let at = line_of(random, lines, |l| l.code == "RSK");
             lines[at].class = EXPENSES;
             lines[at].second = some_amount(random);
         }
         // 9
-        6 => lt_above_ir(random, lines),
+        7 => lt_above_ir(random, lines),
         // 10
-        7 => {
+        8 => {
             let at = line_of(random, lines, Line::is_scalar);
             lines[at].first = random.pick(&[0, LARGEST_SCALAR + 1, LARGEST_SCALAR + 2, 100_000, LARGEST_AMOUNT]);
         }
         // 11
-        8 => line_twice(random, lines),
+        9 => line_twice(random, lines),
         // 12
         _ => lines.retain(|l| !l.is_scalar()),
     }
 }
 
+/// The group credits or those of an adjustable product are above what the others leave, by a cent or more.
 fn credits_above_bracket(random: &mut Random, lines: &mut Vec<Line>) {
-    lines.retain(|l| !l.is("GEN", 0, CREDITS));
-    if bracket(lines) >= LARGEST_AMOUNT {
+    let product = random.from(1, ADJUSTABLE_PRODUCTS as u64);
+    let mut line = if random.one_in(2) { general_line(CREDITS, 0) } else { credit_line(0, product, 0) };
+    lines.retain(|l| !l.is(line.code, 0, line.class));
+    let left = |lines: &[Line]| {
+        let sheet = sheet_of(lines);
+        sheet.before_free_credits() - sheet.free_credits()
+    };
+    if left(lines) >= LARGEST_AMOUNT {
         lines.retain(Line::is_scalar);
     }
-    let least = bracket(lines) + 1;
-    let first = if random.one_in(2) { least } else { random.from(least, LARGEST_AMOUNT) };
-    put(random, lines, general_line(CREDITS, first));
+    let least = left(lines) + 1;
+    line.first = if random.one_in(2) { least } else { random.from(least, LARGEST_AMOUNT) };
+    put(random, lines, line);
+}
+
+/// A dividend credit above K, by a cent or more, or of a block that doesn't exist, also one of 0; alone, beside 12, 16 or
+/// 13.
+fn dividend_too_large(random: &mut Random, lines: &mut Vec<Line>) {
+    let block = random.from(NON_PARTICIPATING as u64 + 1, MOST_BLOCKS as u64);
+    lines.retain(|l| !l.is("CRD", block, 1));
+    let first = if random.one_in(3) {
+        lines.retain(|l| l.block != block);
+        let any = some_amount(random);
+        random.pick(&[0, 0, 1, any])
+    } else {
+        let k = |lines: &[Line]| sheet_of(lines).figures().iter().find(|row| row.0 == block).map(|row| row.1[4]);
+        if k(lines).is_none_or(|k| k >= LARGEST_AMOUNT) {
+            lines.retain(|l| l.block != block);
+            let first = random.below(1_000);
+            put(random, lines, Line { code: "OTH", block, class: 2, first, second: 0 });
+        }
+        let least = k(lines).map_or(0, |k| k + 1);
+        if random.one_in(2) {
+            least
+        } else {
+            random.from(least, LARGEST_AMOUNT)
+        }
+    };
+    put(random, lines, credit_line(block, 1, first));
+    match random.below(8) {
+        0 => lines.retain(|l| !l.is_scalar()),
+        1 => {
+            lines.retain(|l| !l.is("GEN", 0, CREDITS));
+            put(random, lines, general_line(CREDITS, LARGEST_AMOUNT));
+        }
+        2 => credit_above_lt(random, lines),
+        _ => {}
+    }
 }
 
 /// A credit above LT(1), by a cent or more, of a block that exists or doesn't; alone, beside 12 or beside 13.
 fn credit_above_lt(random: &mut Random, lines: &mut Vec<Line>) {
-    let mut block = random.from(1, MOST_BLOCKS as u64);
+    let last = NON_PARTICIPATING as u64;
+    let mut block = random.from(1, last);
     if random.one_in(2) {
-        let risk = line_of(random, lines, |l| l.code == "RSK" && l.class == 1);
+        let risk = line_of(random, lines, |l| l.code == "RSK" && l.class == 1 && l.block <= last);
         block = lines[risk].block;
     }
     lines.retain(|l| !l.is("MOR", block, 1));
@@ -514,17 +585,19 @@ fn credit_above_lt(random: &mut Random, lines: &mut Vec<Line>) {
 }
 
 fn block_outside(random: &mut Random, code: &str) -> u64 {
-    let (blocks, _) = ranges(code.as_bytes()).unwrap();
-    match *blocks.end() {
-        0 => random.from(1, 99),
-        last => random.pick(&[0, last + 1, last + 2, 99]),
-    }
+    let has = |block: u64| last_class(code.as_bytes(), block).is_ok();
+    let outside: Vec<u64> = (0..=99).filter(|&block| !has(block)).collect();
+    // Most are next to a block that the code has.
+    let next: Vec<u64> =
+        outside.iter().copied().filter(|&block| has(block + 1) || (block > 0 && has(block - 1))).collect();
+    let (next, any) = (random.pick(&next), random.pick(&outside));
+    random.pick(&[next, next, any, 99])
 }
 
-fn class_outside(random: &mut Random, code: &str) -> u64 {
-    let (_, classes) = ranges(code.as_bytes()).unwrap();
-    let next = classes.end() + 1;
-    random.pick(&[0, next, next, 10, 99])
+/// Of a line whose block may be wrong already.
+fn class_outside(random: &mut Random, line: &Line) -> u64 {
+    let next = last_class(line.code.as_bytes(), line.block).unwrap_or(0) + 1;
+    random.pick(&[0, next, next, next + 10, 99])
 }
 
 fn lt_above_ir(random: &mut Random, lines: &mut Vec<Line>) {
@@ -563,7 +636,7 @@ fn put(random: &mut Random, lines: &mut Vec<Line>, line: Line) {
 fn line_of(random: &mut Random, lines: &mut Vec<Line>, wanted: impl Fn(&Line) -> bool) -> usize {
     let such: Vec<usize> = (0..lines.len()).filter(|&at| wanted(&lines[at])).collect();
     if such.is_empty() {
-        let block = random.from(1, MOST_BLOCKS as u64);
+        let block = random.from(1, NON_PARTICIPATING as u64);
         lines.push(Line { code: "RSK", block, class: 1, first: 0, second: 0 });
         return lines.len() - 1;
     }
@@ -573,9 +646,9 @@ fn line_of(random: &mut Random, lines: &mut Vec<Line>, wanted: impl Fn(&Line) ->
 /// NUL, tab, line feed, carriage return, signs, points, the neighbours of the digits, letters, bytes above 127.
 const STRANGE: [u8; 17] = [0, 9, 10, 11, 13, b'+', b',', b'-', b'.', b'/', b':', b'A', 127, 128, 160, 233, 255];
 
-const WRONG_CODES: [[u8; 3]; 15] = [
+const WRONG_CODES: [[u8; 3]; 16] = [
     *b"rsk", *b"RSX", *b"XSK", *b"   ", *b"BLK", *b"TOT", *b"REF", *b"OHT", *b"VO ", *b" GE", *b"\0\0\0", *b"GE\n",
-    *b"VO\r", *b"\xCBSK", *b"MOT",
+    *b"VO\r", *b"\xCBSK", *b"MOT", *b"CDR",
 ];
 
 /// Puts in a fault of bytes, of this kind: the refusal that it is to give is named.
@@ -589,29 +662,29 @@ fn damage_bytes(random: &mut Random, sheet: &mut Vec<u8>, kind: u64) {
     let field = &mut line[FIELDS[random.at(FIELDS.len())].clone()];
     match kind {
         // 3: a wrong byte in a number
-        10 => field[random.at(field.len())] = random.pick(&STRANGE),
+        11 => field[random.at(field.len())] = random.pick(&STRANGE),
         // 3: a wrong byte between the columns or at the end
-        11 => {
+        12 => {
             let any = random.pick(&STRANGE);
             let [one, two, three, four] = SPACES;
             line[random.pick(&[one, two, three, four, LINE_FEED])] = random.pick(&[any, b'0', b'7', 0, 9, 13, 200]);
         }
         // 3
-        12 => move_number(random, field),
+        13 => move_number(random, field),
         // 4: a wrong code
-        13 => line[CODE].copy_from_slice(&random.pick(&WRONG_CODES)),
+        14 => line[CODE].copy_from_slice(&random.pick(&WRONG_CODES)),
         // 4: a wrong byte in the code
-        14 => line[random.at(CODE.len())] = random.pick(&STRANGE),
+        15 => line[random.at(CODE.len())] = random.pick(&STRANGE),
         // 2
-        15 => cut_or_lengthen(random, sheet),
+        16 => cut_or_lengthen(random, sheet),
         // 1: too long, by a byte, a line, or more
-        16 => {
+        17 => {
             let any = 1 + random.at(10 * LINE_BYTES);
             let length = LONGEST_SHEET + random.pick(&[1, 1, LINE_BYTES, any]);
             *sheet = sheet.iter().copied().cycle().take(length).collect();
         }
         // 2 or 3
-        17 => longer_line(random, sheet, at),
+        18 => longer_line(random, sheet, at),
         _ => *sheet = any_bytes(random),
     }
 }
@@ -648,6 +721,6 @@ fn longer_line(random: &mut Random, sheet: &mut Vec<u8>, at: usize) {
 /// Any bytes at all, or any of those that a sheet has.
 fn any_bytes(random: &mut Random) -> Vec<u8> {
     let length = LINE_BYTES * random.pick(&[1, 2, 10]) + random.pick(&[0, 0, 1, LINE_BYTES - 1]);
-    let alphabet: Vec<u8> = if random.one_in(2) { (0..=255).collect() } else { b" 0123456789RSKGENMO\n".to_vec() };
+    let alphabet: Vec<u8> = if random.one_in(2) { (0..=255).collect() } else { b" 0123456789RSKGENMOCD\n".to_vec() };
     (0..length).map(|_| random.pick(&alphabet)).collect()
 }

@@ -1,6 +1,6 @@
-//! The calculator of document 01, with request #101 of document 02, in plain Rust with u128: no dependency, nothing
-//! clever, and no code shared with the calculator itself. It is a test oracle: what it answers is compared with what the
-//! calculator answers.
+//! The calculator of document 01, with requests #101 and #102 of document 02, in plain Rust with u128: no dependency,
+//! nothing clever, and no code shared with the calculator itself. It is a test oracle: what it answers is compared with
+//! what the calculator answers.
 //!
 //! Comments in quotes name a section of document 01; a number as #101 is a request of document 02.
 
@@ -26,8 +26,12 @@ pub use sheet::{all_lines, report_length, report_line, sheet_call, sheet_line};
 /// "What the calculator holds": all amounts are whole cents, 0 to 99,999,999,999,999.
 pub const LARGEST_AMOUNT: u64 = 99_999_999_999_999;
 
-/// Blocks are numbered 1 to 16.
-pub const MOST_BLOCKS: usize = 16;
+/// Blocks are numbered 1 to 16, and by #102 to 32: 17 and above are participating.
+pub const NON_PARTICIPATING: usize = 16;
+pub const MOST_BLOCKS: usize = 32;
+
+/// #102: adjustable products, each with a credit.
+pub const ADJUSTABLE_PRODUCTS: usize = 16;
 
 /// Territories with volumes.
 pub const MOST_TERRITORIES: usize = 16;
@@ -64,11 +68,11 @@ pub const LARGEST_SCALAR: u64 = 20_000;
 pub const LINE_BYTES: usize = 40;
 pub const REPORT_LINE_BYTES: usize = 29;
 
-/// "What is turned away", row 1, as #101 has it: 309 lines, one for every code, block and class there is.
-pub const MOST_LINES: usize = 309;
+/// "What is turned away", row 1, as #102 has it: 501 lines, one for every code, block and class there is.
+pub const MOST_LINES: usize = 501;
 pub const LONGEST_SHEET: usize = MOST_LINES * LINE_BYTES;
 
-/// "The sheet and the report": room for 16 blocks.
+/// "The sheet and the report": room for all blocks.
 pub const LONGEST_REPORT: usize = report_length(MOST_BLOCKS);
 
 /// "What is turned away": a refusal is its number with a line (from 1), a position (from 0) or no place.

@@ -3,7 +3,7 @@
 use crate::block::{MORTALITY_IR, MORTALITY_LT, PC};
 use crate::*;
 use std::collections::{BTreeMap, BTreeSet};
-use std::ops::{Range, RangeInclusive};
+use std::ops::Range;
 
 /// What a sheet says. An absent line means zeros.
 pub(crate) struct Sheet {
@@ -11,6 +11,10 @@ pub(crate) struct Sheet {
     pub blocks: BTreeMap<u64, [u64; BLOCK_NUMBERS]>,
     /// #101: S and T of the blocks that have such a line.
     mortality: BTreeMap<u64, (u64, u64)>,
+    /// #102: the dividend credits of the blocks that have such a line.
+    dividends: BTreeMap<u64, u64>,
+    /// #102: the credits of adjustable products.
+    adjustable: [u64; ADJUSTABLE_PRODUCTS],
     /// The territories, as the operational call takes them.
     pub volumes: [u64; MOST_VOLUMES],
     /// GEN classes 1 to 5 at 0 to 4.
@@ -27,8 +31,13 @@ impl Sheet {
     pub fn scalar(&self) -> u64 {
         self.general[SCALAR as usize - 1]
     }
-    pub fn credits(&self) -> u64 {
-        self.general[CREDITS as usize - 1]
+    /// #102: the credits that belong to no block, those of adjustable products and the group credits.
+    pub fn free_credits(&self) -> u64 {
+        self.adjustable.iter().sum::<u64>() + self.general[CREDITS as usize - 1]
+    }
+    /// #102: the credits that belong to blocks.
+    pub fn dividends(&self) -> u64 {
+        self.dividends.values().sum()
     }
 
     /// #101: S and T of a block.
@@ -53,9 +62,14 @@ impl Sheet {
     pub fn ro(&self) -> u64 {
         operational_call(&self.volumes, &self.operational()).unwrap()
     }
-    /// "The buffer": the bracket as reported, the credits not yet taken off.
-    pub fn before_credits(&self) -> u64 {
-        self.sum_of_k() + self.guarantee() + self.ro()
+    /// #102: whether a dividend credit is above its block's K, or its block has no RSK or OTH line, whatever its amount.
+    pub fn dividend_too_large(&self) -> bool {
+        let k: BTreeMap<u64, u64> = self.figures().iter().map(|&(number, figures)| (number, figures[4])).collect();
+        self.dividends.iter().any(|(block, &dividend)| k.get(block).is_none_or(|&k| dividend > k))
+    }
+    /// "The buffer": the bracket as reported, the credits that belong to no block not yet taken off.
+    pub fn before_free_credits(&self) -> u64 {
+        self.sum_of_k() - self.dividends() + self.guarantee() + self.ro()
     }
 }
 
@@ -71,9 +85,14 @@ pub(crate) fn lower(amounts: &[u64; BLOCK_NUMBERS], credit: u64) -> [u64; BLOCK_
 pub fn sheet_call(sheet: &[u8], report: &mut [u8]) -> Result<usize, Refusal> {
     let sheet = read_sheet(sheet)?;
 
-    // 13: credits above sum of K + guarantee requirement + RO, as reported.
-    let before_credits = sheet.before_credits();
-    if sheet.credits() > before_credits {
+    // 17: a dividend credit above its block's K, or of no block.
+    if sheet.dividend_too_large() {
+        return Err(Refusal::nowhere(17));
+    }
+    // 13: credits above sum of K + guarantee requirement + RO, as reported; by #102 those that belong to no block, above
+    // what is left after the dividend credits.
+    let before_credits = sheet.before_free_credits();
+    if sheet.free_credits() > before_credits {
         return Err(Refusal::nowhere(13));
     }
     // 14: the lent report is shorter than the report.
@@ -83,7 +102,7 @@ pub fn sheet_call(sheet: &[u8], report: &mut [u8]) -> Result<usize, Refusal> {
     }
 
     // "The buffer": g × the whole bracket, rounded up to a cent.
-    let bracket = u128::from(before_credits - sheet.credits());
+    let bracket = u128::from(before_credits - sheet.free_credits());
     let buffer = u64::try_from((u128::from(sheet.scalar()) * bracket).div_ceil(10_000)).unwrap();
 
     // Blocks ascend, each with five BLK lines; three TOT lines close the report.
@@ -122,14 +141,16 @@ pub fn sheet_line(code: &str, block: u64, class: u64, first: u64, second: u64) -
     line
 }
 
-/// Code, block and class of every line that a sheet of so many blocks and territories can have, ascending by blocks.
+/// Code, block and class of every line that a sheet of so many blocks and territories can have, ascending by blocks, those
+/// of block 0 last.
 pub fn all_lines(blocks: usize) -> Vec<(&'static str, u64, u64)> {
     let lines_of = |code: &'static str, block: u64| {
-        let (_, classes) = ranges(code.as_bytes()).unwrap();
-        classes.map(move |class| (code, block, class))
+        let last = last_class(code.as_bytes(), block).unwrap_or(0);
+        (1..=last).map(move |class| (code, block, class))
     };
-    let of_blocks = (1..=blocks as u64).flat_map(|block| ["RSK", "OTH", "MOR", "VOL"].map(|code| (code, block)));
-    of_blocks.chain([("GEN", 0)]).flat_map(|(code, block)| lines_of(code, block)).collect()
+    let codes = ["RSK", "OTH", "MOR", "VOL", "GEN", "CRD"];
+    let blocks = (1..=blocks as u64).chain([0]);
+    blocks.flat_map(|block| codes.map(|code| (code, block))).flat_map(|(code, block)| lines_of(code, block)).collect()
 }
 
 /// "What is turned away": 1, 2, the first bad line, 12; by #101 then 16.
@@ -143,6 +164,8 @@ pub(crate) fn read_sheet(bytes: &[u8]) -> Result<Sheet, Refusal> {
     let mut sheet = Sheet {
         blocks: BTreeMap::new(),
         mortality: BTreeMap::new(),
+        dividends: BTreeMap::new(),
+        adjustable: [0; ADJUSTABLE_PRODUCTS],
         volumes: [0; MOST_VOLUMES],
         general: [0; GENERAL_CLASSES],
     };
@@ -179,17 +202,15 @@ fn read_line(bytes: &[u8]) -> Result<Line<'_>, u8> {
     // 3: columns 4–40 break the layout.
     let line = read_layout(bytes).ok_or(3)?;
     let Line { code, block, class, first, second } = line;
-    // 4: the code isn't one of the four, five with #101.
-    let (blocks, classes) = ranges(code).ok_or(4)?;
-    // 5 and 6: block, class outside the code's range.
-    if !blocks.contains(&block) {
-        return Err(5);
-    }
-    if !classes.contains(&class) {
+    // 4: the code isn't one of the four, six with #101 and #102. 5: the block is outside the code's range.
+    let last = last_class(code, block)?;
+    // 6: the class is.
+    if !(1..=last).contains(&class) {
         return Err(6);
     }
-    // 8: second amount not 0 for OTH or GEN; LT(7) not 0.
-    if second != 0 && (code == b"OTH" || code == b"GEN" || (code == b"RSK" && class == EXPENSES)) {
+    // 8: second amount not 0 for OTH or GEN, by #102 for CRD; LT(7) not 0.
+    let alone = matches!(code, b"OTH" | b"GEN" | b"CRD") || (code == b"RSK" && class == EXPENSES);
+    if second != 0 && alone {
         return Err(8);
     }
     // 9: LT above IR.
@@ -203,16 +224,23 @@ fn read_line(bytes: &[u8]) -> Result<Line<'_>, u8> {
     Ok(line)
 }
 
-/// The table of codes: the ranges of block and class.
-pub(crate) fn ranges(code: &[u8]) -> Option<(RangeInclusive<u64>, RangeInclusive<u64>)> {
-    let blocks = 1..=MOST_BLOCKS as u64;
-    match code {
-        b"RSK" => Some((blocks, 1..=RISKS as u64)),
-        b"OTH" => Some((blocks, 1..=3)),
-        b"MOR" => Some((blocks, 1..=1)),
-        b"VOL" => Some((1..=MOST_TERRITORIES as u64, 1..=VOLUME_CLASSES as u64)),
-        b"GEN" => Some((0..=0, 1..=GENERAL_CLASSES as u64)),
-        _ => None,
+/// The table of codes: the classes of a code and block are 1 to this. 4 where there is no such code, 5 where it hasn't this
+/// block.
+pub(crate) fn last_class(code: &[u8], block: u64) -> Result<u64, u8> {
+    const LAST: u64 = MOST_BLOCKS as u64;
+    const TERRITORIES: u64 = MOST_TERRITORIES as u64;
+    const SIXTEEN: u64 = NON_PARTICIPATING as u64;
+    const SEVENTEEN: u64 = SIXTEEN + 1;
+    match (code, block) {
+        (b"RSK", 1..=LAST) => Ok(RISKS as u64),
+        (b"OTH", 1..=LAST) => Ok(3),
+        (b"MOR", 1..=SIXTEEN) => Ok(1),
+        (b"VOL", 1..=TERRITORIES) => Ok(VOLUME_CLASSES as u64),
+        (b"GEN", 0) => Ok(GENERAL_CLASSES as u64),
+        (b"CRD", 0) => Ok(ADJUSTABLE_PRODUCTS as u64),
+        (b"CRD", SEVENTEEN..=LAST) => Ok(1),
+        (b"RSK" | b"OTH" | b"MOR" | b"VOL" | b"GEN" | b"CRD", _) => Err(5),
+        _ => Err(4),
     }
 }
 
@@ -236,6 +264,11 @@ impl Sheet {
                 let territory = TERRITORY_NUMBERS * (line.block as usize - 1);
                 self.volumes[territory + 2 * at] = line.first;
                 self.volumes[territory + 2 * at + 1] = line.second;
+            }
+            // Neither does this; block 0 has the adjustable products.
+            b"CRD" if line.block == 0 => self.adjustable[at] = line.first,
+            b"CRD" => {
+                self.dividends.insert(line.block, line.first);
             }
             _ => self.general[at] = line.first,
         }

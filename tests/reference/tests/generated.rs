@@ -35,11 +35,11 @@ fn demand_3_finds_wrong_buffers() {
         let last = length - REPORT_LINE_BYTES;
         let line = std::str::from_utf8(&report[last..length]).unwrap();
         let buffer: u64 = line.split_whitespace().last().unwrap().parse().unwrap();
-        // The allowance is at most 2 × (2 × 16 + 1) + 1 = 67 cents.
-        let above = [&report[..last], &report_line("TOT", 0, 3, buffer + 67)].concat();
+        // The allowance is at most 2 × (2 × 32 + 1) + 1 = 131 cents.
+        let above = [&report[..last], &report_line("TOT", 0, 3, buffer + 131)].concat();
         assert!(demand3(&sheet, &above).is_err(), "sheet {index}");
-        if buffer >= 67 {
-            let below = [&report[..last], &report_line("TOT", 0, 3, buffer - 67)].concat();
+        if buffer >= 131 {
+            let below = [&report[..last], &report_line("TOT", 0, 3, buffer - 131)].concat();
             assert!(demand3(&sheet, &below).is_err(), "sheet {index}");
         }
     }
@@ -64,7 +64,7 @@ fn cases_reach_every_row() {
     }
     println!("answers of {cases} cases, 0 for accepted: {counts:?}");
     let reached: Vec<u8> = counts.keys().copied().collect();
-    assert_eq!(reached, [0, 1, 2, 3, 4, 5, 6, 8, 9, 10, 11, 12, 13, 14, 16]);
+    assert_eq!(reached, [0, 1, 2, 3, 4, 5, 6, 8, 9, 10, 11, 12, 13, 14, 16, 17]);
     assert!(counts.values().all(|&count| count >= 100), "{counts:?}");
 }
 
@@ -142,4 +142,72 @@ fn sums_of_every_kind() {
     }
     println!("pairs S and T in 6,000 cases: {counts:?}");
     assert!(counts.values().all(|&count| count >= 10), "{counts:?}");
+}
+
+/// Credits of every kind stand: dividend credits of 0, of a part of K, of all of it, a cent above it and of a block that
+/// doesn't exist; credits of adjustable products beside the group's and alone; and all that is left used up.
+#[test]
+fn credits_of_every_kind() {
+    let mut counts: BTreeMap<&str, u64> = BTreeMap::new();
+    for index in 0..12_000 {
+        let (sheet, _) = case(9, index);
+        let mut report = vec![0; LONGEST_REPORT];
+        let answer = sheet_call(&sheet, &mut report);
+        let lines: Vec<(&str, [u64; 4])> = sheet.chunks(LINE_BYTES).filter_map(line_of).collect();
+        let of = |code: &str, block: u64| {
+            let such = |line: &&(&str, [u64; 4])| line.0 == code && line.1[0] == block;
+            lines.iter().filter(such).map(|line| line.1).collect::<Vec<[u64; 4]>>()
+        };
+        let products: u64 = of("CRD", 0).iter().map(|line| line[2]).sum();
+        let group: u64 = of("GEN", 0).iter().filter(|line| line[1] == CREDITS).map(|line| line[2]).sum();
+        let refused = |number: u8| answer == Err(Refusal::nowhere(number));
+        let used_up = answer.is_ok_and(|length| report[..length].ends_with(b"  0\n"));
+        let mut kinds = vec![
+            ("adjustable alone", products > 0 && group == 0 && answer.is_ok()),
+            ("adjustable beside the group's", products > 0 && group > 0 && answer.is_ok()),
+            ("used up by adjustable products alone", used_up && products > 0 && group == 0),
+            ("used up by both", used_up && products > 0 && group > 0),
+            ("too much of adjustable products alone", refused(13) && products > 0 && group == 0),
+            ("too much of both", refused(13) && products > 0 && group > 0),
+        ];
+        for block in NON_PARTICIPATING as u64 + 1..=MOST_BLOCKS as u64 {
+            for [_, _, dividend, _] in of("CRD", block) {
+                let exists = !of("RSK", block).is_empty() || !of("OTH", block).is_empty();
+                let mut numbers = [0; BLOCK_NUMBERS];
+                for [_, class, first, second] in of("RSK", block) {
+                    let at = 2 * (class as usize).clamp(1, RISKS) - 2;
+                    (numbers[at], numbers[at + 1]) = (first, second);
+                }
+                for [_, class, first, _] in of("OTH", block) {
+                    numbers[2 * RISKS + (class as usize).clamp(1, 3) - 1] = first;
+                }
+                let k = block_call(&numbers).map_or(u64::MAX, |figures| figures[4]);
+                kinds.extend([
+                    ("no block, 0", !exists && dividend == 0 && refused(17)),
+                    ("no block, above 0", !exists && dividend > 0 && refused(17)),
+                    ("0", exists && dividend == 0 && answer.is_ok()),
+                    ("a part of K", 0 < dividend && dividend < k && answer.is_ok()),
+                    ("all of K", exists && dividend > 0 && dividend == k && answer.is_ok()),
+                    ("a cent above K", exists && k.checked_add(1) == Some(dividend) && refused(17)),
+                    ("above K beside 12", exists && dividend > k && refused(12)),
+                    ("above K beside 16", exists && dividend > k && refused(16)),
+                    ("above K beside the largest credits", dividend > k && group == LARGEST_AMOUNT && refused(17)),
+                ]);
+            }
+        }
+        for (kind, holds) in kinds {
+            *counts.entry(kind).or_default() += u64::from(holds);
+        }
+    }
+    println!("credits in 12,000 cases: {counts:?}");
+    assert_eq!(counts.len(), 15);
+    assert!(counts.values().all(|&count| count >= 10), "{counts:?}");
+}
+
+/// A line's code, and block, class and amounts, where they are numbers.
+fn line_of(line: &[u8]) -> Option<(&str, [u64; 4])> {
+    let mut words = std::str::from_utf8(line).ok()?.split_whitespace();
+    let code = words.next()?;
+    let numbers: Vec<u64> = words.map(|word| word.parse().ok()).collect::<Option<_>>()?;
+    Some((code, numbers.try_into().ok()?))
 }

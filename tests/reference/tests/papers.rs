@@ -98,10 +98,12 @@ fn whole_run() {
 /// "The sheet and the report", "What is turned away": the longest of both, and a line for every code, block and class.
 #[test]
 fn longest_sheet_and_report() {
-    assert_eq!([LONGEST_SHEET, LONGEST_REPORT], [12_360, 2_407]);
+    assert_eq!([LONGEST_SHEET, LONGEST_REPORT], [20_040, 4_727]);
     let mut sheet: Vec<u8> =
         all_lines(MOST_BLOCKS).iter().flat_map(|&(code, block, class)| sheet_line(code, block, class, 1, 0)).collect();
     assert_eq!(sheet.len(), LONGEST_SHEET);
+    let distinct: std::collections::BTreeSet<_> = all_lines(MOST_BLOCKS).into_iter().collect();
+    assert_eq!(distinct.len(), MOST_LINES);
     assert_eq!(run(&sheet).map(|report| report.len()), Ok(LONGEST_REPORT));
     // A line more, and a byte more.
     sheet.extend(sheet_line("GEN", 0, 1, 0, 0));
@@ -187,6 +189,93 @@ fn demand_3_on_the_credit() {
     assert!(why(with(1_000 - credit + 1, 129 - credit + 1)).contains("below the exact one"));
     assert!(why(with(1_000 - credit, 129)).contains("after a credit"));
     assert!(why(with(1_001, 130)).contains("after a credit"));
+}
+
+/// A sheet of these lines and a scalar of one.
+fn with_scalar(lines: &[(&str, u64, u64, u64)]) -> Vec<u8> {
+    let lines = lines.iter().flat_map(|&(code, block, class, amount)| sheet_line(code, block, class, amount, 0));
+    lines.chain(sheet_line("GEN", 0, SCALAR, 10_000, 0)).collect()
+}
+
+/// The three totals of a report.
+fn totals(sheet: &[u8]) -> Result<[u64; 3], Refusal> {
+    let report = String::from_utf8(run(sheet)?).unwrap();
+    let figures: Vec<u64> =
+        report.lines().map(|line| line.split_whitespace().last().unwrap().parse().unwrap()).collect();
+    assert_eq!(demand3(sheet, report.as_bytes()), Ok(()));
+    Ok(figures[figures.len() - 3..].try_into().unwrap())
+}
+
+/// #102: the table of codes, and which blocks and classes CRD has.
+#[test]
+fn lines_of_credits() {
+    let answer = |line: Vec<u8>| run(&[line, sheet_line("GEN", 0, SCALAR, 10_000, 0)].concat()).map(|_| ());
+    for block in 1..=99 {
+        let number = if (17..=32).contains(&block) { 17 } else { 5 };
+        let refusal = if number == 17 { Refusal::nowhere(17) } else { Refusal::at_line(5, 1) };
+        assert_eq!(answer(sheet_line("CRD", block, 1, 0, 0)), Err(refusal), "block {block}");
+        // 5 comes before 6, and 6 before 8.
+        let number = if number == 17 { 6 } else { 5 };
+        for class in [0, 2, 16, 17, 99] {
+            assert_eq!(answer(sheet_line("CRD", block, class, 0, 1)), Err(Refusal::at_line(number, 1)));
+        }
+        for code in ["RSK", "OTH"] {
+            let expected = if block > 32 { Err(Refusal::at_line(5, 1)) } else { Ok(()) };
+            assert_eq!(answer(sheet_line(code, block, 1, 0, 0)), expected, "{code} {block}");
+        }
+        for code in ["MOR", "VOL"] {
+            let expected = if block > 16 { Err(Refusal::at_line(5, 1)) } else { Ok(()) };
+            assert_eq!(answer(sheet_line(code, block, 1, 0, 0)), expected, "{code} {block}");
+        }
+    }
+    for class in 0..=99 {
+        let expected = if (1..=16).contains(&class) { Ok(()) } else { Err(Refusal::at_line(6, 1)) };
+        assert_eq!(answer(sheet_line("CRD", 0, class, 0, 0)), expected, "class {class}");
+    }
+    assert_eq!(answer(sheet_line("CRD", 0, 1, 0, 1)), Err(Refusal::at_line(8, 1)));
+    assert_eq!(answer(sheet_line("CRD", 17, 1, 0, 1)), Err(Refusal::at_line(8, 1)));
+}
+
+/// #102: a dividend credit up to K is taken off the bracket and not off the sum of K; above it, or for a block that has no
+/// RSK or OTH line, it is refused.
+#[test]
+fn dividend_credits() {
+    // Credit of 100 cents alone has K 100.
+    let (seventeen, last) = (("OTH", 17, 2, 100), ("OTH", 32, 2, 100));
+    assert_eq!(totals(&with_scalar(&[seventeen, last])), Ok([200, 0, 200]));
+    assert_eq!(totals(&with_scalar(&[seventeen, last, ("CRD", 32, 1, 30)])), Ok([200, 0, 170]));
+    assert_eq!(totals(&with_scalar(&[("CRD", 17, 1, 100), seventeen])), Ok([100, 0, 0]));
+    let refused = Err(Refusal::nowhere(17));
+    assert_eq!(totals(&with_scalar(&[seventeen, ("CRD", 17, 1, 101)])), refused);
+    // Another block's K doesn't help.
+    assert_eq!(totals(&with_scalar(&[seventeen, last, ("CRD", 17, 1, 101)])), refused);
+    for amount in [0, 1, LARGEST_AMOUNT] {
+        assert_eq!(totals(&with_scalar(&[seventeen, ("CRD", 18, 1, amount)])), refused);
+    }
+    // A line of zeros makes the block exist, of either code.
+    for code in ["RSK", "OTH"] {
+        assert_eq!(totals(&with_scalar(&[(code, 18, 3, 0), ("CRD", 18, 1, 0)])), Ok([0, 0, 0]));
+        assert_eq!(totals(&with_scalar(&[(code, 18, 3, 0), ("CRD", 18, 1, 1)])), refused);
+    }
+}
+
+/// #102: the credits of adjustable products and the group's together are compared with what the dividend credits leave.
+#[test]
+fn credits_of_no_block() {
+    // K 100, guarantee requirement 500, RO 23.
+    let lines = [("OTH", 17, 2, 100), ("GEN", 0, 2, 500), ("CRD", 17, 1, 60)];
+    let with = |more: &[(&'static str, u64, u64, u64)]| totals(&with_scalar(&[&lines, more].concat()));
+    let refused = Err(Refusal::nowhere(13));
+    assert_eq!(with(&[]), Ok([100, 23, 563]));
+    assert_eq!(with(&[("CRD", 0, 1, 563)]), Ok([100, 23, 0]));
+    assert_eq!(with(&[("CRD", 0, 16, 564)]), refused);
+    let many = [("CRD", 0, 2, 200), ("CRD", 0, 7, 200), ("GEN", 0, CREDITS, 100)];
+    assert_eq!(with(&many), Ok([100, 23, 63]));
+    assert_eq!(with(&[&many[..], &[("CRD", 0, 16, 63)]].concat()), Ok([100, 23, 0]));
+    assert_eq!(with(&[&many[..], &[("CRD", 0, 16, 64)]].concat()), refused);
+    // 17 comes before 13.
+    let above = [("CRD", 0, 1, LARGEST_AMOUNT), ("CRD", 18, 1, 0)];
+    assert_eq!(with(&above), Err(Refusal::nowhere(17)));
 }
 
 /// "What is turned away": the block call's order and places.

@@ -1,4 +1,4 @@
--- Rules 12 and 16 in turn; past both, rule 13 is told of lines whose credits none of its blocks' LT(1) falls short of. Assumes nothing.
+-- Rules 12 and 16 in turn; past both, rules 17 and 13 are told of lines whose credits none of its blocks' LT(1) falls short of. Assumes nothing.
 use mathlib.Core.Path.{_≡_, sym, _∙_}
 use mathlib.Core.List.{List}
 use mathlib.Core.Bool.{true, false}
@@ -41,8 +41,8 @@ none-above : (c : tie.Else2) (es : List Entry) →
     Lines (c .before .before .before .before .before .before) es → anyTo (creditAbove es) nonParticipating ≡ false
 none-above c es H = sym (c .before .any-credit-above .ensures es H) ∙ c .if2 .left
 
-rule-13-requires : tie.Need-rule-13-requires
-rule-13-requires c κs =
+rule-17-requires : tie.Need-rule-17-requires
+rule-17-requires c κs =
     let e = c .before .before in
     let k = e .before .before .before in
     let i = k .before in (
@@ -54,10 +54,10 @@ rule-13-requires c κs =
 returns-3 : tie.Need-returns-3
 returns-3 c es H =
     let e = c .before .before .before in
-    c .rule-13 .ensures es H ∙ credits-pass es (has-scalar-line (e .before .before .before .before) es H) (none-above e es H)
+    c .rule-17 .ensures es H ∙ credits-pass es (has-scalar-line (e .before .before .before .before) es H) (none-above e es H)
 
 pub after-lines-spec : {M : Type 1} → statement M
 after-lines-spec =
     tie.close
     (tie.spec
-    (λ c κs. search needs) returns (λ c κs. search needs) any-credit-above-requires returns-2 rule-13-requires returns-3)
+    (λ c κs. search needs) returns (λ c κs. search needs) any-credit-above-requires returns-2 rule-17-requires returns-3)

@@ -1,9 +1,6 @@
 -- The block's numbers are those of the lines, and so is the credit that lowers them, which rule 16 lets pass. Assumes nothing.
 use mathlib.Core.Path.{_≡_, _∙_}
 use mathlib.Core.List.{List}
-use Prim.Native.Nat.{_-_, _≤_}
-use native.Mathlib.Omega.{arith}
-use lib.ListN.{getD}
 use borrow.Author.Needs.{needs}
 use Rattle.mortality.specs.Credit.{lowered}
 use Rattle.sheet_line.specs.declared.Entry.{Entry}
@@ -12,36 +9,28 @@ use Rattle.judgement.specs.Sheet.{creditOf, afterCredit}
 use Rattle.judgement.specs.Steps.{Holds}
 use Rattle.judgement.proofs.Tables.{numbers-are}
 use Rattle.judgement.proofs.Accepted.{entered-accepted}
-use Rattle.judgement.proofs.Credits.{credit-at}
 use Rattle.judgement.proofs.numbers_after_credit.Statement.{statement}
 use Rattle.judgement.proofs.numbers_after_credit.Tie as tie
 
 -- the numbers and the credit
-read : (c : tie.After-block-numbers) (es : List Entry) →
-    let s = c .before in
+read : (c : tie.After-credit-of) (es : List Entry) →
+    let s = c .before .before in
     Holds es (s .args .firsts .now) (s .args .seconds .now) (s .args .marks .now)
-    → (c .block-numbers .result ≡ blockOf es (s .args .block)) × (getD (s .args .credits .now) (s .args .block - 1) 0 ≡ creditOf es (s .args .block))
+    → (c .before .block-numbers .result ≡ blockOf es (s .args .block)) × (c .credit-of .result ≡ creditOf es (s .args .block))
 read c es H =
-    let s = c .before in
-    let p = s .pre in (
-      c .block-numbers .ensures ∙ numbers-are H _ (p .0 .0) (p .0 .1),
-      credit-at es (s .args .credits .now) (p .1 .1 es H .each) _ (p .0 .0) (omega arith),
-    )
+    let p = c .before .before .pre in
+    (c .before .block-numbers .ensures ∙ numbers-are H _ (p .0 .0) (p .0 .1), c .credit-of .ensures es H)
 
 lowered-requires : tie.Need-lowered-requires
 lowered-requires c κs =
-    let n = c .before in
-    let p = n .before .pre in
+    let p = c .before .before .pre in
     let l = p .1 .0 in
-    let r = read n (l .0) (l .1) in
+    let r = read c (l .0) (l .1) in
     rw (r .0, r .1) (p .1 .1 (l .0) (l .1) .covered _, entered-accepted (l .0) (l .1 .lines) _ .lt-within .0)
 
 returns : tie.Need-returns
 unfolding afterCredit
-returns c es H = let r = read (c .before .before) es H in c .lowered .ensures ∙ λ i. lowered (r .1 i) (r .0 i)
+returns c es H = let r = read (c .before) es H in c .lowered .ensures ∙ λ i. lowered (r .1 i) (r .0 i)
 
 pub numbers-after-credit-spec : {M : Type 1} → statement M
-numbers-after-credit-spec =
-    tie.close
-    (tie.spec
-    (λ c κs. search needs) (λ c. search needs) (λ c. search needs) (λ c. search needs) lowered-requires returns)
+numbers-after-credit-spec = tie.close (tie.spec (λ c κs. search needs) (λ c κs. search needs) lowered-requires returns)

@@ -9,7 +9,7 @@ use Rattle.ledger.proofs.index_of.Statement.{statement}
 use Rattle.ledger.proofs.index_of.Tie as tie
 
 bounded : (s : tie.Start) → (s .args .block ≤ blocks) × (columnsBefore (s .args .code) + s .args .class ≤ rowPlaces)
-bounded s = (omega (arith, block-most (s .args .code)), omega (arith, column-most (s .args .code)))
+bounded s = (omega (arith, block-most (s .args .code) (s .args .block)), omega (arith, column-most (s .args .code) (s .args .block)))
 
 returns : tie.Need-returns
 unfolding indexOf

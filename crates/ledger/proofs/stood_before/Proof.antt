@@ -8,5 +8,5 @@ pub stood-before-spec : {M : Type 1} → statement M
 stood-before-spec =
     tie.close
     (tie.spec
-    (λ c κs. search needs) (λ c κs. search needs) (λ c κs. search needs)
+    (λ c κs. search needs) (λ c κs. search needs) (λ c κs. rw (c .before .size .ensures, c .size2 .ensures) (c .before .before .pre))
     (λ c. c .has-mark .ensures ∙ rw (c .before .before .size .ensures, c .before .size2 .ensures)))

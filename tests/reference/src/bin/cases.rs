@@ -65,22 +65,23 @@ fn put(column: usize, bytes: &[u8]) -> Vec<u8> {
     sheet
 }
 
-/// All 309 lines, ascending, every amount the largest; LT (but for risk 7), prior volumes and credits as given. T is two
-/// thirds of them, with which the credit of survival and death business is LT(1) itself.
+/// All 501 lines, ascending, every amount the largest; LT (but for risk 7), prior volumes, dividend credits, those of
+/// adjustable products and the group's as given. T is two thirds of them, with which the credit of survival and death
+/// business is LT(1) itself.
 fn full(seconds: u64) -> Vec<Line> {
     const MOST: u64 = LARGEST_AMOUNT;
     let amounts = |(code, block, class): (&'static str, u64, u64)| match (code, class) {
         ("RSK", EXPENSES) | ("OTH", _) => (code, block, class, MOST, 0),
         ("RSK" | "VOL", _) => (code, block, class, MOST, seconds),
         ("MOR", _) => (code, block, class, MOST, seconds / 3 * 2),
-        (_, SCALAR) => (code, block, class, LARGEST_SCALAR, 0),
-        (_, CREDITS) => (code, block, class, seconds, 0),
+        ("GEN", SCALAR) => (code, block, class, LARGEST_SCALAR, 0),
+        ("GEN", CREDITS) | ("CRD", _) => (code, block, class, seconds, 0),
         _ => (code, block, class, MOST, 0),
     };
     all_lines(MOST_BLOCKS).into_iter().map(amounts).collect()
 }
 
-/// Every hundredth line in turn: 100 has no divisor in common with their number, 309, so that each comes once.
+/// Every hundredth line in turn: 100 has no divisor in common with their number, 501, so that each comes once.
 fn shuffled(lines: &[Line]) -> Vec<Line> {
     (0..lines.len()).map(|i| lines[(100 * i + 7) % lines.len()]).collect()
 }
@@ -95,6 +96,9 @@ fn cases() -> Vec<Case> {
         rows_11_to_14,
         survival_and_death,
         row_16,
+        participating,
+        row_17,
+        adjustable,
         two_bad_lines,
         duplicates,
         scalars,
@@ -130,8 +134,8 @@ fn rows_1_to_4(c: &mut Cases) {
     c.refused(at(3, 2), [sheet(&[RISK]), put(4, b"x")[..LINE_BYTES].to_vec()].concat());
     // 4 alone.
     c.refused(at(4, 2), sheet(&[RISK, ("RIS", 1, 2, 100, 0), G]));
-    // 4 beside 5: block 17 of no code.
-    c.refused(at(4, 1), sheet(&[("rsk", 17, 1, 100, 0), G]));
+    // 4 beside 5: block 33 of no code.
+    c.refused(at(4, 1), sheet(&[("rsk", 33, 1, 100, 0), G]));
     // 4, a code of the report.
     c.refused(at(4, 1), sheet(&[("BLK", 1, 1, 100, 0), G]));
 }
@@ -139,12 +143,12 @@ fn rows_1_to_4(c: &mut Cases) {
 fn rows_5_and_6(c: &mut Cases) {
     // 5 alone: RSK block 0.
     c.refused(at(5, 1), sheet(&[("RSK", 0, 1, 100, 0), G]));
-    // 5 alone: RSK block 17.
-    c.refused(at(5, 1), sheet(&[("RSK", 17, 1, 100, 0), G]));
-    // 5 alone: OTH block 17.
-    c.refused(at(5, 2), sheet(&[G, ("OTH", 17, 1, 100, 0)]));
-    // 5 alone: VOL block 99.
-    c.refused(at(5, 2), sheet(&[G, ("VOL", 99, 1, 100, 0)]));
+    // 5 alone: RSK block 33.
+    c.refused(at(5, 1), sheet(&[("RSK", 33, 1, 100, 0), G]));
+    // 5 alone: OTH block 33.
+    c.refused(at(5, 2), sheet(&[G, ("OTH", 33, 1, 100, 0)]));
+    // 5 alone: VOL block 17.
+    c.refused(at(5, 2), sheet(&[G, ("VOL", 17, 1, 100, 0)]));
     // 5 alone: GEN block 1.
     c.refused(at(5, 2), sheet(&[G, ("GEN", 1, 1, 100, 0)]));
     // 5 beside 6.
@@ -263,6 +267,71 @@ fn row_16(c: &mut Cases) {
     c.room(0, Err(nowhere(16)), sheet(&[risk, sums, G]));
 }
 
+/// Blocks 17 to 32 and their dividend credits. Credit of 100 alone has K 100.
+fn participating(c: &mut Cases) {
+    let other = |block: u64| ("OTH", block, 2, 100, 0);
+    // A participating block beside the block before it, without a credit.
+    c.accepted(2, sheet(&[other(17), ("RSK", 16, 1, 100, 40), G]));
+    // Credits of a part of K, of all of it and of 0; the line before its block's and behind it.
+    c.accepted(3, sheet(&[("CRD", 32, 1, 30, 0), other(32), other(17), ("CRD", 17, 1, 100, 0), other(20), G]));
+    c.accepted(2, sheet(&[("RSK", 31, 7, 0, 0), ("CRD", 31, 1, 0, 0), G, RISK]));
+    // 4: letters of the code in another order.
+    c.refused(at(4, 1), sheet(&[("CDR", 17, 1, 0, 0), G]));
+    // 5: blocks 1, 16 and 33.
+    c.refused(at(5, 1), sheet(&[("CRD", 1, 1, 0, 0), G]));
+    c.refused(at(5, 1), sheet(&[("CRD", 16, 1, 0, 0), G]));
+    c.refused(at(5, 2), sheet(&[G, ("CRD", 33, 1, 0, 0)]));
+    // 6: classes 2 and 0, the first beside 8.
+    c.refused(at(6, 2), sheet(&[other(17), ("CRD", 17, 2, 0, 1), G]));
+    c.refused(at(6, 2), sheet(&[other(32), ("CRD", 32, 0, 0, 0), G]));
+    // 8: a second amount, beside 11.
+    c.refused(at(8, 3), sheet(&[other(17), ("CRD", 17, 1, 5, 0), ("CRD", 17, 1, 5, 1), G]));
+    // 11: it stood before, beside 17.
+    c.refused(at(11, 3), sheet(&[other(17), ("CRD", 17, 1, 500, 0), ("CRD", 17, 1, 0, 0), G]));
+}
+
+/// 17, a dividend credit above its block's K or for no block, alone and beside what is tested before it and after it.
+fn row_17(c: &mut Cases) {
+    let (other, above) = (("OTH", 17, 2, 100, 0), ("CRD", 17, 1, 101, 0));
+    // Alone: a cent above; another block has enough.
+    c.refused(nowhere(17), sheet(&[other, above, G]));
+    c.refused(nowhere(17), sheet(&[("OTH", 18, 2, 900, 0), other, above, G]));
+    // Alone: the block isn't there, the credit is 0, or the largest.
+    c.refused(nowhere(17), sheet(&[other, ("CRD", 18, 1, 0, 0), G]));
+    c.refused(nowhere(17), sheet(&[G, ("CRD", 32, 1, LARGEST_AMOUNT, 0)]));
+    // Beside a bad line after it.
+    c.refused(at(9, 4), sheet(&[other, above, G, ("RSK", 1, 2, 0, 1)]));
+    // Beside 12.
+    c.refused(nowhere(12), sheet(&[other, above]));
+    // Beside 16.
+    c.refused(nowhere(16), sheet(&[other, above, G, ("MOR", 1, 1, 1, 1)]));
+    // Beside 13, of the group credits and of an adjustable product.
+    c.refused(nowhere(17), sheet(&[other, above, G, ("GEN", 0, CREDITS, LARGEST_AMOUNT, 0)]));
+    c.refused(nowhere(17), sheet(&[other, above, G, ("CRD", 0, 16, LARGEST_AMOUNT, 0)]));
+    // Beside 14: no room either.
+    c.room(0, Err(nowhere(17)), sheet(&[other, above, G]));
+}
+
+/// Credits of adjustable products, compared with what is left: K 100 less 60, and 500 + RO 23.
+fn adjustable(c: &mut Cases) {
+    let bracket = [("OTH", 17, 2, 100, 0), ("CRD", 17, 1, 60, 0), ("GEN", 0, 2, 500, 0), G];
+    let with = |more: &[Line]| sheet(&[&bracket, more].concat());
+    // Some of it; all of it, by one product, and by several and the group.
+    c.accepted(1, with(&[("CRD", 0, 1, 63, 0)]));
+    c.accepted(1, with(&[("CRD", 0, 16, 563, 0)]));
+    c.accepted(1, with(&[("CRD", 0, 3, 200, 0), ("GEN", 0, CREDITS, 62, 0), ("CRD", 0, 9, 301, 0)]));
+    // 13: a cent above, in the same ways.
+    c.refused(nowhere(13), with(&[("CRD", 0, 16, 564, 0)]));
+    c.refused(nowhere(13), with(&[("CRD", 0, 3, 200, 0), ("GEN", 0, CREDITS, 62, 0), ("CRD", 0, 9, 302, 0)]));
+    // 6: classes 0 and 17.
+    c.refused(at(6, 5), with(&[("CRD", 0, 0, 0, 0)]));
+    c.refused(at(6, 5), with(&[("CRD", 0, 17, 0, 0)]));
+    // 8: a second amount.
+    c.refused(at(8, 5), with(&[("CRD", 0, 16, 1, 1)]));
+    // 11: it stood before; the same class of GEN and of block 17 is another line.
+    c.refused(at(11, 7), with(&[("CRD", 0, 1, 1, 0), ("GEN", 0, 1, 1, 0), ("CRD", 0, 1, 1, 0)]));
+}
+
 /// Two bad lines: the first one answers.
 fn two_bad_lines(c: &mut Cases) {
     // 11 in line 2, 3 in line 3.
@@ -271,10 +340,10 @@ fn two_bad_lines(c: &mut Cases) {
     c.refused(at(9, 1), sheet(&[("RSK", 1, 1, 0, 1), ("XXX", 1, 1, 0, 0), G]));
     // 3 in line 1, 3 in line 2.
     c.refused(at(3, 1), [put(4, b"x")[..LINE_BYTES].to_vec(), put(4, b"x")].concat());
-    // A bad line as the last of a full sheet: OTH 16 3 has become a second OTH 16 2.
+    // A bad line as the last of a full sheet: OTH 32 3 has become a second OTH 32 2.
     let mut last = full(0);
-    last.retain(|line| *line != ("OTH", 16, 3, LARGEST_AMOUNT, 0));
-    last.push(("OTH", 16, 2, LARGEST_AMOUNT, 0));
+    last.retain(|line| *line != ("OTH", 32, 3, LARGEST_AMOUNT, 0));
+    last.push(("OTH", 32, 2, LARGEST_AMOUNT, 0));
     c.room(0, Err(at(11, MOST_LINES)), sheet(&last));
 }
 
@@ -305,12 +374,12 @@ fn scalars(c: &mut Cases) {
     c.refused(at(10, 1), sheet(&[("GEN", 0, SCALAR, 20_001, 0)]));
 }
 
-/// 309 lines with 16 blocks at the largest amounts.
+/// 501 lines with 32 blocks at the largest amounts.
 fn largest_amounts(c: &mut Cases) {
     // Ascending; LT, prior volumes and credits the largest as well.
-    c.accepted(16, sheet(&full(LARGEST_AMOUNT)));
+    c.accepted(32, sheet(&full(LARGEST_AMOUNT)));
     // Shuffled; LT, prior volumes and credits 0, which gives the largest figures of all.
-    c.accepted(16, sheet(&shuffled(&full(0))));
+    c.accepted(32, sheet(&shuffled(&full(0))));
 }
 
 /// Blocks that exist by zeros alone.
@@ -503,9 +572,9 @@ mod tests {
     #[test]
     fn the_reference_answers_as_written() {
         let cases = cases();
-        assert!(cases.len() <= 135, "{} cases", cases.len());
+        assert!(cases.len() <= 165, "{} cases", cases.len());
         for (at, case) in cases.iter().enumerate() {
-            assert!(case.sheet.len() <= LONGEST_SHEET + 1 && case.room <= 2_500);
+            assert!(case.sheet.len() <= LONGEST_SHEET + 1 && case.room <= LONGEST_REPORT + 93);
             assert_eq!(input(case).len(), 12 + case.sheet.len());
             let expected = expected(case).unwrap_or_else(|why| panic!("case {}: {why}", at + 1));
             assert_eq!(expected.len(), REPORT_LINE_BYTES + case.room + 1);
@@ -528,6 +597,6 @@ mod tests {
     fn every_row_of_a_sheet_stands() {
         let numbers: std::collections::BTreeSet<u8> =
             cases().iter().filter_map(|case| case.answer.err().map(|refusal| refusal.number)).collect();
-        assert_eq!(numbers.into_iter().collect::<Vec<u8>>(), [1, 2, 3, 4, 5, 6, 8, 9, 10, 11, 12, 13, 14, 16]);
+        assert_eq!(numbers.into_iter().collect::<Vec<u8>>(), [1, 2, 3, 4, 5, 6, 8, 9, 10, 11, 12, 13, 14, 16, 17]);
     }
 }
