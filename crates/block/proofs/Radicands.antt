@@ -1,7 +1,7 @@
 -- The radicands of I and D as the code makes them, and the room that they leave. Assumes nothing.
 use mathlib.Core.Path.{_≡_, sym, ap, _∙_}
 use mathlib.Core.List.{List}
-use Prim.Native.Nat.{ℕ, _+_, _*_, _/_, _^_, _≤_, _<_}
+use Prim.Native.Nat.{ℕ, _+_, _*_, _/_, _^_, _≤_, _<_, max}
 use native.Mathlib.Nat.{mul-le-mul, lt-of-le-of-lt}
 use native.Mathlib.Omega.{arith}
 use lib.Dec.{leb, lit<}
@@ -55,11 +55,11 @@ module _ (b : List ℕ) (h : AcceptedBlock b) where
   pub root-found : (n r : ℕ) → n ≡ (q b + 3) / 4 → r ≡ least (λ x. leb n (x * x)) → r ≡ root b
   root-found n r e f = f ∙ (λ i. least (λ x. leb (e i) (x * x))) ∙ sym (root-is b (q b) (q-is b))
 
-  pub largest-found : (l : List ℕ) (r : ℕ) → l ≡ ys b → r ≡ largestOf l → r ≡ largest b
+  pub floor-found : (l : List ℕ) (r : ℕ) → l ≡ ys b → r ≡ root b → max r (largestOf l) ≡ max (root b) (largest b)
   unfolding largest
-  largest-found l r e f = f ∙ ap largestOf e
+  floor-found l r e f = λ i. max (f i) (largestOf (e i))
 
-  pub floor-room : (root b + 2 * PC b < 2 ^ 64) × (largest b + 2 * PC b < 2 ^ 64)
+  pub floor-room : max (root b) (largest b) + 2 * PC b < 2 ^ 64
   unfolding I
   floor-room = omega (arith, v-fits b h, i-high b h)
 

@@ -19,7 +19,7 @@ use Rattle.block.specs.Parts.{SmallYs, SoFar, Row}
 -- as the code counts rows and columns
 pub so-far-next : (ys : List ℕ) (i j : ℕ) → j < risks
     → soFar ys (risks * i + (j + 1)) ≡ soFar ys (risks * i + j) +ℤ factor (risks * i + j) *ℤ pos (getD ys i 0 * getD ys j 0)
-unfolding soFar
+unfolding soFar factor
 so-far-next ys i j h =
     let e : risks * i + (j + 1) ≡ suc (risks * i + j) = omega arith in
     let r : (risks * i + j) / risks ≡ i = omega arith in

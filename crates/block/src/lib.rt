@@ -4,12 +4,13 @@ ghost use Prim.Native.Nat.{_+_, _-_, _*_, _^_, _≤_, _<_, max};
 ghost use lib.Dec.{leb};
 ghost use Rattle.search.specs.Least.{least};
 ghost use Rattle.amount.specs.Amount.{limit};
-ghost use Rattle.guideline.specs.Factors.{factor};
+ghost use Rattle.guideline.specs.Factors.{factor, quarterSum};
 ghost use Rattle.guideline.specs.Sizes.{risks, products};
 ghost use Rattle.guideline.specs.Block.{AcceptedBlock, U, LT, ys, largestOf, I, radicand, requirement, figuresOf};
 ghost use Rattle.block.specs.Call.{stated, blockCall, firstLtAbove};
 ghost use Rattle.block.specs.Accepted.{BlockDemand3};
 ghost use Rattle.block.specs.Parts.{figureList, SmallYs, SoFar, Row, FigureBounds};
+ghost use Rattle.wide.specs.Sum.{held};
 use guideline::BLOCK_NUMBERS;
 use guideline::RISKS;
 use guideline::factor_at as f;
@@ -67,36 +68,45 @@ fn first_lt_above(b: &[u64; BLOCK_NUMBERS]) -> usize
     i
 }
 
-// The figures of a block that rules 7, 8 and 9 let pass.
+// The figures of a block that rules 7, 8 and 9 let pass, in the order of sections 11.2.1 to 11.2.4.
 pub fn figures_of(b: &[u64; BLOCK_NUMBERS]) -> Figures
     requires { ⌜ AcceptedBlock (now b) ⌝ }
     ensures { λ r. ⌜ figureList r ≡ figuresOf (now (b .entry)) ⌝ }
 {
-    let u = undiversified(b);
-    let lt = level_and_trend(b);
+    // 11.2.1: I
     let i = insurance(b);
+    // 11.2.2: D, where 'A est la somme des exigences pour le risque de crédit .. et le risque du marché'
     let d = diversified(2 * (b[15] + b[16]), i);
+    // 11.2.3: U
+    let u = undiversified(b);
+    // 11.2.4: LT = Σ LT_i, and K
+    let lt = level_and_trend(b);
     let k = adjusted(u, lt, d);
     Figures { i, d, u, lt, k }
 }
 
-// U, the sum of IR, PC and A; A is credit plus market.
-fn undiversified(b: &[u64; BLOCK_NUMBERS]) -> u64
+// ---- 11.2.1 Exigence pour risque d'assurance (I):
+//
+//     I = √( Σ i,j=1..7  ρ_ij × (IR_i − 0,5 × LT_i) × (IR_j − 0,5 × LT_j) ) + PC
+//
+// The print lost the root sign; its example's figures show it, and document 01 says it. Here I is in half cents and ρ_ij in quarters.
+
+// I, in half cents: the steps of the section, one after the other.
+fn insurance(b: &[u64; BLOCK_NUMBERS]) -> u64
     requires { ⌜ AcceptedBlock (now b) ⌝ }
-    ensures { λ r. ⌜ r ≡ U (now (b .entry)) ⌝ }
+    ensures { λ r. ⌜ r ≡ I (now (b .entry)) ⌝ }
 {
-    b[0] + b[2] + b[4] + b[6] + b[8] + b[10] + b[12] + b[14] + (b[15] + b[16])
+    // 'IR_i − 0,5 × LT_i'
+    let y = half_cents(b);
+    // 'Σ ρ_ij × (IR_i − 0,5 × LT_i) × (IR_j − 0,5 × LT_j)', which is never negative: in half cents and quarters it is four times Q
+    let sum = running::unsigned(correlated(&y));
+    // the root, by document 01: 'the least whole number whose square is at least Q'
+    let root = root::root_up(words::quarter_up(sum));
+    // 'Cependant, I ne peut être inférieur à ..', and '+ PC'
+    floor_then_pc(root, &y, b[14])
 }
 
-// LT without a number: the sum of LT(i).
-fn level_and_trend(b: &[u64; BLOCK_NUMBERS]) -> u64
-    requires { ⌜ AcceptedBlock (now b) ⌝ }
-    ensures { λ r. ⌜ r ≡ LT (now (b .entry)) ⌝ }
-{
-    b[1] + b[3] + b[5] + b[7] + b[9] + b[11] + b[13]
-}
-
-// The seven y(i) = 2 × IR(i) − LT(i), in half cents: an odd LT keeps its half cent.
+// The seven IR_i − 0,5 × LT_i, in half cents y(i) = 2 × IR(i) − LT(i): an odd LT keeps its half cent.
 fn half_cents(b: &[u64; BLOCK_NUMBERS]) -> [u64; RISKS]
     requires { ⌜ AcceptedBlock (now b) ⌝ }
     ensures { λ r. ⌜ r ≡ ys (now (b .entry)) ⌝ }
@@ -112,23 +122,31 @@ fn half_cents(b: &[u64; BLOCK_NUMBERS]) -> [u64; RISKS]
     ]
 }
 
-// The sum over all pairs of risks, four times Q, row by row in the order of section 11.2.1. f(k) is the factor of the k-th product: read
-// at places that are written out, the compiler works with the factors as with numbers.
+// The sum over i and j from 1 to 7, row by row over all 49 products, those with factor 0 too. f(k) is the factor of the product that
+// comes after k others: read at places that are written out, the compiler works with the factors as with numbers.
 fn correlated(y: &[u64; RISKS]) -> Sum
     requires { ⌜ SmallYs (now y) ⌝ }
     ensures { λ r. ⌜ SoFar (now (y .entry)) products r ⌝ }
+    ensures { λ r. ⌜ held r ≡ quarterSum (now (y .entry)) ⌝ }
 {
     let s0 = running::empty();
+    // i = 1, Mortalité
     let s1 = with_row(s0, y, 0, f(0), f(1), f(2), f(3), f(4), f(5), f(6));
+    // i = 2, Longévité
     let s2 = with_row(s1, y, 1, f(7), f(8), f(9), f(10), f(11), f(12), f(13));
+    // i = 3, Incidence et réclamations – Morbidité
     let s3 = with_row(s2, y, 2, f(14), f(15), f(16), f(17), f(18), f(19), f(20));
+    // i = 4, Cessation de morbidité
     let s4 = with_row(s3, y, 3, f(21), f(22), f(23), f(24), f(25), f(26), f(27));
+    // i = 5, Sensible aux déchéances
     let s5 = with_row(s4, y, 4, f(28), f(29), f(30), f(31), f(32), f(33), f(34));
+    // i = 6, Fondé sur les déchéances
     let s6 = with_row(s5, y, 5, f(35), f(36), f(37), f(38), f(39), f(40), f(41));
+    // i = 7, Dépenses
     with_row(s6, y, 6, f(42), f(43), f(44), f(45), f(46), f(47), f(48))
 }
 
-// The sum with the seven products of a row added, each by its factor.
+// Row i = row + 1: its seven products in the order of the columns j, each by its ρ_ij.
 fn with_row(
     before: Sum,
     y: &[u64; RISKS],
@@ -155,7 +173,8 @@ fn with_row(
     with_product(s6, y, row, 6, f7)
 }
 
-// The sum with one product more: from that of the first k products, k = 7 × row + column, to that of the first k + 1.
+// One product, ρ_ij × (IR_i − 0,5 × LT_i) × (IR_j − 0,5 × LT_j): the held sum, in quarters and possibly below zero, goes from exactly
+// that of the first k products, k = 7 × row + column, to that of the first k + 1; i is row + 1 and j is column + 1.
 fn with_product(before: Sum, y: &[u64; RISKS], row: usize, column: usize, quarters: i64) -> Sum
     requires { ⌜ (row < risks) × (column < risks) ⌝ }
     requires { ⌜ SoFar (now y) (risks * row + column) before ⌝ }
@@ -165,11 +184,22 @@ fn with_product(before: Sum, y: &[u64; RISKS], row: usize, column: usize, quarte
     running::add_term(before, quarters, y[row], y[column])
 }
 
-// The larger of two.
-fn larger(x: u64, y: u64) -> u64
-    ensures { λ r. ⌜ r ≡ max x y ⌝ }
+// What the section does with the root. PC stands in the formula and in its floor, so it is added last, to whichever is the larger.
+fn floor_then_pc(root: u64, y: &[u64; RISKS], pc: u64) -> u64
+    requires { ⌜ max root (largestOf (now y)) + 2 * pc < 2 ^ 64 ⌝ }
+    ensures { λ r. ⌜ r ≡ max root (largestOf (now (y .entry))) + 2 * pc ⌝ }
 {
-    if x < y { y } else { x }
+    // 'Cependant, I ne peut être inférieur à la valeur la plus élevée de IR_i − 0,5 × LT_i ..'
+    let without_pc = floored(root, y);
+    // '.. + PC'
+    with_pc(without_pc, pc)
+}
+
+// The floor: the root, but not below the largest of the y(i).
+fn floored(root: u64, y: &[u64; RISKS]) -> u64
+    ensures { λ r. ⌜ r ≡ max root (largestOf (now (y .entry))) ⌝ }
+{
+    larger(root, largest_of(y))
 }
 
 // The largest of the seven y(i).
@@ -185,28 +215,22 @@ fn largest_of(y: &[u64; RISKS]) -> u64
     )
 }
 
-// The floor is taken before PC is added, so PC counts whichever is the larger.
-fn floored(root: u64, largest: u64, pc: u64) -> u64
-    requires { ⌜ (root + 2 * pc < 2 ^ 64) × (largest + 2 * pc < 2 ^ 64) ⌝ }
-    ensures { λ r. ⌜ r ≡ max root largest + 2 * pc ⌝ }
+// The larger of two.
+fn larger(x: u64, y: u64) -> u64
+    ensures { λ r. ⌜ r ≡ max x y ⌝ }
 {
-    if root < largest {
-        largest + 2 * pc
-    } else {
-        root + 2 * pc
-    }
+    if x < y { y } else { x }
 }
 
-// I, in half cents: the root of Q, not below the largest y(i), and 2 × PC.
-fn insurance(b: &[u64; BLOCK_NUMBERS]) -> u64
-    requires { ⌜ AcceptedBlock (now b) ⌝ }
-    ensures { λ r. ⌜ r ≡ I (now (b .entry)) ⌝ }
+// '+ PC', in half cents.
+fn with_pc(without: u64, pc: u64) -> u64
+    requires { ⌜ without + 2 * pc < 2 ^ 64 ⌝ }
+    ensures { λ r. ⌜ r ≡ without + 2 * pc ⌝ }
 {
-    let y = half_cents(b);
-    let q = running::unsigned(correlated(&y));
-    let root = root::root_up(words::quarter_up(q));
-    floored(root, largest_of(&y), b[14])
+    without + 2 * pc
 }
+
+// ---- 11.2.2 Exigence pour risque diversifié (D): D = √( A² + AI + I² ), as its example has it.
 
 // D, in half cents, for a = 2 × A. a² + a × I + I² is a × (a + I) + I².
 fn diversified(a: u64, i: u64) -> u64
@@ -214,6 +238,26 @@ fn diversified(a: u64, i: u64) -> u64
     ensures { λ r. ⌜ r ≡ least (λ d. leb (radicand a i) (d * d)) ⌝ }
 {
     root::root_up(words::add(words::product(a, a + i), words::product(i, i)))
+}
+
+// ---- 11.2.3 Exigence pour risque non diversifié (U): U = Σ i=1..7 IR_i + PC + A.
+
+// U, in cents; A is credit plus market.
+fn undiversified(b: &[u64; BLOCK_NUMBERS]) -> u64
+    requires { ⌜ AcceptedBlock (now b) ⌝ }
+    ensures { λ r. ⌜ r ≡ U (now (b .entry)) ⌝ }
+{
+    b[0] + b[2] + b[4] + b[6] + b[8] + b[10] + b[12] + b[14] + (b[15] + b[16])
+}
+
+// ---- 11.2.4 Exigence diversifiée ajustée (K), by document 01's formula: the print of K lost its fractions.
+
+// LT without a number, LT = Σ i=1..7 LT_i, in cents.
+fn level_and_trend(b: &[u64; BLOCK_NUMBERS]) -> u64
+    requires { ⌜ AcceptedBlock (now b) ⌝ }
+    ensures { λ r. ⌜ r ≡ LT (now (b .entry)) ⌝ }
+{
+    b[1] + b[3] + b[5] + b[7] + b[9] + b[11] + b[13]
 }
 
 // K, in cents, with V = 2U − LT. M is (3d − v) × (10d − 7v), the second factor cut at 0: with v at most 3d no sign is needed.

@@ -10,7 +10,7 @@ use Rattle.search.specs.First.{firstFrom, first}
 use Rattle.refusal.specs.Outcome.Outcome.{accepted}
 use Rattle.amount.specs.Amount.{firstAbove}
 use Rattle.guideline.specs.Sizes.{risks}
-use Rattle.guideline.specs.Factors.{factors, factor, soFar}
+use Rattle.guideline.specs.Factors.{factors, sumℤ}
 use Rattle.guideline.specs.Block.{A, U, LT, Vh, y, ys, Q4, largestOf, largest, root, I, a, D, requirement, K, figuresOf}
 use Rattle.guideline.specs.Operational.{total, volume, growth, operationalNumerator, RO}
 use Rattle.mortality.specs.Credit.{twiceRadicand, aggregated, credit}
@@ -53,7 +53,7 @@ pub record Table : Type 0 where
 
 pub computed : Table
 unfolding
-    pick leastFrom firstFrom firstAbove factors factor soFar A U LT Vh y ys Q4 largestOf largest root I a D requirement K figuresOf
+    pick leastFrom firstFrom firstAbove factors sumℤ A U LT Vh y ys Q4 largestOf largest root I a D requirement K figuresOf
     total volume growth operationalNumerator RO firstLtAbove rule9 rule8 blockCall rule7 operationalCall
     twiceRadicand aggregated credit gives allGiven pcInRisk netted eachRounded
 computed =

@@ -28,7 +28,7 @@ module _ (f : ℕ → ℤ) where
   sum-times c zero = sym (*ℤ-zero c)
   sum-times c (suc n) = ap (λ (z : ℤ). z +ℤ c *ℤ f n) (sum-times c n) ∙ sym (*ℤ-+ℤ c (sum n f) (f n))
 
-  sum-on : (m n : ℕ) → sum (m + n) f ≡ sum m f +ℤ sum n (λ k. f (m + k))
+  pub sum-on : (m n : ℕ) → sum (m + n) f ≡ sum m f +ℤ sum n (λ k. f (m + k))
   unfolding sum
   sum-on m zero = rw add-zero (sym (+ℤ-idr (sum m f)))
   sum-on m (suc n) = rw (add-suc, sum-on m n) (+ℤ-assoc (sum m f) (sum n (λ k. f (m + k))) (f (m + n)))

@@ -16,8 +16,9 @@ use Rattle.search.proofs.Picks.{never}
 use Rattle.search.proofs.Values.{values, values-same}
 use Rattle.integer.proofs.Integer.{ring, *ℤ-+ℤ, *ℤ-assoc, +ℤ-*ℤ, natural-diff}
 use Rattle.guideline.specs.Sizes.{risks, products}
-use Rattle.guideline.specs.Factors.{factors, factor, soFar, quarterSum}
+use Rattle.guideline.specs.Factors.{factors, factor, quarterSum}
 use Rattle.guideline.proofs.Sums.{sum, sum-same, sum-add, sum-times, sum-square}
+use Rattle.guideline.proofs.Order.{so-far-sum, in-order}
 use Rattle.guideline.proofs.Squares.{Square, made, sumOfSquares, made-sum, product, square-pos}
 
 -- ---- the test
@@ -152,14 +153,9 @@ form-most y q s e f =
 
 -- ---- the definition's sum is the form of the naturals
 
-so-far-sum : (ys : List ℕ) (n : ℕ) → soFar ys n ≡ sum n (λ k. factor k *ℤ product (λ i. pos (getD ys i 0)) k)
-unfolding soFar sum
-so-far-sum ys zero = refl
-so-far-sum ys (suc n) = ap (λ (z : ℤ). z +ℤ factor n *ℤ product (λ i. pos (getD ys i 0)) n) (so-far-sum ys n)
-
 pub quarter-form : (ys : List ℕ) → quarterSum ys ≡ form (λ i. pos (getD ys i 0))
-unfolding form
-quarter-form ys = so-far-sum ys products
+unfolding form factor
+quarter-form ys = sym (in-order ys .all) ∙ so-far-sum ys products
 
 -- 'A single term may be negative; Q never is'
 pub quarter-natural : (ys : List ℕ) → (q : ℕ) × (quarterSum ys ≡ pos q)

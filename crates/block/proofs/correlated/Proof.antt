@@ -1,7 +1,9 @@
--- From nothing, row by row: each factor is the table's at its place. Assumes nothing.
+-- From nothing, row by row: each factor is the table's at its place, and the 49 products in this order are the sum over all i, j. Assumes nothing.
+use mathlib.Core.Path.{_∙_}
 use native.Mathlib.Omega.{arith}
 use borrow.Author.Needs.{needs}
 use Rattle.guideline.specs.Factors.{soFar}
+use Rattle.guideline.proofs.Order.{in-order}
 use Rattle.block.specs.Parts.{SoFar}
 use Rattle.block.proofs.Running.{row-asked}
 use Rattle.block.proofs.correlated.Statement.{statement}
@@ -65,4 +67,4 @@ correlated-spec =
     (λ c κs. search needs) (λ c κs. search needs) (λ c κs. search needs) (λ c κs. search needs) (λ c κs. search needs) (λ c κs. search needs) (λ c κs. search needs) with-row-requires-5
     (λ c κs. search needs) (λ c κs. search needs) (λ c κs. search needs) (λ c κs. search needs) (λ c κs. search needs) (λ c κs. search needs) (λ c κs. search needs) with-row-requires-6
     (λ c κs. search needs) (λ c κs. search needs) (λ c κs. search needs) (λ c κs. search needs) (λ c κs. search needs) (λ c κs. search needs) (λ c κs. search needs) with-row-requires-7
-    (λ c. c .with-row7 .ensures))
+    (λ c. (c .with-row7 .ensures, c .with-row7 .ensures .sum ∙ in-order _ .all)))

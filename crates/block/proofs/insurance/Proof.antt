@@ -6,12 +6,12 @@ use Prim.Native.Nat.{ℕ, max, _+_, _*_, _/_, _≤_}
 use native.Mathlib.Omega.{arith}
 use borrow.Author.Needs.{needs}
 use lib.IntN.{pos, natAbs}
-use Rattle.guideline.specs.Block.{PC, largest, root, I}
+use Rattle.guideline.specs.Block.{PC, largestOf, largest, root, I}
 use Rattle.guideline.proofs.Figures.{q}
 use Rattle.wide.specs.Value.{value}
 use Rattle.wide.specs.Sum.{held}
 use Rattle.block.specs.Parts.{SmallYs}
-use Rattle.block.proofs.Radicands.{largestRadicand, ys-fit, sum-is, quarter-small, in-root, root-found, largest-found, floor-room}
+use Rattle.block.proofs.Radicands.{largestRadicand, ys-fit, sum-is, quarter-small, in-root, root-found, floor-found, floor-room}
 use Rattle.block.proofs.insurance.Statement.{statement}
 use Rattle.block.proofs.insurance.Tie as tie
 
@@ -22,10 +22,10 @@ correlated-requires c κs = subst (λ (l : List ℕ). SmallYs l) (sym (c .before
 summed : (c : tie.After-correlated) → held (c .correlated .result) ≡ pos (q (c .before .before .before .args .b .now))
 summed c =
     let y = c .before .before in
-    sum-is _ (y .before .pre) _ _ (c .correlated .ensures .sum) (y .half-cents .ensures)
+    sum-is _ (y .before .pre) _ _ (c .correlated .ensures .1) (y .half-cents .ensures)
 
 unsigned-requires : tie.Need-unsigned-requires
-unsigned-requires c κs = ((q (c .before .before .before .args .b .now), summed c), omega (arith, c .correlated .ensures .room))
+unsigned-requires c κs = ((q (c .before .before .before .args .b .now), summed c), omega (arith, c .correlated .ensures .0 .room))
 
 -- its quarter, rounded up
 quarter : (c : tie.After-quarter-up) → let s = c .before .before .before .before .before in value (c .quarter-up .result) ≡ (q (s .args .b .now) + 3) / 4
@@ -39,32 +39,29 @@ root-up-requires c κs =
     let h : value (c .quarter-up .result) ≤ largestRadicand = omega (arith, quarter c, quarter-small _ (s .pre)) in
     in-root _ h
 
-abbrev start : tie.After-root-up → tie.Start
-start c = c .before .before .before .before .before .before
+abbrev given : tie.After-root-up → tie.After-half-cents
+given c = c .before .before .before .before .before
 
-rooted : (c : tie.After-root-up) → c .root-up .result ≡ root (start c .args .b .now)
-rooted c = root-found _ (start c .pre) _ _ (quarter (c .before)) (c .root-up .ensures)
+rooted : (c : tie.After-root-up) → c .root-up .result ≡ root (given c .before .args .b .now)
+rooted c = root-found _ (given c .before .pre) _ _ (quarter (c .before)) (c .root-up .ensures)
 
-largest-is : (c : tie.After-largest-of) → c .largest-of .result ≡ largest (start (c .before .before) .args .b .now)
-largest-is c =
+-- the larger of the root and the largest y(i), as the block has them
+floor : (c : tie.After-root-up) → let b = given c .before .args .b .now in max (c .root-up .result) (largestOf (given c .half-cents .result)) ≡ max (root b) (largest b)
+floor c = floor-found _ (given c .before .pre) _ _ (given c .half-cents .ensures) (rooted c)
+
+floor-then-pc-requires : tie.Need-floor-then-pc-requires
+floor-then-pc-requires c κs =
     let r = c .before .before in
-    largest-found _ (start r .pre) _ _ (r .before .before .before .before .before .half-cents .ensures) (c .largest-of .ensures)
-
-floored-requires : tie.Need-floored-requires
-floored-requires c κs =
-    let l = c .before in
-    let r = l .before .before in
-    omega (arith, rooted r, largest-is l, floor-room _ (start r .pre))
+    omega (arith, floor r, floor-room _ (given r .before .pre))
 
 returns : tie.Need-returns
 unfolding I
 returns c =
-    let l = c .before .before in
-    let r = l .before .before in
-    c .floored .ensures ∙ (λ i. max (rooted r i) (largest-is l i) + 2 * PC (start r .args .b .now))
+    let r = c .before .before .before in
+    c .floor-then-pc .ensures ∙ ap (λ (n : ℕ). n + 2 * PC (given r .before .args .b .now)) (floor r)
 
 pub insurance-spec : {M : Type 1} → statement M
 insurance-spec =
     tie.close
-    (tie.spec (λ c κs. search needs) correlated-requires unsigned-requires (λ c κs. search needs) root-up-requires (λ c κs. search needs)
-    (λ c. search needs) floored-requires returns)
+    (tie.spec (λ c κs. search needs) correlated-requires unsigned-requires (λ c κs. search needs) root-up-requires (λ c. search needs)
+    floor-then-pc-requires returns)
