@@ -26,7 +26,7 @@ radicand-difference s t = uncut (2 * (s * s) + 2 * (t * t)) (3 * (s * t)) (twice
 unfoldable pub aggregated : ℕ → ℕ → ℕ
 aggregated s t = least (λ n. leb (twiceRadicand s t) (2 * (n * n)))
 
--- of all whole numbers, with no bound to a search, it is the least: proofs/Credits `aggregated-least`
+-- for S and T within the limit it is, of all whole numbers and with no bound to a search, the least: proofs/Credits `aggregated-least`
 abbrev pub AggregateLeast : ℕ → ℕ → Type 0
 AggregateLeast s t = LeastWith (λ n. twiceRadicand s t ≤ 2 * (n * n)) (aggregated s t)
 

@@ -9,4 +9,6 @@ unfolding codeAmong
 read-code-spec =
     tie.close
     (tie.spec
-    (λ c κs. search tests) (λ c. search tests depth 14) (λ c κs. search tests) (λ c. search tests depth 14) (λ c κs. search tests) (λ c. search tests depth 14) (λ c κs. search tests) (λ c. search tests depth 14) (λ c κs. search tests) (λ c. search tests depth 14) (λ c κs. search tests) (λ c. search tests depth 14) (λ c. search tests depth 14))
+    (λ c κs. search tests) (λ c. search tests depth 14) (λ c κs. search tests) (λ c. search tests depth 14) (λ c κs. search tests)
+    (λ c. search tests depth 14) (λ c κs. search tests) (λ c. search tests depth 14) (λ c κs. search tests) (λ c. search tests depth 14)
+    (λ c κs. search tests) (λ c. search tests depth 14) (λ c. search tests depth 14))

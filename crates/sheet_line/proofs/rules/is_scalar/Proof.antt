@@ -7,4 +7,5 @@ pub is-scalar-spec : {M : Type 1} → statement M
 is-scalar-spec =
     tie.close
     (tie.spec
-    (λ c. search needs) (λ c. search needs) (λ c. search needs) (λ c. search needs) (λ c. search needs) (λ c. search needs) (λ c. search needs) (λ c. search needs) (λ c. search needs) (λ c. search needs) (λ c. rw (c .enum-told5 .given .1)) (λ c. search needs))
+    (λ c. search needs) (λ c. search needs) (λ c. search needs) (λ c. search needs) (λ c. search needs) (λ c. search needs) (λ c. search needs)
+    (λ c. search needs) (λ c. search needs) (λ c. search needs) (λ c. rw (c .enum-told5 .given .1)) (λ c. search needs))
