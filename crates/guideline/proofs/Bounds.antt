@@ -5,7 +5,7 @@ use native.Mathlib.Nat.{mul-le-mul, mul-le-mul-left, mul-le-mul-right, le-of-mul
 use native.Mathlib.Decide.{decLe}
 use native.Mathlib.Omega.{arith}
 use Rattle.search.proofs.Roots.{le-of-squares, lt-of-squares}
-use Rattle.guideline.specs.Block.{radicand, M, kNumerator}
+use Rattle.guideline.specs.Block.{radicand, M, kNumerator, k-undiversified}
 
 -- (b − a)(d − c) is 0 or more
 cross : {a b c d : ℕ} → a ≤ b → c ≤ d → a * d + b * c ≤ b * d + a * c
@@ -82,9 +82,7 @@ module _ (u l v d : ℕ) (v-is : 2 * u ≡ v + l) (d-high : d ≤ v) where
 
   -- U passes K's test
   pub u-passes : v ≤ 3 * d → kNumerator u l v d ≤ 60 * (v * u)
-  u-passes low =
-      let b : v ≤ 30 * d = omega arith in
-      omega (arith, ap (λ (z : ℕ). z * v) v-is, cross d-high b)
+  u-passes low = omega (arith, m-rises v d v low d-high, k-undiversified u l v v-is)
 
 -- a fraction over 60 × V × s² rises with the part x of its numerator
 pub numerator-rises :

@@ -2,7 +2,7 @@
 use mathlib.Core.Path.{_≡_, refl}
 use mathlib.Core.Bool.{true}
 use mathlib.Core.List.{List}
-use Prim.Native.Nat.{ℕ, zero, suc, _+_, _-_, _*_, _/_, _%_, _≤_}
+use Prim.Native.Nat.{ℕ, zero, suc, _+_, _-_, _*_, _/_, _%_, _≤_, _<_}
 use native.Mathlib.Nat.{mul-le-mul-left, add-zero, add-suc}
 use native.Mathlib.Numerals.{add-one}
 use native.Mathlib.Omega.{arith}
@@ -35,6 +35,12 @@ pub factor-most : (k : ℕ) → factorOf k ≤ largestFactor
 unfolding values
 factor-most k =
     leb-true _ _ (values-same (λ j. leb (getD volumeFactors j 0) largestFactor) (λ j. true) volumeClasses refl (k % volumeClasses) (omega arith))
+
+-- from class to class the factors never rise
+pub factors-fall : (k : ℕ) → k < volumeClasses → getD volumeFactors (suc k) 0 ≤ getD volumeFactors k 0
+unfolding values
+factors-fall k h =
+    leb-true _ _ (values-same (λ j. leb (getD volumeFactors (suc j) 0) (getD volumeFactors j 0)) (λ j. true) volumeClasses refl k h)
 
 -- each pair is charged at most ten times the limit for each unit of its factor
 charged-most : (l : List ℕ) → ((j : ℕ) → getD l j 0 ≤ limit) → (k : ℕ) → charged l k ≤ 10 * limit * total factorOf k

@@ -62,6 +62,11 @@ Vh b = 2 * U b - LT b
 unfoldable pub y : List ℕ → ℕ → ℕ
 y b i = 2 * ir b i - lt b i
 
+-- no half cent is lost: with a cent more of LT(i), y(i) is a half cent less
+pub y-falls : (b c : List ℕ) (i : ℕ) → ir c i ≡ ir b i → lt c i ≡ lt b i + 1 → lt c i ≤ ir c i → y c i + 1 ≡ y b i
+unfolding y
+y-falls b c i h k l = omega arith
+
 -- y(1) to y(7)
 unfoldable pub ys : List ℕ → List ℕ
 ys b = y b 1 ∷ y b 2 ∷ y b 3 ∷ y b 4 ∷ y b 5 ∷ y b 6 ∷ y b 7 ∷ []
@@ -103,7 +108,15 @@ D b = least (λ d. leb (radicand (a b) (I b)) (d * d))
 abbrev pub M : ℕ → ℕ → ℕ
 M v d = 7 * (v * v) + 30 * (d * d) - 31 * (d * v)
 
--- the same in ℤ
+-- K's numerator, over 60 × V: what 60 × V × K has to reach
+abbrev pub kNumerator : ℕ → ℕ → ℕ → ℕ → ℕ
+kNumerator u l v d = 48 * (u * v) + 6 * (l * v) + M v d
+
+-- where nothing diversifies, and D is V, K's fraction is U
+pub k-undiversified : (u l v : ℕ) → 2 * u ≡ v + l → kNumerator u l v v ≡ 60 * (v * u)
+k-undiversified u l v h = omega (arith, ap (λ (z : ℕ). z * v) h)
+
+-- M in ℤ
 pub m-larger : (v d : ℕ) → pos (M v d) ≡ larger (pos 0) (pos (7 * (v * v)) -ℤ pos (31 * (d * v)) +ℤ pos (30 * (d * d)))
 m-larger v d =
     let s = 7 * (v * v) in
@@ -113,10 +126,6 @@ m-larger v d =
     ap pos m
     ∙ cut-larger (s + r) t
     ∙ ap (larger (pos 0)) (sym ((λ k. less-diff s t k +ℤ as-diff r k) ∙ diff-add s t r 0 ∙ diff-eq (s + r) (t + 0) (s + r) t (omega arith)))
-
--- K's numerator, over 60 × V: what 60 × V × K has to reach
-abbrev pub kNumerator : ℕ → ℕ → ℕ → ℕ → ℕ
-kNumerator u l v d = 48 * (u * v) + 6 * (l * v) + M v d
 
 -- K by U, LT, V and D
 unfoldable pub requirement : ℕ → ℕ → ℕ → ℕ → ℕ
