@@ -2,7 +2,7 @@
    libtsav.so, as the install script names them; in a checkout `bindings/library` writes the archive, as
    target/staticlib/libexports.a.
 
-   Three calls, and the version of the three. Each is proved to answer every input as is said here; none allocates, keeps
+   Four calls, and the version of the four. Each is proved to answer every input as is said here; none allocates, keeps
    anything between calls, or can fail in another way, and several threads may call at once.
 
    What is asked of a caller: every pointer is valid for the numbers or bytes that its parameter names, pointers to numbers
@@ -39,7 +39,8 @@
      14  nowhere             the lent report is shorter than the report
      15  nowhere             the list of volumes is longer than TSAV_MOST_VOLUMES, or no multiple of TSAV_TERRITORY_NUMBERS
      16  nowhere             the credit of a MOR line is above level and trend of its block's mortality
-     17  nowhere             a dividend credit (CRD of a block) is above its block's K, or the block has no RSK or OTH line */
+     17  nowhere             a dividend credit (CRD of a block) is above its block's K, or the block has no RSK or OTH line
+     18  nowhere             the row of a fluctuation factor is outside 1 to 7 */
 
 #ifndef TSAV_H
 #define TSAV_H
@@ -107,6 +108,28 @@ uint64_t tsav_block(const uint64_t numbers[TSAV_BLOCK_NUMBERS], uint64_t figures
    general. */
 uint64_t tsav_operational(const uint64_t *volumes, size_t count, const uint64_t general[TSAV_GENERAL_FIGURES],
                           uint64_t figure[1], uint64_t place[2]);
+
+/* The fluctuation call, section 11.1.2: a requirement for morbidity before its fluctuation factor becomes the one after it.
+
+   row: two numbers and a threshold in dollars:
+
+     1  disability level             0.9   and    648,  42,000,000
+     2  long-term care level         0.5   and  4,330,  75,000,000
+     3  disability volatility        0.7   and    734,   6,000,000
+     4  long-term care volatility    0.3   and  1,212,   3,000,000
+     5  travel and credit            0.2   and  1,788,   5,000,000
+     6  medical and dental           0.7   and    519,   3,000,000
+     7  critical illness             0.15  and 14,722, 300,000,000
+
+   requirement: B, before the factor.
+   face: the face amount, which is the base of row 7; the base of the other rows is the requirement, and face is only
+   tested against TSAV_LARGEST_AMOUNT.
+
+   Accepted, figure holds the requirement times its factor, rounded up to the cent. The factor is 1 where the base is up to
+   the threshold; above it, it is the first number plus the second over the square root of the base in dollars.
+
+   Refusals, tested in this order: 18; 7 at position 0 for the requirement, at 1 for the face. */
+uint64_t tsav_fluctuation(uint64_t row, uint64_t requirement, uint64_t face, uint64_t figure[1], uint64_t place[2]);
 
 /* The sheet call: sections 11.1.1, 11.2 and 8.2 for every block and territory of a sheet, and section 11.3, the buffer.
 

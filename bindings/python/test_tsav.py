@@ -11,6 +11,7 @@ OVER = tsav.LARGEST_AMOUNT + 1
 BLOCK = [int(word) for word in (TOP / "examples" / "block.numbers").read_text().split()]
 SHEET = (TOP / "examples" / "example.sheet").read_bytes()
 REPORT = (TOP / "crates" / "tsav_sheet" / "stdout").read_bytes()
+FLUCTUATIONS = (TOP / "tests" / "reference" / "fluctuation.cases").read_text().splitlines()
 
 
 class Calls(unittest.TestCase):
@@ -55,6 +56,27 @@ class Calls(unittest.TestCase):
         self.refused(15, None, None, tsav.operational, volumes[1:], [0, 0, 0])
         self.refused(15, None, None, tsav.operational, [0] * (tsav.MOST_VOLUMES + 16), [0, 0, 0])
 
+    def test_fluctuation(self):
+        self.assertEqual(tsav.fluctuation(2, 10_000_000_000, 0), 9_330_000_000)
+        self.assertEqual(tsav.fluctuation(7, 100_000_000, 40_000_000_000), 88_610_000)
+        self.refused(18, None, None, tsav.fluctuation, 0, OVER, OVER)
+        self.refused(18, None, None, tsav.fluctuation, 2**64 + 1, 0, 0)
+        self.refused(7, None, 0, tsav.fluctuation, 7, 2**64, OVER)
+        self.refused(7, None, 1, tsav.fluctuation, 1, 0, 10**30)
+
+    def test_stored_fluctuations(self):
+        """The stored calls; the file says how a line reads."""
+        calls = [line.split(" -> ") for line in FLUCTUATIONS if not line.startswith("#")]
+        self.assertGreater(len(calls), 100)
+        for call, answer in calls:
+            with self.subTest(call):
+                lent = [int(word) for word in call.split()]
+                if answer.startswith("refused"):
+                    _, number, *place = answer.split()
+                    self.refused(int(number), None, int(place[1]) if place else None, tsav.fluctuation, *lent)
+                else:
+                    self.assertEqual(tsav.fluctuation(*lent), int(answer))
+
     def test_sheet(self):
         for kind in (bytes, bytearray, memoryview):
             self.assertEqual(tsav.sheet(kind(SHEET)), REPORT)
@@ -82,6 +104,11 @@ class Calls(unittest.TestCase):
                 tsav.block(numbers)
         with self.assertRaises(ValueError):
             tsav.operational([], [0, 0])
+        for wrong in ((-1, 0, 0), (1, -1, 0), (1, 0, -1)):
+            with self.assertRaises(ValueError):
+                tsav.fluctuation(*wrong)
+        with self.assertRaises(TypeError):
+            tsav.fluctuation(1.0, 0, 0)
         for wrong in (SHEET.decode(), 40, None):
             with self.assertRaises(TypeError):
                 tsav.sheet(wrong)

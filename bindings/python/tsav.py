@@ -1,4 +1,4 @@
-"""The TSAV aggregation calculator (chapters 8 and 11 of the 2023 guideline): the three calls of the proved library.
+"""The TSAV aggregation calculator (chapters 8 and 11 of the 2023 guideline): the four calls of the proved library.
 
 What each call takes, gives and refuses is written in tsav.h. All amounts are whole cents, 0 to LARGEST_AMOUNT. A refusal
 is the exception Refused, with its number and place.
@@ -97,6 +97,15 @@ def operational(volumes, general) -> int:
     return figure[0]
 
 
+def fluctuation(row, requirement, face) -> int:
+    """The fluctuation call: a row of the factors of section 11.1.2, 1 to 7 as tsav.h lists them, a requirement, and a face
+    amount, which is critical illness's base. It gives the requirement times its factor in cents, rounded up."""
+    lent = _lend((row, requirement, face))
+    figure, place = (ctypes.c_uint64 * 1)(), (ctypes.c_uint64 * 2)()
+    _answered(_library.tsav_fluctuation(*lent, figure, place), place)
+    return figure[0]
+
+
 def sheet(sheet) -> bytes:
     """The sheet call: the report of a sheet, both as bytes."""
     # A view of it, since bytes(5) would be five zeros.
@@ -110,10 +119,10 @@ def sheet(sheet) -> bytes:
 
 def _lend(numbers) -> ctypes.Array:
     """Whole numbers as the library takes them. ctypes would cut a longer one off and turn a negative one round; what passes
-    64 bits is above the largest amount all the same, and is refused as such."""
+    64 bits is above the largest amount and the last row all the same, and is refused as such."""
     lent = [operator.index(number) for number in numbers]
     if any(number < 0 for number in lent):
-        raise ValueError("an amount is below zero")
+        raise ValueError("a number is below zero")
     return (ctypes.c_uint64 * len(lent))(*(min(number, 2**64 - 1) for number in lent))
 
 
@@ -140,17 +149,22 @@ def _load() -> ctypes.CDLL:
         library = ctypes.CDLL(os.environ.get("TSAV_LIBRARY") or str((beside + [name])[0]))
     except OSError as error:
         raise ImportError(f"{error}; in a checkout, run bindings/shared first; TSAV_LIBRARY may name the file") from error
-    numbers, size = ctypes.POINTER(ctypes.c_uint64), ctypes.c_size_t
-    for call, lent in (
-        (library.tsav_version, []),
-        (library.tsav_block, [numbers, numbers, numbers]),
-        (library.tsav_operational, [numbers, size, numbers, numbers, numbers]),
-        (library.tsav_sheet, [ctypes.c_char_p, size, ctypes.c_char_p, size, numbers, numbers]),
-    ):
-        call.argtypes, call.restype = lent, ctypes.c_uint64
+    word, numbers, size = ctypes.c_uint64, ctypes.POINTER(ctypes.c_uint64), ctypes.c_size_t
+    library.tsav_version.argtypes, library.tsav_version.restype = [], word
     # Another version may write more than is lent here.
     if library.tsav_version() != VERSION:
         raise ImportError(f"the library's calls are of version {library.tsav_version()}, not {VERSION}")
+    for name, lent in (
+        ("tsav_block", [numbers, numbers, numbers]),
+        ("tsav_operational", [numbers, size, numbers, numbers, numbers]),
+        ("tsav_fluctuation", [word, word, word, numbers, numbers]),
+        ("tsav_sheet", [ctypes.c_char_p, size, ctypes.c_char_p, size, numbers, numbers]),
+    ):
+        # A call that is added leaves the version as it was, so that an older library may lack it.
+        if not hasattr(library, name):
+            raise ImportError(f"the library is an older one: it has no {name}")
+        call = getattr(library, name)
+        call.argtypes, call.restype = lent, word
     return library
 
 

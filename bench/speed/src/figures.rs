@@ -1,7 +1,9 @@
-//! Blocks and sheets that change: amounts of a few digits less or more in every one, so that no jump can be learnt by heart.
+//! Blocks, sheets and fluctuation calls that change: amounts of a few digits less or more in every one, so that no jump can
+//! be learnt by heart.
 
 use reference::{
-    all_lines, sheet_line, BLOCK_NUMBERS, CREDITS, EXPENSES, LARGEST_AMOUNT, LARGEST_SCALAR, RISKS, SCALAR,
+    all_lines, sheet_line, BLOCK_NUMBERS, CREDITS, EXPENSES, FLUCTUATION_ROWS, LARGEST_AMOUNT, LARGEST_SCALAR, RISKS,
+    SCALAR,
 };
 
 /// Code, block and class of a line.
@@ -54,6 +56,11 @@ impl Draws {
             numbers[2 * risk + 1] = if risk + 1 == EXPENSES as usize { 0 } else { self.part(numbers[2 * risk]) };
         }
         numbers
+    }
+
+    /// A row, a requirement and a face amount of a fluctuation call that is accepted.
+    pub fn fluctuation(&mut self, size: Size) -> [u64; 3] {
+        [1 + self.below(FLUCTUATION_ROWS as u64), self.amount(size), self.amount(size)]
     }
 
     /// A sheet that is accepted, of these lines, among which RSK 1 of a block stands before MOR, and OTH 3 before CRD.

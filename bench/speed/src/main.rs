@@ -2,7 +2,7 @@
 //! that change (figures.rs). Its time and the ratio are those with one binary digit a step, the plain way; the ratios to it
 //! with the same root without jumps, as ours goes, and with Newton's stand beside.
 //!
-//! A sample is one pass over all the blocks or sheets of a kind. Samples of the four sides take turns, and so do the kinds and
+//! A sample is one pass over all the calls of a kind. Samples of the four sides take turns, and so do the kinds and
 //! the side that is first, so that whatever else the machine does falls on all of them; the shortest of each is printed. The
 //! answers are compared first.
 //!
@@ -26,8 +26,10 @@ const SAMPLES: usize = 400;
 const SIDES: usize = 1 + ROOTS.len();
 const ROOTS: [Root; 3] = [root_by_digits, root_without_jumps, root_by_newton];
 
-/// How many there are of each kind: blocks, full sheets, small sheets, and sheets for each line of the table.
+/// How many there are of each kind: blocks, fluctuation calls, full sheets, small sheets, and sheets for each line of the
+/// table.
 const BLOCKS: usize = 4096;
+const FLUCTUATIONS: usize = 4096;
 const FULL_SHEETS: usize = 64;
 const SMALL_SHEETS: usize = 1024;
 const TABLE_SHEETS: usize = 64;
@@ -46,6 +48,9 @@ fn main() {
         named.push((format!("block call{size_name}"), blocks(&mut draws, size)));
     }
     let mut table = TABLE.map(|blocks| sheets(&mut draws, TABLE_SHEETS, &all_lines(blocks), Size::Middling));
+    for (size_name, size) in SIZES {
+        named.push((format!("fluctuation call{size_name}"), fluctuations(&mut draws, size)));
+    }
     for round in 0..SAMPLES {
         for (_, kind) in &mut named {
             kind.sample(round);
@@ -130,6 +135,23 @@ fn blocks(draws: &mut Draws, size: Size) -> Kind {
         1 => each(&blocks, |numbers| peer::block(numbers, root_by_digits).ok()),
         2 => each(&blocks, |numbers| peer::block(numbers, root_without_jumps).ok()),
         _ => each(&blocks, |numbers| peer::block(numbers, root_by_newton).ok()),
+    })
+}
+
+fn fluctuations(draws: &mut Draws, size: Size) -> Kind {
+    let calls: Vec<[u64; 3]> = (0..FLUCTUATIONS).map(|_| draws.fluctuation(size)).collect();
+    for &[row, requirement, face] in &calls {
+        let ours = tsav::fluctuation(row, requirement, face).expect("the call is accepted");
+        for root in ROOTS {
+            assert_eq!(peer::fluctuation(row, requirement, face, root), Ok(ours), "the same result");
+        }
+    }
+    let peers = |&[row, requirement, face]: &[u64; 3], root: Root| peer::fluctuation(row, requirement, face, root).ok();
+    Kind::new(FLUCTUATIONS, 0, move |side| match side {
+        0 => each(&calls, |&[row, requirement, face]| tsav::fluctuation(row, requirement, face).ok()),
+        1 => each(&calls, |call| peers(call, root_by_digits)),
+        2 => each(&calls, |call| peers(call, root_without_jumps)),
+        _ => each(&calls, |call| peers(call, root_by_newton)),
     })
 }
 

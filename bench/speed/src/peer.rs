@@ -1,5 +1,5 @@
-//! The calculator of document 01, with requests #101 and #102 of document 02, as a good programmer writes it with u128: no
-//! allocation, every figure worked out once, and everything tested that the papers have tested. It is here for its speed;
+//! The calculator of document 01, with requests #101, #102 and #104 of document 02, as a good programmer writes it with u128:
+//! no allocation, every figure worked out once, and everything tested that the papers have tested. It is here for its speed;
 //! tests/reference, written to be plain, is the independent calculation.
 //!
 //! The root is left to the caller, and there are three: one binary digit a step with a jump on it, as it is mostly written;
@@ -123,6 +123,36 @@ fn requirement(u: u128, lt: u128, d: u128) -> u64 {
 fn credit([s, t]: [u64; 2], root: Root) -> u64 {
     let (difference, product) = (u128::from(s.abs_diff(t)), u128::from(s) * u128::from(t));
     s + t - root(difference * difference + product.div_ceil(2))
+}
+
+/// The fluctuation call.
+pub fn fluctuation(row: u64, requirement: u64, face: u64, root: Root) -> Result<u64, Refusal> {
+    // The first number in twentieths, the second, and the threshold and the base in cents.
+    let (first, second, threshold, base) = match row {
+        1 => (18, 648, 4_200_000_000, requirement),
+        2 => (10, 4_330, 7_500_000_000, requirement),
+        3 => (14, 734, 600_000_000, requirement),
+        4 => (6, 1_212, 300_000_000, requirement),
+        5 => (4, 1_788, 500_000_000, requirement),
+        6 => (14, 519, 300_000_000, requirement),
+        7 => (3, 14_722, 30_000_000_000, face),
+        _ => return Err(Refusal::nowhere(18)),
+    };
+    if let Some(position) = [requirement, face].iter().position(|&amount| amount > LARGEST_AMOUNT) {
+        return Err(Refusal::at_position(7, position));
+    }
+    if base <= threshold {
+        return Ok(requirement);
+    }
+    let radicand = if row == 7 {
+        // 40,000 × (B × second)² over the base, rounded up; it is divided before it is multiplied, so that 128 bits hold it.
+        let (product, wide_base) = (u128::from(requirement * second), u128::from(base));
+        let (quotient, rest) = (product * product / wide_base, (product * product % wide_base) as u64);
+        40_000 * quotient + u128::from((40_000 * rest).div_ceil(base))
+    } else {
+        40_000 * u128::from(second * second) * u128::from(requirement)
+    };
+    Ok((first * requirement + root(radicand)).div_ceil(20))
 }
 
 /// The factors of the volume classes and of the general figures, in ten-thousandths.
@@ -373,11 +403,14 @@ mod tests {
         for index in 0..CASES {
             let (lines, room) = generate::case(1, index);
             let numbers = generate::block_numbers(1, index);
+            let [row, requirement, face] = generate::fluctuation_numbers(1, index);
+            let result = reference::fluctuation_call(row, requirement, face);
             for root in [root_by_digits, root_without_jumps, root_by_newton] {
                 let (mut one, mut two) = (vec![0; room], vec![0; room]);
                 assert_eq!(sheet(&lines, &mut one, root), reference::sheet_call(&lines, &mut two), "sheet {index}");
                 assert_eq!(one, two, "report {index}");
                 assert_eq!(block(&numbers, root), reference::block_call(&numbers), "block {index}");
+                assert_eq!(fluctuation(row, requirement, face, root), result, "fluctuation {index}");
             }
         }
     }

@@ -2,7 +2,8 @@
 //! come all the same, another library was linked, and they are handed on as they are and not guessed at.
 
 use crate::{
-    report_length, Breach, Error, Place, Refusal, BLOCK_NUMBERS, GENERAL_NUMBERS, MOST_BLOCKS, SHEET_LINE, VERSION,
+    report_length, Breach, Error, Place, Refusal, BLOCK_NUMBERS, FLUCTUATION_AMOUNTS, GENERAL_NUMBERS, MOST_BLOCKS,
+    SHEET_LINE, VERSION,
 };
 
 /// The kinds of a place.
@@ -37,6 +38,17 @@ pub(crate) fn operational(answer: u64, place: [u64; 2], volumes: usize) -> Resul
         0 => return Ok(()),
         7 => position(place).filter(|&at| at < volumes + GENERAL_NUMBERS).map(Place::Position),
         15 => nowhere(place),
+        _ => None,
+    };
+    Err(refused(answer, place, listed))
+}
+
+/// The fluctuation call's answer.
+pub(crate) fn fluctuation(answer: u64, place: [u64; 2]) -> Result<(), Error> {
+    let listed = match answer {
+        0 => return Ok(()),
+        7 => position(place).filter(|&at| at < FLUCTUATION_AMOUNTS).map(Place::Position),
+        18 => nowhere(place),
         _ => None,
     };
     Err(refused(answer, place, listed))
@@ -95,10 +107,11 @@ mod tests {
 
     const VOLUMES: usize = 32;
 
-    /// The three calls, on what is lent in these tests.
-    const CALLS: [(&str, Call); 3] = [
+    /// The four calls, on what is lent in these tests.
+    const CALLS: [(&str, Call); 4] = [
         ("block", block),
         ("operational", |answer, place| operational(answer, place, VOLUMES)),
+        ("fluctuation", fluctuation),
         ("sheet", |answer, place| sheet(answer, place, LONGEST_SHEET)),
     ];
 
@@ -129,9 +142,10 @@ mod tests {
     #[test]
     fn each_call_has_its_refusals() {
         // Of each call: nowhere, at a line, at a position.
-        let listed: [[&[u64]; 3]; 3] = [
+        let listed: [[&[u64]; 3]; 4] = [
             [&[], &[], &[7, 8, 9]], // block
             [&[15], &[], &[7]],     // operational
+            [&[18], &[], &[7]],     // fluctuation
             [&[1, 2, 12, 13, 14, 16, 17], &[3, 4, 5, 6, 8, 9, 10, 11], &[]],
         ];
         for ((name, call), listed) in CALLS.into_iter().zip(listed) {
@@ -152,6 +166,8 @@ mod tests {
         assert_eq!(block(9, [POSITION, 11]), refused(9, Place::Position(11)));
         assert_eq!(operational(7, [POSITION, 34], VOLUMES), refused(7, Place::Position(34)));
         assert_eq!(operational(15, [NOWHERE, 0], 1), refused(15, Place::Nowhere));
+        assert_eq!(fluctuation(7, [POSITION, 1]), refused(7, Place::Position(1)));
+        assert_eq!(fluctuation(18, [NOWHERE, 0]), refused(18, Place::Nowhere));
         assert_eq!(sheet(11, [LINE, 501], LONGEST_SHEET), refused(11, Place::Line(501)));
         assert_eq!(sheet(16, [NOWHERE, 0], SHEET_LINE), refused(16, Place::Nowhere));
         assert_eq!(sheet(17, [NOWHERE, 0], SHEET_LINE), refused(17, Place::Nowhere));
@@ -161,7 +177,7 @@ mod tests {
     #[test]
     fn numbers_that_no_refusal_has() {
         // 263 is 7 in its lowest byte.
-        for number in [18, 255, 256, 263, u64::MAX] {
+        for number in [19, 255, 256, 263, u64::MAX] {
             for place in [[NOWHERE, 0], [LINE, 1], [POSITION, 0]] {
                 for (name, call) in CALLS {
                     assert_eq!(call(number, place), broken(number, place), "{name}");
@@ -175,10 +191,12 @@ mod tests {
         for kind in [3, 258, u64::MAX] {
             assert_eq!(block(7, [kind, 0]), broken(7, [kind, 0]));
             assert_eq!(operational(15, [kind, 0], VOLUMES), broken(15, [kind, 0]));
+            assert_eq!(fluctuation(18, [kind, 0]), broken(18, [kind, 0]));
             assert_eq!(sheet(3, [kind, 1], LONGEST_SHEET), broken(3, [kind, 1]));
         }
         assert_eq!(sheet(12, [NOWHERE, 1], LONGEST_SHEET), broken(12, [NOWHERE, 1]));
         assert_eq!(block(7, [LINE, 1]), broken(7, [LINE, 1]));
+        assert_eq!(fluctuation(18, [POSITION, 0]), broken(18, [POSITION, 0]));
         assert_eq!(sheet(9, [POSITION, 1], LONGEST_SHEET), broken(9, [POSITION, 1]));
     }
 
@@ -192,6 +210,7 @@ mod tests {
             assert_eq!(block(9, [POSITION, at]), broken(9, [POSITION, at]));
         }
         assert_eq!(operational(7, [POSITION, 35], VOLUMES), broken(7, [POSITION, 35]));
+        assert_eq!(fluctuation(7, [POSITION, 2]), broken(7, [POSITION, 2]));
         for line in [0, 3, u64::MAX] {
             assert_eq!(sheet(3, [LINE, line], 2 * SHEET_LINE), broken(3, [LINE, line]));
         }

@@ -1,4 +1,4 @@
-//! The TSAV aggregation calculator (chapters 8 and 11 of the 2023 guideline): a safe wrapper of the three calls of the
+//! The TSAV aggregation calculator (chapters 8 and 11 of the 2023 guideline): a safe wrapper of the four calls of the
 //! proved static library. What each call takes, gives and refuses is written in include/tsav.h.
 //!
 //! All amounts are whole cents, 0 to [`LARGEST_AMOUNT`]. Any numbers and bytes may be given: what is out of range is
@@ -28,6 +28,9 @@ pub const MOST_VOLUMES: usize = 16 * TERRITORY_NUMBERS;
 /// The general figures of the operational call.
 pub const GENERAL_NUMBERS: usize = 3;
 
+/// The amounts of the fluctuation call.
+const FLUCTUATION_AMOUNTS: usize = 2;
+
 /// The blocks of a sheet, of which those from 17 on are participating.
 pub const MOST_BLOCKS: usize = 32;
 
@@ -47,7 +50,7 @@ pub const fn report_length(blocks: usize) -> usize {
 }
 
 /// The refusals are numbered from 1 to this.
-pub const LAST_REFUSAL: usize = 17;
+pub const LAST_REFUSAL: usize = 18;
 
 /// A block's figures: I and D in half cents, U, LT and K in cents.
 #[derive(Clone, Copy, Debug, PartialEq, Eq)]
@@ -83,6 +86,17 @@ pub fn operational(volumes: &[u64], general: &[u64; GENERAL_NUMBERS]) -> Result<
     Ok(figure[0])
 }
 
+/// The fluctuation call: a row of the factors of section 11.1.2, 1 to 7 as include/tsav.h lists them, a requirement and a
+/// face amount, which is critical illness's base. It gives the requirement times its factor, rounded up to the cent.
+pub fn fluctuation(row: u64, requirement: u64, face: u64) -> Result<u64, Error> {
+    compare_versions()?;
+    let (mut figure, mut place) = ([0; 1], [0; 2]);
+    // SAFETY: each reference is to as many numbers as the call names.
+    let answer = unsafe { library::tsav_fluctuation(row, requirement, face, &mut figure, &mut place) };
+    contract::fluctuation(answer, place)?;
+    Ok(figure[0])
+}
+
 /// The sheet call: it gives the report's length, and writes so many bytes of `report`. The bytes behind them, and all of
 /// them where the sheet is refused, are left as they were.
 pub fn sheet(sheet: &[u8], report: &mut [u8]) -> Result<usize, Error> {
@@ -114,6 +128,13 @@ mod library {
             volumes: *const u64,
             count: usize,
             general: &[u64; GENERAL_NUMBERS],
+            figure: &mut [u64; 1],
+            place: &mut [u64; 2],
+        ) -> u64;
+        pub fn tsav_fluctuation(
+            row: u64,
+            requirement: u64,
+            face: u64,
             figure: &mut [u64; 1],
             place: &mut [u64; 2],
         ) -> u64;

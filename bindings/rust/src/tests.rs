@@ -1,6 +1,6 @@
 use super::*;
 use contract::{LINE, NOWHERE, POSITION};
-use reference::{example, EXAMPLE_FIGURES, WHOLE_RUN, WHOLE_RUN_REPORT};
+use reference::{example, fluctuation_cases, EXAMPLE_FIGURES, WHOLE_RUN, WHOLE_RUN_REPORT};
 
 const OVER: u64 = LARGEST_AMOUNT + 1;
 
@@ -51,6 +51,20 @@ fn refusals_of_the_operational_call() {
     assert_eq!(operational(&[0; 16], &[0, 0, OVER]), refused(7, Place::Position(18)));
     for length in [1, 15, 17, 257, 272] {
         assert_eq!(operational(&[0; 272][..length], &[0; 3]), refused(15, Place::Nowhere));
+    }
+}
+
+/// The stored calls, refused ones too, among which are the papers' figures and each row at its threshold and above it.
+#[test]
+fn the_fluctuation_call() {
+    assert_eq!(fluctuation(2, 10_000_000_000, 0), Ok(9_330_000_000));
+    assert_eq!(fluctuation(7, 100_000_000, 40_000_000_000), Ok(88_610_000));
+    for ([row, requirement, face], answer) in fluctuation_cases() {
+        let answer = answer.or_else(|reference::Refusal { number, place }| match place {
+            reference::Place::Position(position) => refused(number, Place::Position(position)),
+            _ => refused(number, Place::Nowhere),
+        });
+        assert_eq!(fluctuation(row, requirement, face), answer, "{row} {requirement} {face}");
     }
 }
 
@@ -153,6 +167,21 @@ fn untouched_by_the_operational_call() {
     assert_eq!(call(&[], [100, 100, 100]), (0, [13], [KEPT; 2]));
     assert_eq!(call(&[0], [0; 3]), (15, [KEPT], [NOWHERE, 0]));
     assert_eq!(call(&[], [0, 0, OVER]), (7, [KEPT], [POSITION, 2]));
+}
+
+#[test]
+fn untouched_by_the_fluctuation_call() {
+    let call = |row: u64, requirement: u64, face: u64| {
+        let (mut figure, mut place) = ([KEPT; 1], [KEPT; 2]);
+        // SAFETY: as in `fluctuation`.
+        let answer = unsafe { library::tsav_fluctuation(row, requirement, face, &mut figure, &mut place) };
+        (answer, figure, place)
+    };
+    assert_eq!(call(2, 10_000_000_000, LARGEST_AMOUNT), (0, [9_330_000_000], [KEPT; 2]));
+    assert_eq!(call(7, 1, 0), (0, [1], [KEPT; 2]));
+    assert_eq!(call(0, OVER, OVER), (18, [KEPT], [NOWHERE, 0]));
+    assert_eq!(call(7, OVER, OVER), (7, [KEPT], [POSITION, 0]));
+    assert_eq!(call(1, 0, OVER), (7, [KEPT], [POSITION, 1]));
 }
 
 #[test]

@@ -1,7 +1,6 @@
--- Document 01's calibration points: the rows marked †, one table, with document 02's worked figures. Cents; I and D in half cents. A row has the outcome that the
--- call's contract equates its answer with, or where no call gives the figures the definitions' values, and the figures that the paper's row
--- gives, no others.
--- Assumes nothing.
+-- Document 01's calibration points: the rows marked †, one table, with document 02's worked figures. Cents; I and D in half cents. A row
+-- has the outcome that the call's contract equates its answer with, or where no call gives the figures the definitions' values, and the
+-- figures that the paper's row gives, no others. Assumes nothing.
 use mathlib.Core.Bool.{Bool, true, false, _&&_}
 use mathlib.Core.List.{List, [], _∷_}
 use Prim.Native.Nat.{ℕ, suc}
@@ -12,6 +11,7 @@ use Rattle.refusal.specs.Outcome.Outcome.{accepted, refused}
 use Rattle.mortality.specs.Credit.{aggregated, credit}
 use Rattle.block.specs.Call.{blockCall}
 use Rattle.operational.specs.Call.{operationalCall}
+use Rattle.fluctuation.specs.Call.{fluctuationCall}
 
 -- a figure and its place among the call's values
 pub record Figure : Type 0 where
@@ -49,6 +49,10 @@ aggregate n = record { place = 0; figure = n }
 -- the credit, the second
 abbrev mortalityCredit : ℕ → Figure
 mortalityCredit n = record { place = 1; figure = n }
+
+-- the fluctuation call's one value
+abbrev result : ℕ → Figure
+result n = record { place = 0; figure = n }
 
 -- a row: the outcome of the call at the row's input, and the figures that the row prints
 pub record Point : Type 0 where
@@ -113,4 +117,8 @@ points =
     ∷ record { outcome = operationalCall (seventh 1 1) nothing; figures = RO 1 ∷ [] }
     -- document 02, #101: S and T both 100
     ∷ record { outcome = accepted (aggregated 100 100 ∷ credit 100 100 ∷ []); figures = aggregate 71 ∷ mortalityCredit 129 ∷ [] }
+    -- document 02, #104, in dollars: long-term care level 100,000,000
+    ∷ record { outcome = fluctuationCall 2 10000000000 0; figures = result 9330000000 ∷ [] }
+    -- and critical illness 1,000,000 on a face of 400,000,000
+    ∷ record { outcome = fluctuationCall 7 100000000 40000000000; figures = result 88610000 ∷ [] }
     ∷ []

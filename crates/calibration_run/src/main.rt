@@ -1,7 +1,9 @@
-// Runs the block call and the operational call on figures that others printed, and on bad input. What it writes is compared with the
-// file stdout beside src/: document 000's and 003's figures as they stand there, and the answers that document 01's table names.
+// Runs the block, the operational and the fluctuation call on figures that others printed, and on bad input. What it writes is compared with
+// the file stdout beside src/: document 000's and 003's figures as they stand there, the answers that document 01's table names, and document
+// 02's fluctuation factors.
 use amount::LARGEST_AMOUNT;
 use block::BlockAnswer;
+use fluctuation::FluctuationAnswer;
 use guideline::BLOCK_NUMBERS;
 use guideline::GENERAL_FIGURES;
 use guideline::TERRITORY_NUMBERS;
@@ -20,6 +22,8 @@ fn main() {
     bad_blocks();
     printed_volumes();
     bad_volumes();
+    fluctuations();
+    bad_fluctuations();
 }
 
 // Text as it stands.
@@ -266,4 +270,67 @@ fn bad_volumes() {
     operational_row(&v, &[MOST, 0, 0]);
     operational_row(&[MOST; 17], &[MOST, 0, 0]);
     operational_row(&[MOST; TERRITORY_NUMBERS], &none);
+}
+
+// What the fluctuation call gives, on a line.
+fn fluctuation_row(row: u64, requirement: u64, face: u64) {
+    let answer = fluctuation::fluctuation_call(row, requirement, face);
+    match answer {
+        FluctuationAnswer::Accepted(result) => {
+            say(b"result:");
+            number(result);
+            say(b"\n");
+        }
+        FluctuationAnswer::Refused(n, p) => {
+            refused(n, p);
+        }
+    }
+}
+
+// Document 02's two figures, then each row at its threshold, a cent above it and at the largest amount.
+fn fluctuations() {
+    say(b"document 02\n");
+    fluctuation_row(2, 10000000000, 0);
+    fluctuation_row(7, 100000000, 40000000000);
+    fluctuation_row(1, 4200000000, 0);
+    fluctuation_row(1, 4200000001, 0);
+    fluctuation_row(1, LARGEST_AMOUNT, 0);
+    fluctuation_row(2, 7500000000, 0);
+    fluctuation_row(2, 7500000001, 0);
+    fluctuation_row(2, LARGEST_AMOUNT, 0);
+    fluctuation_row(3, 600000000, 0);
+    fluctuation_row(3, 600000001, 0);
+    fluctuation_row(3, LARGEST_AMOUNT, 0);
+    fluctuation_row(4, 300000000, 0);
+    fluctuation_row(4, 300000001, 0);
+    fluctuation_row(4, LARGEST_AMOUNT, 0);
+    fluctuation_row(5, 500000000, 0);
+    fluctuation_row(5, 500000001, 0);
+    fluctuation_row(5, LARGEST_AMOUNT, 0);
+    fluctuation_row(6, 300000000, 0);
+    fluctuation_row(6, 300000001, 0);
+    fluctuation_row(6, LARGEST_AMOUNT, 0);
+    fluctuation_row(7, LARGEST_AMOUNT, 30000000000);
+    fluctuation_row(7, LARGEST_AMOUNT, 30000000001);
+    fluctuation_row(7, LARGEST_AMOUNT, LARGEST_AMOUNT);
+}
+
+// 18 alone and before 7, 7 at either position and at the first of two; and beside them a requirement of 0, a face that rows 1 to 6 read for
+// rule 7 alone, and none in row 7, which are all accepted.
+fn bad_fluctuations() {
+    say(b"bad fluctuations\n");
+    fluctuation_row(0, 1, 1);
+    fluctuation_row(8, 1, 1);
+    fluctuation_row(MOST, 1, 1);
+    fluctuation_row(0, LARGEST_AMOUNT + 1, 1);
+    fluctuation_row(8, 1, LARGEST_AMOUNT + 1);
+    fluctuation_row(1, LARGEST_AMOUNT + 1, 0);
+    fluctuation_row(1, 0, LARGEST_AMOUNT + 1);
+    fluctuation_row(7, LARGEST_AMOUNT + 1, LARGEST_AMOUNT + 1);
+    fluctuation_row(7, LARGEST_AMOUNT + 1, 0);
+    fluctuation_row(7, 0, LARGEST_AMOUNT + 1);
+    fluctuation_row(7, 0, LARGEST_AMOUNT);
+    fluctuation_row(1, MOST, MOST);
+    fluctuation_row(1, 10000000000, LARGEST_AMOUNT);
+    fluctuation_row(7, 10000000000, 0);
 }

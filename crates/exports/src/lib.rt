@@ -1,4 +1,4 @@
-// The three calls for C and Rust: a number is given back, and the rest is written into what the caller lends. An accepted call gives
+// The four calls for C and Rust: a number is given back, and the rest is written into what the caller lends. An accepted call gives
 // 0 and leaves the lent place as it was; a refused one gives its number and leaves all but the place as it was. Beside them the version of
 // these calls, for a caller to compare before it lends anything.
 ghost use mathlib.Core.Path.{_≡_};
@@ -6,12 +6,15 @@ ghost use Rattle.refusal.specs.Outcome.Outcome.{accepted};
 ghost use Rattle.block.specs.Call.{blockCall};
 ghost use Rattle.block.specs.Accepted.{BlockDemand3};
 ghost use Rattle.operational.specs.Call.{operationalCall};
+ghost use Rattle.fluctuation.specs.Call.{fluctuationCall};
+ghost use Rattle.fluctuation.specs.Accepted.{FluctuationDemand};
 ghost use Rattle.aggregate.specs.Call.{sheetCall};
 ghost use Rattle.aggregate.specs.Demand.{Demand3};
 ghost use Rattle.exports.specs.Left.{placeOf, Leaves};
 ghost use Rattle.exports.specs.Version.{interfaceVersion};
 use aggregate::SheetAnswer;
 use block::BlockAnswer;
+use fluctuation::FluctuationAnswer;
 use guideline::BLOCK_FIGURES;
 use guideline::BLOCK_NUMBERS;
 use guideline::GENERAL_FIGURES;
@@ -78,6 +81,29 @@ pub extern "C" fn tsav_operational(
             ACCEPTED
         }
         OperationalAnswer::Refused(number, at) => refuse(number, at, place),
+    }
+}
+
+// A row of section 11.1.2, the requirement and the face amount. The figure is the requirement times its factor; where 0 is given, it meets
+// the accuracy rule with one cent.
+#[no_mangle]
+pub extern "C" fn tsav_fluctuation(
+    row: u64,
+    requirement: u64,
+    face: u64,
+    figure: &mut [u64; 1],
+    place: &mut [u64; 2],
+) -> u64
+    ensures { λ r. ⌜ Leaves (fluctuationCall row requirement face) r (now (figure .entry)) (now (place .entry)) (now (figure .exit)) (now (place .exit)) ⌝ }
+    ensures { λ r. ⌜ (r ≡ 0 → FluctuationDemand row requirement face (accepted (now (figure .exit)))) ⌝ }
+{
+    let answer = fluctuation::fluctuation_call(row, requirement, face);
+    match answer {
+        FluctuationAnswer::Accepted(result) => {
+            *figure = [result];
+            ACCEPTED
+        }
+        FluctuationAnswer::Refused(number, at) => refuse(number, at, place),
     }
 }
 

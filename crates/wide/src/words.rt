@@ -51,6 +51,20 @@ pub fn add(a: Wide, b: Wide) -> Wide
     }
 }
 
+// n times m, where that fits two words.
+pub fn times(n: Wide, m: u64) -> Wide
+    requires { ⌜ value n * m < 2 ^ 128 ⌝ }
+    ensures { λ r. ⌜ value r ≡ value n * m ⌝ }
+{
+    let high = n.high;
+    let lower = product(n.low, m);
+    let carry = lower.high;
+    Wide {
+        high: high * m + carry,
+        low: lower.low,
+    }
+}
+
 // A quarter of n, rounded up.
 pub fn quarter_up(n: Wide) -> Wide
     ensures { λ r. ⌜ value r ≡ (value n + 3) / 4 ⌝ }

@@ -1,9 +1,11 @@
-//! `differential_run SEED COUNT [FIRST]`: the library's three calls, through the wrapper, against the reference's, on
-//! COUNT generated sheets, block calls and operational calls from number FIRST on (0 where it isn't given).
+//! `differential_run SEED COUNT [FIRST]`: the library's four calls, through the wrapper, against the reference's, on
+//! COUNT generated sheets, block calls, operational calls and fluctuation calls from number FIRST on (0 where it isn't
+//! given).
 //!
 //! Compared are the answers and every byte of the lent report, and some bytes on both sides of it, which nobody may
-//! write. On each accepted sheet the library's report must also satisfy demand 3. The same words give the same cases and
-//! the same output, however many processors share them.
+//! write. On each accepted sheet the library's report must also satisfy demand 3, and each result of a fluctuation call
+//! document 02's rule of one cent. The same words give the same cases and the same output, however many processors share
+//! them.
 
 use std::env;
 use std::fmt::{Debug, Write};
@@ -12,7 +14,7 @@ use std::thread;
 
 use reference::generate;
 
-const KINDS: [&str; 3] = ["sheet", "block call", "operational call"];
+const KINDS: [&str; 4] = ["sheet", "block call", "operational call", "fluctuation call"];
 
 fn main() -> ExitCode {
     let words: Option<Vec<u64>> = env::args().skip(1).map(|word| word.parse().ok()).collect();
@@ -51,6 +53,7 @@ fn compare(seed: u64, count: u64, first: u64) -> Found {
             found.add(index, 0, sheet_case(seed, index));
             found.add(index, 1, block_case(seed, index));
             found.add(index, 2, operational_case(seed, index));
+            found.add(index, 3, fluctuation_case(seed, index));
         }
         found
     };
@@ -104,6 +107,8 @@ impl Found {
         }
         let reports = self.answers[0][0];
         writeln!(text, "demand 3: {reports} reports, {} of them not decided by the bracket", self.undecided).unwrap();
+        let results = self.answers[3][0];
+        writeln!(text, "one cent: {results} results of fluctuation calls, all decided by whole numbers").unwrap();
         if let Some((index, kind, about)) = &self.first {
             writeln!(text, "first difference: {} {index} of seed {seed}", KINDS[*kind]).unwrap();
             writeln!(text, "{about}again: tests/differential {seed} 1 {index}").unwrap();
@@ -177,4 +182,16 @@ fn operational_case(seed: u64, index: u64) -> Result<Agreed, String> {
     let ours = tsav::operational(&volumes, &general);
     let theirs = reference::operational_call(&volumes, &general);
     agree(|| format!("volumes: {volumes:?}\ngeneral: {general:?}\n"), ours, theirs)
+}
+
+fn fluctuation_case(seed: u64, index: u64) -> Result<Agreed, String> {
+    let [row, requirement, face] = generate::fluctuation_numbers(seed, index);
+    let ours = tsav::fluctuation(row, requirement, face);
+    let case = || format!("row: {row}\nrequirement: {requirement}\nface: {face}\n");
+    let agreed = agree(case, ours, reference::fluctuation_call(row, requirement, face))?;
+    if let Ok(result) = ours {
+        let judged = reference::judge_fluctuation(row, requirement, face, result);
+        judged.map_err(|why| format!("{}one cent: {why}\n", case()))?;
+    }
+    Ok(agreed)
 }

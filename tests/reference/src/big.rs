@@ -1,4 +1,4 @@
-//! Whole numbers of up to 512 bits, for the roots of demand 3. A result that doesn't fit stops the run.
+//! Whole numbers of up to 512 bits, for the roots of demand 3 and the squares of #104. A result that doesn't fit stops the run.
 
 use std::cmp::Ordering;
 use std::ops::{Add, Mul, Sub};

@@ -1,7 +1,9 @@
-//! A seeded generator of sheets, sound and damaged, and of rooms for their reports; and of numbers for the other two calls.
+//! A seeded generator of sheets, sound and damaged, and of rooms for their reports; and of numbers for the other three
+//! calls.
 //! The same seed and index always give the same case.
 
 use crate::block::{EXPENSES_LT, PC};
+use crate::fluctuation::{row_of, Base};
 use crate::sheet::{last_class, read_sheet, Sheet, CODE, FIELDS, LINE_FEED, SPACES};
 use crate::*;
 
@@ -100,6 +102,67 @@ fn damage_numbers(random: &mut Random, style: u64, list: &mut Vec<u64>, general:
             }
         }
         _ => list.iter_mut().chain(general).for_each(|number| *number = any_size(random)),
+    }
+}
+
+/// Row, B and face amount of fluctuation call `index` of `seed`: sound, with faults, or of any size.
+pub fn fluctuation_numbers(seed: u64, index: u64) -> [u64; 3] {
+    let mut random = Random::new(seed, index);
+    if random.one_in(16) {
+        return std::array::from_fn(|_| any_size(&mut random));
+    }
+    let number = random.from(1, FLUCTUATION_ROWS as u64);
+    let row = row_of(number).unwrap();
+    let base = fluctuation_base(&mut random, row.threshold_in_cents());
+    // The other amount: alike, a part of the base, a multiple of its root in dollars (with which the radicand is a square
+    // where the base is one, and next to a square where it is a neighbour), any.
+    let style = random.below(STYLES + 1);
+    let any = amount(&mut random, style);
+    let other = match random.below(4) {
+        0 => base,
+        1 => part_of(&mut random, base),
+        2 => {
+            let times = [random.below(1_000_000), random.below(40), 20 * random.from(1, 2), 20 * random.below(1_000)];
+            ((base + 1) / 100).isqrt() * random.pick(&times)
+        }
+        _ => any,
+    };
+    let mut numbers = match row.base {
+        Base::Requirement => [number, base, other],
+        Base::Face => [number, other, base],
+    };
+    for _ in 0..random.pick(&[0, 0, 0, 1, 1, 2]) {
+        match random.below(3) {
+            // 18: next to a row, a row in the lowest byte or half word alone, any
+            0 => {
+                let any = random.from(FLUCTUATION_ROWS as u64 + 1, u64::MAX);
+                let outside =
+                    [0, 0, FLUCTUATION_ROWS as u64 + 1, 9, (1 << 8) + number, (1 << 32) + number, u64::MAX, any];
+                numbers[0] = random.pick(&outside);
+            }
+            // 7, of B, and of the face
+            at => numbers[at as usize] = too_large(&mut random),
+        }
+    }
+    numbers
+}
+
+/// A base: about the threshold, just above it, a square in dollars, of which the root is whole, and its neighbours, the
+/// largest, any.
+fn fluctuation_base(random: &mut Random, threshold: u64) -> u64 {
+    let style = random.below(STYLES + 1);
+    let any = amount(random, style);
+    let (nearer, farther) = (random.below(1_000), random.from(threshold, LARGEST_AMOUNT));
+    match random.below(8) {
+        0 => threshold + random.pick(&[0, 1, 2]) - 1,
+        1 => threshold + nearer,
+        2 | 3 => {
+            let root = random.from((threshold / 100).isqrt(), (LARGEST_AMOUNT / 100).isqrt());
+            100 * root * root + random.pick(&[0, 1, 2]) - 1
+        }
+        4 => LARGEST_AMOUNT - random.below(3),
+        5 | 6 => farther,
+        _ => any,
     }
 }
 

@@ -1,6 +1,6 @@
-//! The calculator of document 01, with requests #101 and #102 of document 02, in plain Rust with u128: no dependency,
-//! nothing clever, and no code shared with the calculator itself. It is a test oracle: what it answers is compared with
-//! what the calculator answers.
+//! The calculator of document 01, with requests #101, #102 and #104 of document 02, in plain Rust with u128: no
+//! dependency, nothing clever, and no code shared with the calculator itself. It is a test oracle: what it answers is
+//! compared with what the calculator answers.
 //!
 //! Comments in quotes name a section of document 01; a number as #101 is a request of document 02.
 
@@ -11,6 +11,7 @@ mod big;
 mod block;
 mod demand3;
 mod example;
+mod fluctuation;
 pub mod generate;
 mod mortality;
 mod operational;
@@ -19,6 +20,7 @@ mod sheet;
 pub use block::block_call;
 pub use demand3::{demand3, judge};
 pub use example::{example, EXAMPLE_FIGURES, WHOLE_RUN, WHOLE_RUN_REPORT};
+pub use fluctuation::{fluctuation_call, fluctuation_cases, judge_fluctuation, FluctuationCase, FLUCTUATION_ROWS};
 pub use mortality::{aggregate, mortality_credit};
 pub use operational::operational_call;
 pub use sheet::{all_lines, report_length, report_line, sheet_call, sheet_line};

@@ -1,6 +1,6 @@
 //! Generated sheets.
 
-use reference::generate::{accepted, block_numbers, case, operational_numbers};
+use reference::generate::{accepted, block_numbers, case, fluctuation_numbers, operational_numbers};
 use reference::*;
 use std::collections::{BTreeMap, BTreeSet};
 
@@ -68,15 +68,20 @@ fn cases_reach_every_row() {
     assert!(counts.values().all(|&count| count >= 100), "{counts:?}");
 }
 
-/// The numbers of the other two calls reach every row that these can give, and 7 at positions of every size.
+/// The numbers of the other three calls reach every row that these can give, and 7 at positions of every size.
 #[test]
 fn numbers_reach_every_row() {
     let mut positions = BTreeSet::new();
-    let mut counts = [BTreeMap::new(), BTreeMap::new()];
+    let mut counts = [BTreeMap::new(), BTreeMap::new(), BTreeMap::new()];
     for index in 0..20_000 {
         let (volumes, general) = operational_numbers(5, index);
-        let operational = operational_call(&volumes, &general).map(|_| ());
-        for (call, answer) in [block_call(&block_numbers(5, index)).map(|_| ()), operational].iter().enumerate() {
+        let [row, b, face] = fluctuation_numbers(5, index);
+        let answers = [
+            block_call(&block_numbers(5, index)).map(|_| ()),
+            operational_call(&volumes, &general).map(|_| ()),
+            fluctuation_call(row, b, face).map(|_| ()),
+        ];
+        for (call, answer) in answers.iter().enumerate() {
             let number = answer.map_or_else(|refusal| refusal.number, |_| 0);
             *counts[call].entry(number).or_insert(0) += 1;
             if let Err(Refusal { number: 7, place: Place::Position(position) }) = answer {
@@ -84,11 +89,60 @@ fn numbers_reach_every_row() {
             }
         }
     }
-    println!("answers of the block call and of the operational call, 0 for accepted: {counts:?}");
-    assert!(counts[0].keys().eq(&[0, 7, 8, 9]) && counts[1].keys().eq(&[0, 7, 15]));
+    println!("answers of the block, the operational and the fluctuation call, 0 for accepted: {counts:?}");
+    assert!(counts[0].keys().eq(&[0, 7, 8, 9]) && counts[1].keys().eq(&[0, 7, 15]) && counts[2].keys().eq(&[0, 7, 18]));
     assert!(counts.iter().flat_map(BTreeMap::values).all(|&count| count >= 100), "{counts:?}");
     assert!((0..BLOCK_NUMBERS).all(|position| positions.contains(&(0, position))));
+    assert!((0..2).all(|position| positions.contains(&(2, position))));
     assert!(positions.len() >= BLOCK_NUMBERS + 200, "{positions:?}");
+}
+
+/// Fluctuation calls of every kind stand, in each row: at the threshold and next to it, far above it, a base whose root is
+/// whole, the largest; refused at either amount, at both, and for the row beside them.
+#[test]
+fn fluctuations_of_every_kind() {
+    // In dollars.
+    let thresholds = [42_000_000, 75_000_000, 6_000_000, 3_000_000, 5_000_000, 3_000_000, 300_000_000];
+    let mut counts: BTreeMap<(u64, &str), u64> = BTreeMap::new();
+    for index in 0..60_000 {
+        let [row, b, face] = fluctuation_numbers(10, index);
+        let base = if row == 7 { face } else { b };
+        let (over_b, over_face) = (b > LARGEST_AMOUNT, face > LARGEST_AMOUNT);
+        let answer = fluctuation_call(row, b, face);
+        if let Ok(result) = answer {
+            assert_eq!(judge_fluctuation(row, b, face, result), Ok(()), "call {index}");
+        }
+        let mut kinds = vec![];
+        if (1..=FLUCTUATION_ROWS as u64).contains(&row) {
+            let threshold = 100 * thresholds[row as usize - 1];
+            let dollars = base / 100;
+            kinds.extend([
+                ("a cent below", base == threshold - 1 && answer.is_ok()),
+                ("at it", base == threshold && answer.is_ok()),
+                ("a cent above", base == threshold + 1 && answer.is_ok()),
+                ("twice and more", base > 2 * threshold && answer.is_ok()),
+                ("a whole root", base > threshold && base == 100 * dollars.isqrt().pow(2) && answer.is_ok()),
+                ("the largest base", base == LARGEST_AMOUNT && answer.is_ok()),
+                ("no requirement", b == 0 && answer.is_ok()),
+                ("7 of B alone", over_b && !over_face),
+                ("7 of the face alone", !over_b && over_face),
+                ("7 of both", over_b && over_face),
+            ]);
+        } else {
+            kinds.extend([
+                ("18 alone", !over_b && !over_face),
+                ("18 beside 7 of B", over_b && !over_face),
+                ("18 beside 7 of the face", !over_b && over_face),
+            ]);
+        }
+        for (kind, holds) in kinds {
+            let row = if row > FLUCTUATION_ROWS as u64 { 0 } else { row };
+            *counts.entry((row, kind)).or_default() += u64::from(holds);
+        }
+    }
+    println!("fluctuation calls of 60,000, row 0 for none: {counts:?}");
+    assert_eq!(counts.len(), 10 * FLUCTUATION_ROWS + 3);
+    assert!(counts.values().all(|&count| count >= 10), "{counts:?}");
 }
 
 /// The same seed and index give the same case.
@@ -98,6 +152,7 @@ fn cases_repeat() {
         assert_eq!(case(6, index), case(6, index));
         assert_eq!(block_numbers(6, index), block_numbers(6, index));
         assert_eq!(operational_numbers(6, index), operational_numbers(6, index));
+        assert_eq!(fluctuation_numbers(6, index), fluctuation_numbers(6, index));
     }
     assert!((0..200).any(|index| case(6, index) != case(7, index)));
 }

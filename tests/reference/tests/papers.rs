@@ -278,6 +278,127 @@ fn credits_of_no_block() {
     assert_eq!(with(&above), Err(Refusal::nowhere(17)));
 }
 
+/// #104: the figures that it prints, in dollars there.
+#[test]
+fn fluctuation_factors() {
+    let dollars = |amount: u64| 100 * amount;
+    assert_eq!(fluctuation_call(2, dollars(100_000_000), 0), Ok(dollars(93_300_000)));
+    assert_eq!(fluctuation_call(7, dollars(1_000_000), dollars(400_000_000)), Ok(dollars(886_100)));
+}
+
+/// #104: the thresholds in dollars, as listed.
+const THRESHOLDS: [u64; FLUCTUATION_ROWS] =
+    [42_000_000, 75_000_000, 6_000_000, 3_000_000, 5_000_000, 3_000_000, 300_000_000];
+
+/// The largest requirement of row 7 and the base as its face; the base as the requirement of another.
+fn at_base(row: u64, base: u64) -> Result<u64, Refusal> {
+    match row {
+        7 => fluctuation_call(row, LARGEST_AMOUNT, base),
+        _ => fluctuation_call(row, base, 0),
+    }
+}
+
+/// #104: each row up to its threshold, a cent above it and at the largest amount, where the root of the base in dollars is
+/// all but a million: B × (first + second ÷ 1,000,000), and what is left out is less than a cent.
+#[test]
+fn thresholds_of_the_rows() {
+    let above = [4_199_951_999, 7_499_890_000, 599_792_548, 299_924_559, 499_808_955, 299_893_438, 99_997_506_628_680];
+    let largest = [
+        90_064_800_000_000,
+        50_433_000_000_000,
+        70_073_400_000_000,
+        30_121_200_000_000,
+        20_178_800_000_000,
+        70_051_900_000_000,
+        16_472_200_000_000,
+    ];
+    for (row, threshold) in (1..).zip(THRESHOLDS) {
+        let cents = 100 * threshold;
+        for base in [0, 1, cents - 1, cents] {
+            let requirement = if row == 7 { LARGEST_AMOUNT } else { base };
+            assert_eq!(at_base(row, base), Ok(requirement), "row {row} at {base}");
+        }
+        assert_eq!(at_base(row, cents + 1), Ok(above[row as usize - 1]), "row {row}");
+        assert_eq!(at_base(row, LARGEST_AMOUNT), Ok(largest[row as usize - 1]), "row {row}");
+    }
+}
+
+/// #104: the requirement is the base of rows 1 to 6, and the face that of critical illness.
+#[test]
+fn bases_of_the_rows() {
+    for (row, threshold) in (1..).zip(THRESHOLDS) {
+        let (least, most) = (100 * threshold, LARGEST_AMOUNT);
+        if row < 7 {
+            for face in [1, least, least + 1, 30_000_000_001, most] {
+                assert_eq!(fluctuation_call(row, least, face), Ok(least));
+                assert_eq!(fluctuation_call(row, 2 * least, face), fluctuation_call(row, 2 * least, 0));
+            }
+        } else {
+            assert_eq!(fluctuation_call(row, most, least), Ok(most));
+            // A requirement of a cent, and one of nothing, which has no rule of its own.
+            assert_eq!(fluctuation_call(row, 1, most), Ok(1));
+            assert_eq!(fluctuation_call(row, 0, most), Ok(0));
+            // 0.15 × 6 + 6 × 14,722 ÷ a little less than 1,000,000 is below a cent, and of 7 above it.
+            assert_eq!(fluctuation_call(row, 6, most), Ok(1));
+            assert_eq!(fluctuation_call(row, 7, most), Ok(2));
+        }
+    }
+}
+
+/// #104: the refusals, alone and beside one another.
+#[test]
+fn refusals_of_the_fluctuation_call() {
+    let (over, most, no_row) = (LARGEST_AMOUNT + 1, LARGEST_AMOUNT, Err(Refusal::nowhere(18)));
+    for row in [0, 8, 9, 257, (1 << 32) + 1, u64::MAX] {
+        for (b, face) in [(0, 0), (most, most), (over, 0), (0, over), (over, over), (u64::MAX, u64::MAX)] {
+            assert_eq!(fluctuation_call(row, b, face), no_row, "row {row}");
+        }
+    }
+    for row in 1..=FLUCTUATION_ROWS as u64 {
+        assert!(fluctuation_call(row, most, most).is_ok());
+        for high in [over, u64::MAX] {
+            assert_eq!(fluctuation_call(row, high, most), Err(Refusal::at_position(7, 0)));
+            assert_eq!(fluctuation_call(row, most, high), Err(Refusal::at_position(7, 1)));
+            assert_eq!(fluctuation_call(row, high, high), Err(Refusal::at_position(7, 0)));
+        }
+    }
+}
+
+/// #104: the stored calls, which say by themselves what is answered; each row, each refusal and each place is among them.
+#[test]
+fn stored_fluctuation_calls() {
+    let cases = fluctuation_cases();
+    assert_eq!(cases.len(), 157);
+    for &([row, b, face], answer) in &cases {
+        assert_eq!(fluctuation_call(row, b, face), answer, "{row} {b} {face}");
+        if let Ok(result) = answer {
+            assert_eq!(judge_fluctuation(row, b, face, result), Ok(()));
+        }
+    }
+    let distinct: std::collections::BTreeSet<_> = cases.iter().map(|(call, _)| call).collect();
+    assert_eq!(distinct.len(), cases.len());
+    for row in 1..=FLUCTUATION_ROWS as u64 {
+        assert!(cases.iter().filter(|(call, answer)| call[0] == row && answer.is_ok()).count() >= 7);
+    }
+    for refusal in [Refusal::nowhere(18), Refusal::at_position(7, 0), Refusal::at_position(7, 1)] {
+        assert!(cases.iter().filter(|(_, answer)| *answer == Err(refusal)).count() >= 5);
+    }
+}
+
+/// #104's accuracy rule: a result that is a cent off breaks it.
+#[test]
+fn accuracy_of_a_fluctuation() {
+    for ([row, b, face], answer) in fluctuation_cases() {
+        let Ok(result) = answer else { continue };
+        assert!(judge_fluctuation(row, b, face, result + 1).is_err(), "{row} {b} {face}");
+        if result > 0 {
+            let why = judge_fluctuation(row, b, face, result - 1).unwrap_err();
+            assert!(why.contains("below the exact one"), "{row} {b} {face}: {why}");
+        }
+    }
+    assert!(judge_fluctuation(8, 0, 0, 0).is_err());
+}
+
 /// "What is turned away": the block call's order and places.
 #[test]
 fn refusals_of_the_block_call() {

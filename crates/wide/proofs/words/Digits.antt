@@ -52,6 +52,14 @@ sum-high P ah al bh bl k = lt-of-mul-lt-mul-right P (omega arith)
 pub sum-carry : (P ah al bh bl : ℕ) → P ≤ al + bl → ah * P + al + (bh * P + bl) < P * P → ah + bh + 1 < P
 sum-carry P ah al bh bl h k = lt-of-mul-lt-mul-right P (omega arith)
 
+-- a number of two digits times m, where the product has two, by the product of its lower digit
+module _ (P h l m ph pl : ℕ) (lower : ph * P + pl ≡ l * m) where
+  pub times-high : (h * P + l) * m < P * P → h * m + ph < P
+  times-high k = lt-of-mul-lt-mul-right P (omega arith)
+
+  pub times-is : (h * m + ph) * P + pl ≡ (h * P + l) * m
+  times-is = omega arith
+
 -- of two numbers of two digits the smaller has no larger upper digit
 pub high-le : (P ah al bh bl : ℕ) → al < P → bh * P + bl ≤ ah * P + al → bh ≤ ah
 high-le P ah al bh bl h k =
