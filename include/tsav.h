@@ -40,7 +40,9 @@
      15  nowhere             the list of volumes is longer than TSAV_MOST_VOLUMES, or no multiple of TSAV_TERRITORY_NUMBERS
      16  nowhere             the credit of a MOR line is above level and trend of its block's mortality
      17  nowhere             a dividend credit (CRD of a block) is above its block's K, or the block has no RSK or OTH line
-     18  nowhere             the row of a fluctuation factor is outside 1 to 7 */
+     18  nowhere             the row of a fluctuation factor is outside 1 to 7
+     19  line                the line doesn't come after the one before it: lines ascend by code, in the order RSK, OTH, MOR,
+                             VOL, GEN, CRD, then by block, then by class */
 
 #ifndef TSAV_H
 #define TSAV_H
@@ -133,14 +135,14 @@ uint64_t tsav_fluctuation(uint64_t row, uint64_t requirement, uint64_t face, uin
 
 /* The sheet call: sections 11.1.1, 11.2 and 8.2 for every block and territory of a sheet, and section 11.3, the buffer.
 
-   sheet: bytes bytes, a line for each TSAV_SHEET_LINE.
+   sheet: bytes bytes, a line for each TSAV_SHEET_LINE, in the order of refusal 19.
    report: room bytes, of any content.
 
    Accepted, written holds the report's length, 29 * (5 * n + 3) for n blocks; so many bytes of report, from its start, are
    the report, and those behind them are untouched.
 
-   Refusals, tested in this order: 1, 2; then the first bad line, in it 3, 4, 5, 6, 8, 9, 10, 11; then 12, 16, 17, 13,
-   14. */
+   Refusals, tested in this order: 1, 2; then the first bad line, in it 3, 4, 5, 6, 8, 9, 10, 11, 19; then 12, 16, 17,
+   13, 14. */
 uint64_t tsav_sheet(const uint8_t *sheet, size_t bytes, uint8_t *report, size_t room, uint64_t written[1],
                     uint64_t place[2]);
 

@@ -85,12 +85,15 @@ class Calls(unittest.TestCase):
         self.refused(3, 1, None, tsav.sheet, bytes(tsav.SHEET_LINE))
         self.refused(11, 14, None, tsav.sheet, SHEET + SHEET[: tsav.SHEET_LINE])
         self.refused(12, None, None, tsav.sheet, b"")
-        self.refused(16, None, None, tsav.sheet, SHEET + b"MOR  2  1              1              1\n")
+        # Behind the RSK and OTH lines a MOR line is in order, and behind all lines it isn't.
+        above, behind = b"MOR  2  1              1              1\n", 10 * tsav.SHEET_LINE
+        self.refused(16, None, None, tsav.sheet, SHEET[:behind] + above + SHEET[behind:])
+        self.refused(19, 14, None, tsav.sheet, SHEET + above)
         self.refused(17, None, None, tsav.sheet, SHEET + b"CRD 17  1              0              0\n")
 
     def test_the_longest_report(self):
-        lines = [b"GEN  0  4          10000              0\n"]
-        lines += [b"OTH %2d  1              1              0\n" % (block + 1) for block in range(tsav.MOST_BLOCKS)]
+        lines = [b"OTH %2d  1              1              0\n" % (block + 1) for block in range(tsav.MOST_BLOCKS)]
+        lines += [b"GEN  0  4          10000              0\n"]
         self.assertEqual(len(tsav.sheet(b"".join(lines))), tsav.LONGEST_REPORT)
 
     def test_what_is_no_amount(self):

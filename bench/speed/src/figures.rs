@@ -2,8 +2,8 @@
 //! be learnt by heart.
 
 use reference::{
-    all_lines, sheet_line, BLOCK_NUMBERS, CREDITS, EXPENSES, FLUCTUATION_ROWS, LARGEST_AMOUNT, LARGEST_SCALAR, RISKS,
-    SCALAR,
+    all_lines, sheet_line, BLOCK_NUMBERS, CREDITS, EXPENSES, FLUCTUATION_ROWS, LARGEST_AMOUNT, LARGEST_SCALAR,
+    MOST_BLOCKS, RISKS, SCALAR,
 };
 
 /// Code, block and class of a line.
@@ -65,28 +65,29 @@ impl Draws {
 
     /// A sheet that is accepted, of these lines, among which RSK 1 of a block stands before MOR, and OTH 3 before CRD.
     pub fn sheet(&mut self, lines: &[Line], size: Size) -> Vec<u8> {
-        let (mut mortality_lt, mut market) = (0, 0);
+        // Of each block.
+        let (mut mortality_lt, mut market) = ([0; MOST_BLOCKS + 1], [0; MOST_BLOCKS + 1]);
         let line = |&(code, block, class): &Line| {
-            let amount = self.amount(size);
+            let (amount, at) = (self.amount(size), block as usize);
             let (first, second) = match (code, class) {
                 ("GEN", SCALAR) => (1 + self.below(LARGEST_SCALAR), 0),
                 // The credits are within what there is, which is at least RO.
                 ("GEN", CREDITS) => (self.below(1_000), 0),
                 ("CRD", _) if block == 0 => (self.below(1_000), 0),
                 // A block's K isn't below its requirement for market.
-                ("CRD", _) => (self.part(market / 2), 0),
+                ("CRD", _) => (self.part(market[at] / 2), 0),
                 ("OTH", _) => {
-                    market = amount;
+                    market[at] = amount;
                     (amount, 0)
                 }
                 ("RSK", EXPENSES) | ("GEN", _) => (amount, 0),
                 ("RSK", 1) => {
-                    mortality_lt = self.part(amount);
-                    (amount, mortality_lt)
+                    mortality_lt[at] = self.part(amount);
+                    (amount, mortality_lt[at])
                 }
                 ("RSK", _) => (amount, self.part(amount)),
                 // The credit is below twice T.
-                ("MOR", _) => (amount, self.part(mortality_lt / 2)),
+                ("MOR", _) => (amount, self.part(mortality_lt[at] / 2)),
                 _ => (amount, self.amount(size)),
             };
             sheet_line(code, block, class, first, second)

@@ -1,6 +1,6 @@
-//! The calculator of document 01, with requests #101, #102 and #104 of document 02, as a good programmer writes it with u128:
-//! no allocation, every figure worked out once, and everything tested that the papers have tested. It is here for its speed;
-//! tests/reference, written to be plain, is the independent calculation.
+//! The calculator of document 01, with requests #101, #102, #104 and #105 of document 02, as a good programmer writes it with
+//! u128: no allocation, every figure worked out once, and everything tested that the papers have tested. It is here for its
+//! speed; tests/reference, written to be plain, is the independent calculation.
 //!
 //! The root is left to the caller, and there are three: one binary digit a step with a jump on it, as it is mostly written;
 //! the same without a jump and in words, as ours goes; and Newton's.
@@ -186,6 +186,8 @@ struct Sheet {
     adjustable: u64,
     /// A bit for each class: of RSK, then OTH, then VOL and MOR or CRD, for each block; of GEN and CRD in the last.
     seen: [u32; MOST_BLOCKS + 1],
+    /// What the line before is compared by: its code's place in their order, from 1, its block and its class; 0 before any.
+    last: usize,
 }
 
 /// The sheet call.
@@ -204,6 +206,7 @@ pub fn sheet(bytes: &[u8], report: &mut [u8], root: Root) -> Result<usize, Refus
         dividends: [0; MOST_BLOCKS],
         adjustable: 0,
         seen: [0; MOST_BLOCKS + 1],
+        last: 0,
     };
     for (at, line) in bytes.chunks_exact(LINE_BYTES).enumerate() {
         if let Some(number) = sheet.enter(line.try_into().unwrap()) {
@@ -232,14 +235,14 @@ impl Sheet {
             return Some(3);
         };
         let (block, class) = (block as usize, class as usize);
-        let (blocks, classes, bits_from) = match &line[..3] {
-            b"RSK" => (1..=MOST_BLOCKS, RISKS, 0),
-            b"OTH" => (1..=MOST_BLOCKS, 3, OTHERS_FROM),
-            b"MOR" => (1..=NON_PARTICIPATING, 1, SUMS_FROM),
-            b"VOL" => (1..=MOST_TERRITORIES, VOLUME_CLASSES, VOLUMES_FROM),
-            b"GEN" => (0..=0, GENERAL_CLASSES, 0),
-            b"CRD" if block == 0 => (0..=0, ADJUSTABLE_PRODUCTS, CREDITS_FROM),
-            b"CRD" => (NON_PARTICIPATING + 1..=MOST_BLOCKS, 1, CREDITS_FROM),
+        let (rank, blocks, classes, bits_from) = match &line[..3] {
+            b"RSK" => (1, 1..=MOST_BLOCKS, RISKS, 0),
+            b"OTH" => (2, 1..=MOST_BLOCKS, 3, OTHERS_FROM),
+            b"MOR" => (3, 1..=NON_PARTICIPATING, 1, SUMS_FROM),
+            b"VOL" => (4, 1..=MOST_TERRITORIES, VOLUME_CLASSES, VOLUMES_FROM),
+            b"GEN" => (5, 0..=0, GENERAL_CLASSES, 0),
+            b"CRD" if block == 0 => (6, 0..=0, ADJUSTABLE_PRODUCTS, CREDITS_FROM),
+            b"CRD" => (6, NON_PARTICIPATING + 1..=MOST_BLOCKS, 1, CREDITS_FROM),
             _ => return Some(4),
         };
         if !blocks.contains(&block) {
@@ -256,6 +259,12 @@ impl Sheet {
         if self.seen[row] & bit != 0 {
             return Some(11);
         }
+        // Block and class have two digits.
+        let key = (rank << 16) + (block << 8) + class;
+        if key <= self.last {
+            return Some(19);
+        }
+        self.last = key;
         self.seen[row] |= bit;
         self.store(line[0], row, class - 1, [first, second]);
         None

@@ -59,7 +59,7 @@ pub(crate) fn sheet(answer: u64, place: [u64; 2], bytes: usize) -> Result<(), Er
     let listed = match answer {
         0 => return Ok(()),
         1 | 2 | 12..=14 | 16 | 17 => nowhere(place),
-        3..=6 | 8..=11 => line(place).filter(|line| (1..=bytes / SHEET_LINE).contains(line)).map(Place::Line),
+        3..=6 | 8..=11 | 19 => line(place).filter(|line| (1..=bytes / SHEET_LINE).contains(line)).map(Place::Line),
         _ => None,
     };
     Err(refused(answer, place, listed))
@@ -146,7 +146,7 @@ mod tests {
             [&[], &[], &[7, 8, 9]], // block
             [&[15], &[], &[7]],     // operational
             [&[18], &[], &[7]],     // fluctuation
-            [&[1, 2, 12, 13, 14, 16, 17], &[3, 4, 5, 6, 8, 9, 10, 11], &[]],
+            [&[1, 2, 12, 13, 14, 16, 17], &[3, 4, 5, 6, 8, 9, 10, 11, 19], &[]],
         ];
         for ((name, call), listed) in CALLS.into_iter().zip(listed) {
             for (kind, numbers) in (NOWHERE..).zip(listed) {
@@ -169,6 +169,7 @@ mod tests {
         assert_eq!(fluctuation(7, [POSITION, 1]), refused(7, Place::Position(1)));
         assert_eq!(fluctuation(18, [NOWHERE, 0]), refused(18, Place::Nowhere));
         assert_eq!(sheet(11, [LINE, 501], LONGEST_SHEET), refused(11, Place::Line(501)));
+        assert_eq!(sheet(19, [LINE, 2], 2 * SHEET_LINE), refused(19, Place::Line(2)));
         assert_eq!(sheet(16, [NOWHERE, 0], SHEET_LINE), refused(16, Place::Nowhere));
         assert_eq!(sheet(17, [NOWHERE, 0], SHEET_LINE), refused(17, Place::Nowhere));
         assert_eq!(sheet(1, [NOWHERE, 0], LONGEST_SHEET + 1), refused(1, Place::Nowhere));
@@ -177,7 +178,7 @@ mod tests {
     #[test]
     fn numbers_that_no_refusal_has() {
         // 263 is 7 in its lowest byte.
-        for number in [19, 255, 256, 263, u64::MAX] {
+        for number in [20, 255, 256, 263, u64::MAX] {
             for place in [[NOWHERE, 0], [LINE, 1], [POSITION, 0]] {
                 for (name, call) in CALLS {
                     assert_eq!(call(number, place), broken(number, place), "{name}");
@@ -198,6 +199,7 @@ mod tests {
         assert_eq!(block(7, [LINE, 1]), broken(7, [LINE, 1]));
         assert_eq!(fluctuation(18, [POSITION, 0]), broken(18, [POSITION, 0]));
         assert_eq!(sheet(9, [POSITION, 1], LONGEST_SHEET), broken(9, [POSITION, 1]));
+        assert_eq!(sheet(19, [NOWHERE, 0], LONGEST_SHEET), broken(19, [NOWHERE, 0]));
     }
 
     #[test]

@@ -10,7 +10,7 @@ pub enum Error {
     Contract(Breach),
 }
 
-/// Why and where a call was refused: numbers 1 to 18, as include/tsav.h lists them.
+/// Why and where a call was refused: numbers 1 to 19, as include/tsav.h lists them.
 #[derive(Clone, Copy, Debug, PartialEq, Eq)]
 pub struct Refusal {
     pub number: u8,

@@ -50,7 +50,7 @@ pub const fn report_length(blocks: usize) -> usize {
 }
 
 /// The refusals are numbered from 1 to this.
-pub const LAST_REFUSAL: usize = 18;
+pub const LAST_REFUSAL: usize = 19;
 
 /// A block's figures: I and D in half cents, U, LT and K in cents.
 #[derive(Clone, Copy, Debug, PartialEq, Eq)]

@@ -75,8 +75,11 @@ fn refusals_of_the_sheet_call() {
     assert_eq!(sheet_of(b"x"), refused(2, Place::Nowhere));
     assert_eq!(sheet_of(&[0; LONGEST_SHEET + 1]), refused(1, Place::Nowhere));
     assert_eq!(sheet_of(&[WHOLE_RUN, &WHOLE_RUN[..SHEET_LINE]].concat()), refused(11, Place::Line(14)));
+    // Behind the RSK and OTH lines a MOR line is in order, and behind all lines it isn't.
     let above = b"MOR  2  1              1              1\n";
-    assert_eq!(sheet_of(&[WHOLE_RUN, above].concat()), refused(16, Place::Nowhere));
+    let (before, behind) = WHOLE_RUN.split_at(10 * SHEET_LINE);
+    assert_eq!(sheet_of(&[before, above, behind].concat()), refused(16, Place::Nowhere));
+    assert_eq!(sheet_of(&[WHOLE_RUN, above].concat()), refused(19, Place::Line(14)));
     let no_block = b"CRD 17  1              0              0\n";
     assert_eq!(sheet_of(&[WHOLE_RUN, no_block].concat()), refused(17, Place::Nowhere));
     let mut report = *b"any content";

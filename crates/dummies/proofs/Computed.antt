@@ -16,6 +16,7 @@ use Rattle.sheet_line.specs.Codes.{isCode, codeAmong}
 use Rattle.sheet_line.specs.Line.{spaced, layoutOf, lettered}
 use Rattle.sheet_line.specs.Rules as line
 use Rattle.ledger.specs.Entries.{hasKey, lookup, exists, pairs, blockBy, volumesBy}
+use Rattle.ledger.specs.Order.{keyOf, rule19, rule11}
 use Rattle.ledger.specs.Reading.{onLine, readFrom}
 use Rattle.report.specs.Rows.{itemsFrom}
 use Rattle.judgement.specs.Sheet.{creditOf, afterCredit, blocksTo, sheetOf}
@@ -29,6 +30,7 @@ unfolding
     pick leastFrom ascending digits field digitOrSpace leadingDigits decimal factors sumℤ A U LT Vh y ys Q4 largestOf largest root I a D
     requirement K figuresOf total volume growth operationalNumerator RO sumK available bracket buffer key reportLine
     printRows equalBytes numberIn numberAt isCode codeAmong spaced layoutOf lettered line.outside line.secondBarred line.trendAbove line.scalarOutside
-    line.rule10 line.rule9 line.rule8 line.rule6 line.rule5 line.parseLine hasKey lookup exists pairs blockBy volumesBy onLine readFrom itemsFrom
-    twiceRadicand aggregated credit lowered creditOf afterCredit blocksTo sheetOf anyTo creditAbove sumTo dividendBarred rule13 rule17 rule16 rule12 ruleLines rule2 judgement blockRowsOf rule14 afterJudgement sheetCall areBytes
+    line.rule10 line.rule9 line.rule8 line.rule6 line.rule5 line.parseLine hasKey lookup exists pairs blockBy volumesBy keyOf rule19 rule11 onLine readFrom
+    itemsFrom twiceRadicand aggregated credit lowered creditOf afterCredit blocksTo sheetOf anyTo creditAbove sumTo dividendBarred rule13
+    rule17 rule16 rule12 ruleLines rule2 judgement blockRowsOf rule14 afterJudgement sheetCall areBytes
 computed = refl

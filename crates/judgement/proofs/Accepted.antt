@@ -3,7 +3,7 @@
 use mathlib.Core.Path.{_≡_, refl, sym, _∙_, subst}
 use mathlib.Core.Bool.{true, false}
 use mathlib.Core.List.{List, [], _∷_, _++_, append-nil}
-use Prim.Native.Nat.{ℕ, zero, suc, _+_, _*_, _≤_}
+use Prim.Native.Nat.{ℕ, zero, suc, _+_, _*_, _%_, _≤_}
 use native.Mathlib.Decide.{decLe}
 use native.Mathlib.Omega.{arith}
 use lib.Dec.{eqb, ltb}
@@ -27,6 +27,7 @@ use Rattle.guideline.specs.Operational.{OperationalAmounts}
 use Rattle.guideline.specs.Buffer.{sumK, free, available, AcceptedSheet, mostAvailable}
 use Rattle.guideline.proofs.Figures.{accepted-of}
 use Rattle.guideline.proofs.Totals.{sum-more, available-fits}
+use Rattle.sheet_line.specs.Line.{sheetLineBytes}
 use Rattle.sheet_line.specs.Codes.{Key, scalarClass}
 use Rattle.sheet_line.specs.declared.Code.{Code}
 use Rattle.sheet_line.specs.declared.Code.the-variants.{Rsk, Oth, Mor, Vol, Gen, Crd}
@@ -158,6 +159,7 @@ exists-within (l ∷ es) all b =
 
 -- what every rule leaves
 pub record Passed (s : List ℕ) (es : List Entry) : Type 0 where
+  pub whole : length s % sheetLineBytes ≡ 0
   pub read : reading s ≡ complete es
   pub lines : Each AcceptedLine es
   pub scalar : hasLine es Gen 0 scalarClass ≡ true
@@ -171,28 +173,28 @@ module _ (s : List ℕ) (P : Judgement → Type 0) (refused : (n : ℕ) (p : Pla
   nowhere : (n : ℕ) → eqb n 0 ≡ false → eqb n 14 ≡ false → ltb n 100 ≡ true → P (turnedAway n Nowhere)
   nowhere n z w h = refused n Nowhere (judging n z w h) (omega arith)
 
-  after-12 : (es : List Entry) → reading s ≡ complete es → Each AcceptedLine es → P (rule12 es)
+  after-12 : length s % sheetLineBytes ≡ 0 → (es : List Entry) → reading s ≡ complete es → Each AcceptedLine es → P (rule12 es)
   unfolding rule12 rule16 rule17 rule13
-  after-12 es r all =
+  after-12 w es r all =
       by-test P _ _ _
       (λ t.
       by-test P _ _ _ (λ c. nowhere 16 refl refl refl) λ c.
       by-test P _ _ _ (λ d. nowhere 17 refl refl refl) λ d.
       by-test P _ _ _ (λ u. nowhere 13 refl refl refl) λ u.
-      passed es (record { read = r; lines = all; scalar = t; covered = all-covered es all c; dividends = d; credits = ltb-false _ _ u }))
+      passed es (record { whole = w; read = r; lines = all; scalar = t; covered = all-covered es all c; dividends = d; credits = ltb-false _ _ u }))
       (λ t. nowhere 12 refl refl refl)
 
-  after-lines : length s ≤ longestSheet → (o : Reading) → reading s ≡ o → P (ruleLines o)
+  after-lines : length s ≤ longestSheet → length s % sheetLineBytes ≡ 0 → (o : Reading) → reading s ≡ o → P (ruleLines o)
   unfolding ruleLines
-  after-lines h (stopped es n i) e = let w = reading-stopped s es n i e in refused n (Line i) (w .0) (omega (arith, w .1))
-  after-lines h (complete es) e = after-12 es e (rw e at (all-read s))
+  after-lines h m (stopped es n i) e = let w = reading-stopped s es n i e in refused n (Line i) (w .0) (omega (arith, w .1))
+  after-lines h m (complete es) e = after-12 m es e (rw e at (all-read s))
 
   -- what holds of each refusal by a rule and of each sheet that every rule lets pass holds of the judgement
   pub by-rules : P (judgement s)
   unfolding judgement rule2
   by-rules =
       by-test P _ _ _ (λ t. nowhere 1 refl refl refl) λ t.
-      by-test P _ _ _ (λ u. after-lines (ltb-false _ _ t) (reading s) refl) (λ u. nowhere 2 refl refl refl)
+      by-test P _ _ _ (λ u. after-lines (ltb-false _ _ t) (eqb-true _ _ u) (reading s) refl) (λ u. nowhere 2 refl refl refl)
 
 module _ (s : List ℕ) where
   unfoldable Gives : Judgement → Type 0

@@ -1,5 +1,6 @@
 -- A sheet judged by every rule but 14, after document 01, 'What is turned away': 'Order: 1, 2; then the first bad line, in it 3, 4, 5, 6, 8, 9,
--- 10, 11; then 12, 13', and document 02's 16, 'after 12 and before 13', and 17, 'after 16 and before 13'. Each rule ends in the next one. Assumes nothing.
+-- 10, 11; then 12, 13', and document 02's 19 in a line, 'tested after 11', 16, 'after 12 and before 13', and 17, 'after 16 and before 13'. Each rule
+-- ends in the next one. Assumes nothing.
 use mathlib.Core.Bool.{Bool}
 use mathlib.Core.List.{List}
 use Prim.Native.Nat.{ℕ, _*_, _%_}

@@ -29,7 +29,7 @@ ranked-rank Gen = refl
 ranked-rank Crd = refl
 
 module _ (k : Code) (b c : ℕ) (e : Entry) where
-  rank-one : rank k ≡ rank (e .code) → k ≡ e .code
+  pub rank-one : rank k ≡ rank (e .code) → k ≡ e .code
   rank-one q = sym (ranked-rank k) ∙ ap ranked q ∙ ranked-rank (e .code)
 
   pub same-key : hasKey k b c e ≡ true → SameKey k b c e
@@ -74,6 +74,9 @@ module _ (k : Code) (b c : ℕ) where
   nowhere [] = λ h d i l s. absurd (omega arith)
   nowhere (e ∷ es) = by-test (λ m. ltb 0 m ≡ false → Nowhere (e ∷ es)) _ _ _ (λ t h. never (cc)) (λ t h. nor-before e es t (nowhere es h))
 
+pub own-key : (e : Entry) → SameKey (e .code) (e .block) (e .class) e
+own-key e = record { code = refl; block = refl; class = refl }
+
 turned : (e f : Entry) → SameKey (e .code) (e .block) (e .class) f → SameKey (f .code) (f .block) (f .class) e
 turned e f s = record { code = sym (s .code); block = sym (s .block); class = sym (s .class) }
 
@@ -89,7 +92,7 @@ found : (es : List Entry) → New es → (d : Entry) (i : ℕ) → i < length es
     → let e = getD es i d in lookup f es (e .code) (e .block) (e .class) ≡ f e
 unfolding lookup
 found [] n d i h f = absurd (omega arith)
-found (e ∷ es) n d zero h f = if-true _ (has-key _ _ _ e (record { code = refl; block = refl; class = refl }))
+found (e ∷ es) n d zero h f = if-true _ (has-key _ _ _ e (own-key e))
 found (e ∷ es) n d (suc i) h f =
     if-false _ (no-key _ _ _ e (λ s. nowhere _ _ _ es (n .0) d i (omega arith) (turned _ _ s))) ∙ found es (n .1) d i (omega arith) f
 

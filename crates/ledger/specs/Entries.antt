@@ -13,7 +13,7 @@ use Rattle.sheet_line.specs.declared.Code.{Code}
 use Rattle.sheet_line.specs.declared.Code.the-variants.{Rsk, Oth, Mor, Vol, Gen, Crd}
 use Rattle.sheet_line.specs.declared.Entry.{Entry}
 
--- a code's place in the order of codes
+-- a code's place in the order of codes, 'RSK, OTH, MOR, VOL, GEN, CRD' (document 02, #105)
 abbrev pub rank : Code → ℕ
 rank Rsk = 0
 rank Oth = 1
@@ -61,6 +61,12 @@ pub record DistinctKeys (es : List Entry) : Type 0 where
   -- what is looked up by a line's code, block and class is said of that line
   pub found : (d : Entry) (i : ℕ) → i < length es → (f : Entry → ℕ)
       → let e = getD es i d in lookup f es (e .code) (e .block) (e .class) ≡ f e
+
+-- two sheets' lines with the same figures: each line of the one is a line of the other, with the same amounts
+pub record SameFigures (es fs : List Entry) : Type 0 where
+  pub line : (k : Code) (b c : ℕ) → hasLine es k b c ≡ hasLine fs k b c
+  pub first : (k : Code) (b c : ℕ) → lookup firstOf es k b c ≡ lookup firstOf fs k b c
+  pub second : (k : Code) (b c : ℕ) → lookup secondOf es k b c ≡ lookup secondOf fs k b c
 
 -- the codes whose lines make a block exist
 abbrev pub ofBlock : Code → Bool

@@ -1,18 +1,20 @@
--- The lines of a sheet read one after the other, each completely: 'the first bad line, in it 3, 4, 5, 6, 8, 9, 10, 11'. Lines count
--- from 1. A sheet has as many lines as a line's bytes go into its length; rules 1 and 2 are not tested here. Assumes nothing.
+-- The lines of a sheet read one after the other, each completely: 'the first bad line, in it 3, 4, 5, 6, 8, 9, 10, 11', and 19 after 11 (document
+-- 02, #105). Lines count from 1. A sheet has as many lines as a line's bytes go into its length; rules 1 and 2 are not tested here. Assumes
+-- nothing.
 use Prim.Native.Nat.{ℕ, zero, suc, _+_, _/_}
-use mathlib.Core.List.{List, [], _∷_}
+use mathlib.Core.Bool.{Bool}
+use mathlib.Core.List.{List, [], _∷_, _++_}
 use lib.ListN.{length, take, drop}
-use Rattle.search.specs.Pick.{pick}
 use Rattle.refusal.specs.Outcome.{Outcome}
 use Rattle.refusal.specs.Outcome.Outcome.{accepted, refused}
 use Rattle.refusal.specs.declared.Place.the-variants as place
-use Rattle.sheet_line.specs.Line.{sheetLineBytes}
+use Rattle.sheet_line.specs.Line.{sheetLineBytes, printLine}
 use Rattle.sheet_line.specs.Rules.{parseLine}
 use Rattle.sheet_line.specs.declared.Entry.{Entry}
 use Rattle.sheet_line.specs.declared.Line.{Line}
 use Rattle.sheet_line.specs.declared.Line.the-variants.{Good, Refused}
 use Rattle.ledger.specs.Entries.{hasLine}
+use Rattle.ledger.specs.Order.{lastKey, admitted}
 use Rattle.ledger.specs.declared.Answer.{Answer}
 use Rattle.ledger.specs.declared.Answer.the-variants as answer
 
@@ -23,19 +25,32 @@ pub data Reading : Type 0 where
   -- the entries before the first bad line, the rule that turns it away, and its number
   stopped : List Entry → ℕ → ℕ → Reading
 
--- line number i after the lines seen; rule 11, 'code, block and class stood before', comes after the line's own rules
+-- whether one of the lines seen has an entry's code, block and class
+abbrev pub stoodIn : List Entry → Entry → Bool
+stoodIn seen e = hasLine seen (e .code) (e .block) (e .class)
+
+-- a line after the lines seen
+abbrev pub lineAfter : List Entry → Line → Line
+lineAfter seen l = admitted (stoodIn seen) (lastKey seen) l
+
+-- line number i after the lines seen
 unfoldable pub onLine : Line → ℕ → List Entry → (List Entry → Reading) → Reading
 onLine (Refused r) i seen next = stopped seen r i
-onLine (Good e) i seen next = pick (hasLine seen (e .code) (e .block) (e .class)) (stopped seen 11 i) (next (e ∷ seen))
+onLine (Good e) i seen next = next (e ∷ seen)
 
 -- n lines from line number i on
 unfoldable pub readFrom : ℕ → ℕ → List ℕ → List Entry → Reading
 readFrom zero i s seen = complete seen
-readFrom (suc n) i s seen = onLine (parseLine (take sheetLineBytes s)) i seen (λ t. readFrom n (i + 1) (drop sheetLineBytes s) t)
+readFrom (suc n) i s seen = onLine (lineAfter seen (parseLine (take sheetLineBytes s))) i seen (λ t. readFrom n (i + 1) (drop sheetLineBytes s) t)
 
 -- all lines of a sheet
 abbrev pub reading : List ℕ → Reading
 reading s = readFrom (length s / sheetLineBytes) 1 s []
+
+-- the bytes of lines, the last line first in the list
+unfoldable pub printLines : List Entry → List ℕ
+printLines [] = []
+printLines (e ∷ es) = printLines es ++ printLine e
 
 -- the good lines before the first bad one
 abbrev pub entriesOf : Reading → List Entry

@@ -13,7 +13,10 @@ use Rattle.sheet_line.specs.Line.{sheetLineBytes}
 use Rattle.sheet_line.specs.declared.Code.{Code}
 use Rattle.sheet_line.specs.declared.Code.the-variants.{Rsk, Oth, Mor, Vol, Gen, Crd}
 use Rattle.sheet_line.specs.declared.Entry.{Entry}
+use Rattle.sheet_line.specs.declared.Line.{Line}
+use Rattle.sheet_line.specs.declared.Line.the-variants.{Good, Refused}
 use Rattle.ledger.specs.Entries.{firstOf, secondOf, markOf}
+use Rattle.ledger.specs.Order.{admitted}
 use Rattle.ledger.specs.Reading.{Reading, entriesOf, outcomeOf, stated}
 use Rattle.ledger.specs.declared.Answer.{Answer}
 
@@ -76,11 +79,10 @@ pub record Filled (o : Reading) (r : Answer) (firsts seconds marks : List ℕ) :
   pub answer : stated r ≡ outcomeOf o
   pub tables : TablesOf (entriesOf o) firsts seconds marks
 
--- an entry that is put into the tables, its mark with it
-pub record Entered (e : Entry) (f s m f′ s′ m′ : List ℕ) : Type 0 where
+-- an entry's amounts put into the tables
+pub record Entered (e : Entry) (f s f′ s′ : List ℕ) : Type 0 where
   pub first : f′ ≡ set f (indexFor e) (e .first)
   pub second : s′ ≡ set s (indexFor e) (e .second)
-  pub mark : m′ ≡ set m (indexFor e) 1
 
 -- what a table holds for a code, block and class
 abbrev pub tabled : List ℕ → Code → ℕ → ℕ → ℕ
@@ -89,6 +91,16 @@ tabled l k b c = getD l (indexOf k b c) 0
 -- whether a table of marks has one for a code, block and class
 abbrev pub hasMark : List ℕ → Code → ℕ → ℕ → Bool
 hasMark m k b c = ltb 0 (tabled m k b c)
+
+-- the marks after a line: that of an admitted one is there
+abbrev pub marksAfter : Line → List ℕ → List ℕ
+marksAfter (Good e) m = set m (indexFor e) 1
+marksAfter (Refused r) m = m
+
+-- a line after others, of which the marks and the last key tell; and the marks after it
+pub record Admits (l : Line) (last : ℕ) (m : List ℕ) (r : Line) (m′ : List ℕ) : Type 0 where
+  pub line : r ≡ admitted (λ e. hasMark m (e .code) (e .block) (e .class)) last l
+  pub marks : m′ ≡ marksAfter r m
 
 -- whether one of n places from `at` on has a mark
 unfoldable pub anyMark : List ℕ → ℕ → ℕ → Bool

@@ -6,9 +6,10 @@ ghost use mathlib.Core.Path.{_≡_};
 ghost use Prim.Native.Nat.{_+_, _≤_, _<_};
 ghost use Rattle.sheet_line.specs.Codes.{generalClasses, scalarClass, Key};
 ghost use Rattle.guideline.specs.Sizes.{blocks};
-ghost use Rattle.ledger.specs.Entries.{blockBy, volumesBy};
+ghost use Rattle.ledger.specs.Entries.{rank, blockBy, volumesBy};
+ghost use Rattle.ledger.specs.Order.{orderBase, keyFor, Keyed};
 ghost use Rattle.ledger.specs.Reading.{reading};
-ghost use Rattle.ledger.specs.Tables.{places, columnsBefore, indexOf, Empty, Filled, Entered, tabled, hasMark, blockMarked};
+ghost use Rattle.ledger.specs.Tables.{places, columnsBefore, indexOf, indexFor, Empty, Filled, Entered, tabled, hasMark, Admits, blockMarked};
 use guideline::ADJUSTABLE_PRODUCTS;
 use guideline::BLOCK_NUMBERS;
 use guideline::BLOCKS;
@@ -46,6 +47,9 @@ pub const LONGEST_SHEET: usize = SHEET_LINE_BYTES * MOST_LINES;
 // The places of a row. The columns behind RSK and OTH are VOL's and MOR's in the rows of blocks 1 to 16, and CRD's in the others.
 const ROW_PLACES: usize = BLOCK_PLACES + ADJUSTABLE_PRODUCTS;
 
+// A power of two above every block and class, which have two columns each.
+const ORDER_BASE: u64 = 128;
+
 // The places of a table.
 pub const PLACES: usize = ROW_PLACES * (BLOCKS + 1);
 
@@ -66,17 +70,17 @@ pub fn read_lines(
     ensures { λ r. ⌜ Filled (reading (now (sheet .entry))) r (now (firsts .exit)) (now (seconds .exit)) (now (marks .exit)) ⌝ }
 {
     let n = sheet.len() / SHEET_LINE_BYTES;
+    let mut last = 0u64;
     let mut i = 0;
     while i < n {
         let from = SHEET_LINE_BYTES * i;
-        let line = sheet_line::read_line(&sheet[from..from + SHEET_LINE_BYTES]);
+        let read = sheet_line::read_line(&sheet[from..from + SHEET_LINE_BYTES]);
+        let line = admit(read, last, marks);
         match line {
             Line::Refused(rule) => return Answer::Refused(rule, Place::Line(i + 1)),
             Line::Good(e) => {
-                if stood_before(e, marks) {
-                    return Answer::Refused(11, Place::Line(i + 1));
-                }
-                enter(e, firsts, seconds, marks);
+                last = key_of(e);
+                enter(e, firsts, seconds);
             }
         }
         i += 1;
@@ -84,30 +88,66 @@ pub fn read_lines(
     Answer::Accepted(n)
 }
 
-// Rule 11: a line with this entry's code, block and class stood before.
-fn stood_before(e: Entry, marks: &[u8; PLACES]) -> bool
-    requires { ⌜ Key (e .code) (e .block) (e .class) ⌝ }
-    ensures { λ r. ⌜ r ≡ hasMark (now (marks .entry)) (e .code) (e .block) (e .class) ⌝ }
+// What admits a line after those before it: rule 11, a line with its code, block and class stood before, and rule 19, it doesn't come after
+// the last one. The marks tell of those lines, and the key of the last one, 0 where there is none. A line that is admitted is marked.
+fn admit(line: Line, last: u64, marks: &mut [u8; PLACES]) -> Line
+    requires { ⌜ Keyed line ⌝ }
+    ensures { λ r. ⌜ Admits line last (now (marks .entry)) r (now (marks .exit)) ⌝ }
 {
-    let code = e.code;
-    has_mark(marks, code, cast::size(e.block), cast::size(e.class))
+    let Line::Good(e) = line else {
+        return line;
+    };
+    let at = index_for(e);
+    if 0 < marks[at] {
+        return Line::Refused(11);
+    }
+    if key_of(e) <= last {
+        return Line::Refused(19);
+    }
+    marks[at] = 1;
+    line
 }
 
-// Puts an entry into the tables.
-fn enter(
-    e: Entry,
-    firsts: &mut [u64; PLACES],
-    seconds: &mut [u64; PLACES],
-    marks: &mut [u8; PLACES],
-)
+// The key of an entry in the order of lines.
+fn key_of(e: Entry) -> u64
     requires { ⌜ Key (e .code) (e .block) (e .class) ⌝ }
-    ensures { λ _. ⌜ Entered e (now (firsts .entry)) (now (seconds .entry)) (now (marks .entry)) (now (firsts .exit)) (now (seconds .exit)) (now (marks .exit)) ⌝ }
+    ensures { λ r. ⌜ r ≡ keyFor e ⌝ }
 {
     let code = e.code;
-    let at = index_of(code, cast::size(e.block), cast::size(e.class));
+    (rank(code) * ORDER_BASE + e.block) * ORDER_BASE + e.class
+}
+
+// A code's place in the order of codes.
+fn rank(code: Code) -> u64
+    ensures { λ r. ⌜ (r ≡ rank code) × (r < orderBase) ⌝ }
+{
+    match code {
+        Code::Rsk => 0,
+        Code::Oth => 1,
+        Code::Mor => 2,
+        Code::Vol => 3,
+        Code::Gen => 4,
+        Code::Crd => 5,
+    }
+}
+
+// Puts an entry's amounts into the tables.
+fn enter(e: Entry, firsts: &mut [u64; PLACES], seconds: &mut [u64; PLACES])
+    requires { ⌜ Key (e .code) (e .block) (e .class) ⌝ }
+    ensures { λ _. ⌜ Entered e (now (firsts .entry)) (now (seconds .entry)) (now (firsts .exit)) (now (seconds .exit)) ⌝ }
+{
+    let at = index_for(e);
     firsts[at] = e.first;
     seconds[at] = e.second;
-    marks[at] = 1;
+}
+
+// The index of an entry in each table.
+fn index_for(e: Entry) -> usize
+    requires { ⌜ Key (e .code) (e .block) (e .class) ⌝ }
+    ensures { λ r. ⌜ (r ≡ indexFor e) × (r < places) ⌝ }
+{
+    let code = e.code;
+    index_of(code, cast::size(e.block), cast::size(e.class))
 }
 
 // Whether a code, block and class has a mark.

@@ -1,6 +1,6 @@
--- What is turned away in a line: 'the first bad line, in it 3, 4, 5, 6, 8, 9, 10'; rule 11 looks at more than a line and is not here.
--- Each rule has a test, true where it turns the line away, and a definition that ends in the next rule's; the last one first.
--- Assumes nothing.
+-- What is turned away in a line: 'the first bad line, in it 3, 4, 5, 6, 8, 9, 10'; rules 11 and 19 look at more than a line and are not
+-- here. Each rule has a test, true where it turns the line away, and a definition that ends in the next rule's; the last one first. Assumes
+-- nothing.
 use mathlib.Core.Path.{_≡_}
 use Prim.Native.Nat.{ℕ, _≤_}
 use mathlib.Core.List.{List}

@@ -4,7 +4,7 @@
 
 use crate::block::{EXPENSES_LT, PC};
 use crate::fluctuation::{row_of, Base};
-use crate::sheet::{last_class, read_sheet, Sheet, CODE, FIELDS, LINE_FEED, SPACES};
+use crate::sheet::{key_of, last_class, read_sheet, Key, Sheet, CODE, FIELDS, LINE_FEED, SPACES};
 use crate::*;
 
 /// Case `index` of `seed`: a sheet and the length of the report to lend.
@@ -239,6 +239,10 @@ impl Line {
     fn is_scalar(&self) -> bool {
         self.is("GEN", 0, SCALAR)
     }
+
+    fn key(&self) -> Key {
+        key_of(self.code.as_bytes(), self.block, self.class)
+    }
 }
 
 fn bytes(lines: &[Line]) -> Vec<u8> {
@@ -261,7 +265,7 @@ impl Manner {
     }
 }
 
-/// The lines of a sheet that is accepted, in any order.
+/// The lines of a sheet that is accepted, in their order.
 fn sound_lines(random: &mut Random) -> Vec<Line> {
     let mut lines = Vec::new();
     let manner = Manner { style: random.below(STYLES + 1), full: random.one_in(12), density: random.from(1, 8) };
@@ -280,11 +284,7 @@ fn sound_lines(random: &mut Random) -> Vec<Line> {
     general_lines(random, &manner, &mut lines);
     dividend_lines(random, &manner, &mut lines);
     free_credit_lines(random, &manner, &mut lines);
-    match random.below(4) {
-        0 => {}
-        1 => lines.reverse(),
-        _ => random.shuffle(&mut lines),
-    }
+    lines.sort_by_key(Line::key);
     lines
 }
 
@@ -483,9 +483,11 @@ fn volumes(random: &mut Random, style: u64) -> (u64, u64) {
     }
 }
 
-/// What lines say that rules 3 to 12 and 16 let pass.
+/// What lines say that rules 3 to 12 and 16 let pass, once they are in order.
 fn sheet_of(lines: &[Line]) -> Sheet {
-    read_sheet(&bytes(lines)).expect("sound lines")
+    let mut lines = lines.to_vec();
+    lines.sort_by_key(Line::key);
+    read_sheet(&bytes(&lines)).expect("sound lines")
 }
 
 /// Rooms: none, too little, exact, a byte or more too many, the longest report's.
@@ -507,16 +509,20 @@ fn room(random: &mut Random, lines: &[Line]) -> usize {
 
 // Damaged sheets
 
+/// The kinds of faults, and how many of them are of lines; the others are of bytes.
+const KINDS: u64 = 22;
+const OF_LINES: u64 = 13;
+
 /// A sound sheet with one fault, or two or three of any kinds together.
 fn damaged(random: &mut Random, mut lines: Vec<Line>) -> Vec<u8> {
     let faults = random.pick(&[1, 1, 1, 2, 2, 3]);
-    let mut kinds: Vec<u64> = (0..faults).map(|_| random.below(20)).collect();
-    // Faults of amounts come before faults of bytes, those of 13, 17 and 16 first, because they need sound lines.
+    let mut kinds: Vec<u64> = (0..faults).map(|_| random.below(KINDS)).collect();
+    // Faults of lines come before faults of bytes, those of 13, 17 and 16 first, because they need sound lines.
     kinds.sort();
     kinds.dedup();
     let mut sheet = None;
     for kind in kinds {
-        if kind < 11 {
+        if kind < OF_LINES {
             damage_lines(random, &mut lines, kind);
             // Later faults need a line to stand in.
             if lines.is_empty() {
@@ -529,7 +535,7 @@ fn damaged(random: &mut Random, mut lines: Vec<Line>) -> Vec<u8> {
     sheet.unwrap_or_else(|| bytes(&lines))
 }
 
-/// Puts in a fault of amounts, of this kind: the refusal that it is to give is named.
+/// Puts in a fault of lines, of this kind: the refusal that it is to give is named.
 fn damage_lines(random: &mut Random, lines: &mut Vec<Line>, kind: u64) {
     match kind {
         // 13
@@ -569,7 +575,9 @@ fn damage_lines(random: &mut Random, lines: &mut Vec<Line>, kind: u64) {
         // 11
         9 => line_twice(random, lines),
         // 12
-        _ => lines.retain(|l| !l.is_scalar()),
+        10 => lines.retain(|l| !l.is_scalar()),
+        // 19
+        _ => out_of_order(random, lines),
     }
 }
 
@@ -670,13 +678,45 @@ fn lt_above_ir(random: &mut Random, lines: &mut Vec<Line>) {
     line.second = if random.one_in(2) { line.first + 1 } else { random.from(line.first + 1, LARGEST_AMOUNT) };
 }
 
-/// A line that stood before, with its own or another amount.
+/// A line that stands twice, with its own or another amount, the second time anywhere: behind the first it is 11, right
+/// behind it in order and farther off out of order; before the first, it is 19 for the line that follows it, if that isn't
+/// the first itself.
 fn line_twice(random: &mut Random, lines: &mut Vec<Line>) {
-    let mut line = lines[random.at(lines.len())];
+    let from = random.at(lines.len());
+    let mut line = lines[from];
     if random.one_in(2) {
         line.first = some_amount(random);
     }
-    put(random, lines, line);
+    let (next, behind, any) = (from + 1, from + 1 + random.at(lines.len() - from), random.at(lines.len() + 1));
+    let to = random.pick(&[next, behind, any]);
+    if lines.len() < MOST_LINES {
+        lines.insert(to, line);
+    } else {
+        lines[to.min(MOST_LINES - 1)] = line;
+    }
+}
+
+/// Lines that don't come after the one before them: two neighbours exchanged, any two, one moved, all of them turned round
+/// or mixed; or a line more, before its place or behind it, where there are too few.
+fn out_of_order(random: &mut Random, lines: &mut Vec<Line>) {
+    if lines.len() < 2 {
+        let line = Line { code: "RSK", block: 1, class: random.from(1, EXPENSES), first: 0, second: 0 };
+        lines.insert(random.at(lines.len() + 1), line);
+    }
+    let (one, other) = (random.at(lines.len()), random.at(lines.len()));
+    match random.below(8) {
+        0..=2 => {
+            let at = random.at(lines.len() - 1);
+            lines.swap(at, at + 1);
+        }
+        3 => lines.swap(one, other),
+        4 | 5 => {
+            let line = lines.remove(one);
+            lines.insert(other, line);
+        }
+        6 => lines.reverse(),
+        _ => random.shuffle(lines),
+    }
 }
 
 fn some_amount(random: &mut Random) -> u64 {
@@ -684,15 +724,13 @@ fn some_amount(random: &mut Random) -> u64 {
     amount(random, style).max(1)
 }
 
-/// Puts a line anywhere; into a full sheet in place of another.
+/// Puts a line where it belongs; a full sheet loses another for it.
 fn put(random: &mut Random, lines: &mut Vec<Line>, line: Line) {
-    if lines.len() < MOST_LINES {
-        let at = random.at(lines.len() + 1);
-        lines.insert(at, line);
-    } else {
-        let at = random.at(lines.len());
-        lines[at] = line;
+    if lines.len() == MOST_LINES {
+        lines.remove(random.at(MOST_LINES));
     }
+    let at = lines.iter().take_while(|l| l.key() < line.key()).count();
+    lines.insert(at, line);
 }
 
 /// Any line that is as wanted, or else one of risk 1.
@@ -700,8 +738,9 @@ fn line_of(random: &mut Random, lines: &mut Vec<Line>, wanted: impl Fn(&Line) ->
     let such: Vec<usize> = (0..lines.len()).filter(|&at| wanted(&lines[at])).collect();
     if such.is_empty() {
         let block = random.from(1, NON_PARTICIPATING as u64);
-        lines.push(Line { code: "RSK", block, class: 1, first: 0, second: 0 });
-        return lines.len() - 1;
+        let line = Line { code: "RSK", block, class: 1, first: 0, second: 0 };
+        put(random, lines, line);
+        return lines.iter().position(|l| l.is("RSK", block, 1)).expect("it was put there");
     }
     random.pick(&such)
 }
@@ -725,29 +764,29 @@ fn damage_bytes(random: &mut Random, sheet: &mut Vec<u8>, kind: u64) {
     let field = &mut line[FIELDS[random.at(FIELDS.len())].clone()];
     match kind {
         // 3: a wrong byte in a number
-        11 => field[random.at(field.len())] = random.pick(&STRANGE),
+        13 => field[random.at(field.len())] = random.pick(&STRANGE),
         // 3: a wrong byte between the columns or at the end
-        12 => {
+        14 => {
             let any = random.pick(&STRANGE);
             let [one, two, three, four] = SPACES;
             line[random.pick(&[one, two, three, four, LINE_FEED])] = random.pick(&[any, b'0', b'7', 0, 9, 13, 200]);
         }
         // 3
-        13 => move_number(random, field),
+        15 => move_number(random, field),
         // 4: a wrong code
-        14 => line[CODE].copy_from_slice(&random.pick(&WRONG_CODES)),
+        16 => line[CODE].copy_from_slice(&random.pick(&WRONG_CODES)),
         // 4: a wrong byte in the code
-        15 => line[random.at(CODE.len())] = random.pick(&STRANGE),
+        17 => line[random.at(CODE.len())] = random.pick(&STRANGE),
         // 2
-        16 => cut_or_lengthen(random, sheet),
+        18 => cut_or_lengthen(random, sheet),
         // 1: too long, by a byte, a line, or more
-        17 => {
+        19 => {
             let any = 1 + random.at(10 * LINE_BYTES);
             let length = LONGEST_SHEET + random.pick(&[1, 1, LINE_BYTES, any]);
             *sheet = sheet.iter().copied().cycle().take(length).collect();
         }
         // 2 or 3
-        18 => longer_line(random, sheet, at),
+        20 => longer_line(random, sheet, at),
         _ => *sheet = any_bytes(random),
     }
 }

@@ -141,19 +141,30 @@ pub fn sheet_line(code: &str, block: u64, class: u64, first: u64, second: u64) -
     line
 }
 
-/// Code, block and class of every line that a sheet of so many blocks and territories can have, ascending by blocks, those
-/// of block 0 last.
+/// #105: the codes in the order in which their lines come.
+const CODES: [&str; 6] = ["RSK", "OTH", "MOR", "VOL", "GEN", "CRD"];
+
+/// #105: "ascend strictly by code, .. then by block, then by class". What a line is compared by: the place of its code among
+/// them, its block, its class.
+pub(crate) type Key = (usize, u64, u64);
+
+/// The key of a line whose code is one of them.
+pub(crate) fn key_of(code: &[u8], block: u64, class: u64) -> Key {
+    let code = CODES.iter().position(|known| known.as_bytes() == code).expect("a known code");
+    (code, block, class)
+}
+
+/// Code, block and class of every line that a sheet of so many blocks and territories can have, in the order of a sheet.
 pub fn all_lines(blocks: usize) -> Vec<(&'static str, u64, u64)> {
     let lines_of = |code: &'static str, block: u64| {
         let last = last_class(code.as_bytes(), block).unwrap_or(0);
         (1..=last).map(move |class| (code, block, class))
     };
-    let codes = ["RSK", "OTH", "MOR", "VOL", "GEN", "CRD"];
-    let blocks = (1..=blocks as u64).chain([0]);
-    blocks.flat_map(|block| codes.map(|code| (code, block))).flat_map(|(code, block)| lines_of(code, block)).collect()
+    let of_code = |code: &'static str| (0..=blocks as u64).flat_map(move |block| lines_of(code, block));
+    CODES.into_iter().flat_map(of_code).collect()
 }
 
-/// "What is turned away": 1, 2, the first bad line, 12; by #101 then 16.
+/// "What is turned away": 1, 2, the first bad line, in it by #105 19 last, 12; by #101 then 16.
 pub(crate) fn read_sheet(bytes: &[u8]) -> Result<Sheet, Refusal> {
     if bytes.len() > LONGEST_SHEET {
         return Err(Refusal::nowhere(1));
@@ -169,13 +180,19 @@ pub(crate) fn read_sheet(bytes: &[u8]) -> Result<Sheet, Refusal> {
         volumes: [0; MOST_VOLUMES],
         general: [0; GENERAL_CLASSES],
     };
-    let mut stood_before = BTreeSet::new();
+    let (mut stood_before, mut line_before) = (BTreeSet::new(), None);
     for (at, bytes) in bytes.chunks(LINE_BYTES).enumerate() {
         let line = read_line(bytes).map_err(|number| Refusal::at_line(number, at + 1))?;
+        let key = key_of(line.code, line.block, line.class);
         // 11: code, block and class stood before.
-        if !stood_before.insert((line.code.to_vec(), line.block, line.class)) {
+        if !stood_before.insert(key) {
             return Err(Refusal::at_line(11, at + 1));
         }
+        // 19, by #105: the line doesn't come after the one before it.
+        if line_before.is_some_and(|before| key <= before) {
+            return Err(Refusal::at_line(19, at + 1));
+        }
+        line_before = Some(key);
         sheet.enter(&line);
     }
     // An accepted g line is never 0, so 0 means that there is none.

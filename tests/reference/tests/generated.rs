@@ -64,7 +64,7 @@ fn cases_reach_every_row() {
     }
     println!("answers of {cases} cases, 0 for accepted: {counts:?}");
     let reached: Vec<u8> = counts.keys().copied().collect();
-    assert_eq!(reached, [0, 1, 2, 3, 4, 5, 6, 8, 9, 10, 11, 12, 13, 14, 16, 17]);
+    assert_eq!(reached, [0, 1, 2, 3, 4, 5, 6, 8, 9, 10, 11, 12, 13, 14, 16, 17, 19]);
     assert!(counts.values().all(|&count| count >= 100), "{counts:?}");
 }
 
@@ -155,6 +155,78 @@ fn cases_repeat() {
         assert_eq!(fluctuation_numbers(6, index), fluctuation_numbers(6, index));
     }
     assert!((0..200).any(|index| case(6, index) != case(7, index)));
+}
+
+/// #105: lines in any order but their own are refused by 19: two neighbours exchanged, the last line put first, all of them
+/// turned round.
+#[test]
+fn no_other_order_is_accepted() {
+    let answer = |lines: &[&[u8]]| sheet_call(&lines.concat(), &mut [b'#'; LONGEST_REPORT]).map(|_| ());
+    for index in 0..2_000 {
+        let sheet = accepted(11, index);
+        let mut lines: Vec<&[u8]> = sheet.chunks(LINE_BYTES).collect();
+        assert_eq!(answer(&lines), Ok(()), "sheet {index}");
+        if lines.len() < 2 {
+            continue;
+        }
+        let at = index as usize % (lines.len() - 1);
+        lines.swap(at, at + 1);
+        assert_eq!(answer(&lines), Err(Refusal::at_line(19, at + 2)), "sheet {index}, lines {at} and the next");
+        lines.swap(at, at + 1);
+        lines.rotate_right(1);
+        assert_eq!(answer(&lines), Err(Refusal::at_line(19, 2)), "sheet {index}, its last line first");
+        lines.rotate_left(1);
+        lines.reverse();
+        assert_eq!(answer(&lines), Err(Refusal::at_line(19, 2)), "sheet {index}, turned round");
+    }
+}
+
+/// #105: 19 and 11 of every kind stand: the code, the block or the class falls, whatever the others do; in the second line,
+/// in the last and between; beside a line that stands twice and what concerns the whole sheet; a line right behind its equal
+/// and farther off.
+#[test]
+fn orders_of_every_kind() {
+    let rank = |code: &str| "RSK OTH MOR VOL GEN CRD".find(code);
+    let mut counts: BTreeMap<&str, u64> = BTreeMap::new();
+    for index in 0..20_000 {
+        let (sheet, room) = case(12, index);
+        let answer = sheet_call(&sheet, &mut vec![0; room]);
+        let lines: Vec<Option<(&str, [u64; 4])>> = sheet.chunks(LINE_BYTES).map(line_of).collect();
+        // Code, block and class of a line, counted from 1.
+        let key = |at: usize| lines[at - 1].map(|(code, [block, class, ..])| (rank(code), block, class));
+        let kinds = match answer {
+            Err(Refusal { number: 19, place: Place::Line(at) }) => {
+                let ((code, block, class), (code_before, block_before, class_before)) =
+                    (key(at).unwrap(), key(at - 1).unwrap());
+                let no_scalar = !lines.iter().flatten().any(|line| line.0 == "GEN" && line.1[1] == SCALAR);
+                let stands_again = |at: usize| (at + 1..=lines.len()).any(|other| key(other) == key(at));
+                vec![
+                    ("code falls, block rises", code < code_before && block > block_before),
+                    ("code falls, block as well", code < code_before && block < block_before),
+                    ("block falls, class rises", code == code_before && block < block_before && class > class_before),
+                    ("block falls, class as well", code == code_before && block < block_before && class < class_before),
+                    ("class falls", (code, block) == (code_before, block_before) && class < class_before),
+                    ("in line 2", at == 2 && lines.len() > 2),
+                    ("in the last line", at == lines.len() && at > 2),
+                    ("in another", 2 < at && at < lines.len()),
+                    ("the one before it stands again", stands_again(at - 1)),
+                    ("beside a line that is none", lines.contains(&None)),
+                    ("beside 12", no_scalar),
+                    ("beside 14", room == 0),
+                ]
+            }
+            Err(Refusal { number: 11, place: Place::Line(at) }) => {
+                vec![("11 right behind", key(at) == key(at - 1)), ("11 farther off", key(at) < key(at - 1))]
+            }
+            _ => vec![],
+        };
+        for (kind, holds) in kinds {
+            *counts.entry(kind).or_default() += u64::from(holds);
+        }
+    }
+    println!("19 and 11 in 20,000 cases: {counts:?}");
+    assert_eq!(counts.len(), 14);
+    assert!(counts.values().all(|&count| count >= 10), "{counts:?}");
 }
 
 /// S and T of every kind stand: none, alike, far apart, the credit LT(1) itself and a cent above it, and a block that

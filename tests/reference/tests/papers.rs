@@ -1,6 +1,7 @@
 //! The figures that the papers print.
 
 use reference::*;
+use std::cmp::Ordering;
 
 /// A block of zeros but for these positions.
 fn block(amounts: &[(usize, u64)]) -> [u64; FIGURES] {
@@ -191,10 +192,17 @@ fn demand_3_on_the_credit() {
     assert!(why(with(1_001, 130)).contains("after a credit"));
 }
 
-/// A sheet of these lines and a scalar of one.
+/// #105: "ascend strictly by code, in the order RSK, OTH, MOR, VOL, GEN, CRD, then by block, then by class", as a number.
+fn order(code: &str, block: u64, class: u64) -> u64 {
+    let code = "RSK OTH MOR VOL GEN CRD".find(code).unwrap() as u64;
+    10_000 * code + 100 * block + class
+}
+
+/// A sheet of these lines and a scalar of one, in their order.
 fn with_scalar(lines: &[(&str, u64, u64, u64)]) -> Vec<u8> {
-    let lines = lines.iter().flat_map(|&(code, block, class, amount)| sheet_line(code, block, class, amount, 0));
-    lines.chain(sheet_line("GEN", 0, SCALAR, 10_000, 0)).collect()
+    let mut lines = [lines, &[("GEN", 0, SCALAR, 10_000)]].concat();
+    lines.sort_by_key(|&(code, block, class, _)| order(code, block, class));
+    lines.iter().flat_map(|&(code, block, class, amount)| sheet_line(code, block, class, amount, 0)).collect()
 }
 
 /// The three totals of a report.
@@ -209,31 +217,34 @@ fn totals(sheet: &[u8]) -> Result<[u64; 3], Refusal> {
 /// #102: the table of codes, and which blocks and classes CRD has.
 #[test]
 fn lines_of_credits() {
-    let answer = |line: Vec<u8>| run(&[line, sheet_line("GEN", 0, SCALAR, 10_000, 0)].concat()).map(|_| ());
+    let g = sheet_line("GEN", 0, SCALAR, 10_000, 0);
+    // Before the scalar, in line 1, and behind it, in line 2.
+    let before = |line: Vec<u8>| run(&[line, g.clone()].concat()).map(|_| ());
+    let behind = |line: Vec<u8>| run(&[g.clone(), line].concat()).map(|_| ());
     for block in 1..=99 {
         let number = if (17..=32).contains(&block) { 17 } else { 5 };
-        let refusal = if number == 17 { Refusal::nowhere(17) } else { Refusal::at_line(5, 1) };
-        assert_eq!(answer(sheet_line("CRD", block, 1, 0, 0)), Err(refusal), "block {block}");
+        let refusal = if number == 17 { Refusal::nowhere(17) } else { Refusal::at_line(5, 2) };
+        assert_eq!(behind(sheet_line("CRD", block, 1, 0, 0)), Err(refusal), "block {block}");
         // 5 comes before 6, and 6 before 8.
         let number = if number == 17 { 6 } else { 5 };
         for class in [0, 2, 16, 17, 99] {
-            assert_eq!(answer(sheet_line("CRD", block, class, 0, 1)), Err(Refusal::at_line(number, 1)));
+            assert_eq!(behind(sheet_line("CRD", block, class, 0, 1)), Err(Refusal::at_line(number, 2)));
         }
         for code in ["RSK", "OTH"] {
             let expected = if block > 32 { Err(Refusal::at_line(5, 1)) } else { Ok(()) };
-            assert_eq!(answer(sheet_line(code, block, 1, 0, 0)), expected, "{code} {block}");
+            assert_eq!(before(sheet_line(code, block, 1, 0, 0)), expected, "{code} {block}");
         }
         for code in ["MOR", "VOL"] {
             let expected = if block > 16 { Err(Refusal::at_line(5, 1)) } else { Ok(()) };
-            assert_eq!(answer(sheet_line(code, block, 1, 0, 0)), expected, "{code} {block}");
+            assert_eq!(before(sheet_line(code, block, 1, 0, 0)), expected, "{code} {block}");
         }
     }
     for class in 0..=99 {
-        let expected = if (1..=16).contains(&class) { Ok(()) } else { Err(Refusal::at_line(6, 1)) };
-        assert_eq!(answer(sheet_line("CRD", 0, class, 0, 0)), expected, "class {class}");
+        let expected = if (1..=16).contains(&class) { Ok(()) } else { Err(Refusal::at_line(6, 2)) };
+        assert_eq!(behind(sheet_line("CRD", 0, class, 0, 0)), expected, "class {class}");
     }
-    assert_eq!(answer(sheet_line("CRD", 0, 1, 0, 1)), Err(Refusal::at_line(8, 1)));
-    assert_eq!(answer(sheet_line("CRD", 17, 1, 0, 1)), Err(Refusal::at_line(8, 1)));
+    assert_eq!(behind(sheet_line("CRD", 0, 1, 0, 1)), Err(Refusal::at_line(8, 2)));
+    assert_eq!(behind(sheet_line("CRD", 17, 1, 0, 1)), Err(Refusal::at_line(8, 2)));
 }
 
 /// #102: a dividend credit up to K is taken off the bracket and not off the sum of K; above it, or for a block that has no
@@ -276,6 +287,52 @@ fn credits_of_no_block() {
     // 17 comes before 13.
     let above = [("CRD", 0, 1, LARGEST_AMOUNT), ("CRD", 18, 1, 0)];
     assert_eq!(with(&above), Err(Refusal::nowhere(17)));
+}
+
+/// #105: of every two lines that there are, the second is refused by 11 where it is the first again, by 19 where it comes
+/// before the first, and by neither where it comes after it.
+#[test]
+fn one_order_of_lines() {
+    let lines: Vec<(u64, Vec<u8>)> = all_lines(MOST_BLOCKS)
+        .into_iter()
+        .map(|(code, block, class)| (order(code, block, class), sheet_line(code, block, class, 1, 0)))
+        .collect();
+    assert!(lines.is_sorted() && lines.len() == MOST_LINES);
+    for (one, first) in &lines {
+        for (two, second) in &lines {
+            // What concerns the whole sheet is no matter here.
+            let refusal = run(&[&first[..], second].concat()).err().filter(|refusal| refusal.place != Place::Nowhere);
+            let expected = match two.cmp(one) {
+                Ordering::Less => Some(Refusal::at_line(19, 2)),
+                Ordering::Equal => Some(Refusal::at_line(11, 2)),
+                Ordering::Greater => None,
+            };
+            assert_eq!(refusal, expected, "{two} after {one}");
+        }
+    }
+}
+
+/// #105: "two sheets of the same figures .. look alike". Of all 720 orders of six lines one is accepted, and the others are
+/// refused at the first line that doesn't come after the one before it.
+#[test]
+fn one_sheet_of_the_same_figures() {
+    let lines = [("RSK", 1, 7), ("RSK", 17, 1), ("OTH", 1, 1), ("GEN", 0, SCALAR), ("CRD", 0, 16), ("CRD", 17, 1)];
+    let mut accepted = Vec::new();
+    for number in 0..720 {
+        // The digits of the number, of base 6, 5, 4, 3, 2 and 1, say which of the lines that are left is next.
+        let (mut rest, mut left, mut sheet, mut keys) = (number, lines.to_vec(), Vec::new(), Vec::new());
+        while !left.is_empty() {
+            let (code, block, class) = left.remove(rest % left.len());
+            rest /= left.len() + 1;
+            sheet.extend(sheet_line(code, block, class, 1, 0));
+            keys.push(order(code, block, class));
+        }
+        match (1..keys.len()).find(|&at| keys[at] < keys[at - 1]) {
+            Some(at) => assert_eq!(run(&sheet), Err(Refusal::at_line(19, at + 1)), "order {number}"),
+            None => accepted.push(run(&sheet).unwrap()),
+        }
+    }
+    assert_eq!(accepted.len(), 1);
 }
 
 /// #104: the figures that it prints, in dollars there.

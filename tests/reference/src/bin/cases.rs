@@ -31,7 +31,12 @@ impl Cases {
 
     /// Refused, although the room would hold one block's report.
     fn refused(&mut self, refusal: Refusal, sheet: Vec<u8>) {
-        self.room(report_length(1) + 3, Err(refusal), sheet);
+        self.refused_with(1, refusal, sheet);
+    }
+
+    /// Refused, although the room would hold a report of so many blocks.
+    fn refused_with(&mut self, blocks: usize, refusal: Refusal, sheet: Vec<u8>) {
+        self.room(report_length(blocks) + 3, Err(refusal), sheet);
     }
 
     fn room(&mut self, room: usize, answer: Result<usize, Refusal>, sheet: Vec<u8>) {
@@ -65,7 +70,12 @@ fn put(column: usize, bytes: &[u8]) -> Vec<u8> {
     sheet
 }
 
-/// All 501 lines, ascending, every amount the largest; LT (but for risk 7), prior volumes, dividend credits, those of
+/// The first line of that sheet, broken.
+fn broken() -> Vec<u8> {
+    put(4, b"x")[..LINE_BYTES].to_vec()
+}
+
+/// All 501 lines, in their order, every amount the largest; LT (but for risk 7), prior volumes, dividend credits, those of
 /// adjustable products and the group's as given. T is two thirds of them, with which the credit of survival and death
 /// business is LT(1) itself.
 fn full(seconds: u64) -> Vec<Line> {
@@ -110,6 +120,10 @@ fn cases() -> Vec<Case> {
         credits,
         rooms,
         roots,
+        orders,
+        row_19,
+        row_19_in_the_same_line,
+        row_19_in_other_lines,
     ];
     for part in parts {
         part(&mut cases);
@@ -131,7 +145,7 @@ fn rows_1_to_4(c: &mut Cases) {
     // 3 beside 4 in the same line.
     c.refused(at(3, 1), put(1, b"XXXX"));
     // 3 beside 12: the broken line is the g line.
-    c.refused(at(3, 2), [sheet(&[RISK]), put(4, b"x")[..LINE_BYTES].to_vec()].concat());
+    c.refused(at(3, 2), [sheet(&[RISK]), broken()].concat());
     // 4 alone.
     c.refused(at(4, 2), sheet(&[RISK, ("RIS", 1, 2, 100, 0), G]));
     // 4 beside 5: block 33 of no code.
@@ -146,9 +160,9 @@ fn rows_5_and_6(c: &mut Cases) {
     // 5 alone: RSK block 33.
     c.refused(at(5, 1), sheet(&[("RSK", 33, 1, 100, 0), G]));
     // 5 alone: OTH block 33.
-    c.refused(at(5, 2), sheet(&[G, ("OTH", 33, 1, 100, 0)]));
+    c.refused(at(5, 2), sheet(&[RISK, ("OTH", 33, 1, 100, 0), G]));
     // 5 alone: VOL block 17.
-    c.refused(at(5, 2), sheet(&[G, ("VOL", 17, 1, 100, 0)]));
+    c.refused(at(5, 2), sheet(&[RISK, ("VOL", 17, 1, 100, 0), G]));
     // 5 alone: GEN block 1.
     c.refused(at(5, 2), sheet(&[G, ("GEN", 1, 1, 100, 0)]));
     // 5 beside 6.
@@ -162,7 +176,7 @@ fn rows_5_and_6(c: &mut Cases) {
     // 6 alone: VOL class 9.
     c.refused(at(6, 1), sheet(&[("VOL", 1, 9, 100, 0), G]));
     // 6 alone: GEN class 6.
-    c.refused(at(6, 1), sheet(&[("GEN", 0, 6, 100, 0), G]));
+    c.refused(at(6, 2), sheet(&[G, ("GEN", 0, 6, 100, 0)]));
     // 6 beside 8: a second amount too.
     c.refused(at(6, 1), sheet(&[("GEN", 0, 0, 100, 1), G]));
 }
@@ -171,7 +185,7 @@ fn rows_8_to_10(c: &mut Cases) {
     // 8 alone: OTH with a second amount.
     c.refused(at(8, 1), sheet(&[("OTH", 1, 2, 100, 1), G]));
     // 8 alone: GEN with a second amount.
-    c.refused(at(8, 2), sheet(&[G, ("GEN", 0, 3, 100, 100)]));
+    c.refused(at(8, 2), sheet(&[RISK, ("GEN", 0, 3, 100, 100), G]));
     // 8 alone: LT(7) not 0.
     c.refused(at(8, 2), sheet(&[RISK, ("RSK", 1, 7, 100, 1), G]));
     // 8 beside 9: LT(7) above IR(7).
@@ -179,7 +193,7 @@ fn rows_8_to_10(c: &mut Cases) {
     // 8 beside 10: a g line with both amounts wrong.
     c.refused(at(8, 1), sheet(&[("GEN", 0, SCALAR, 0, 1)]));
     // 8 beside 11: the line stood before.
-    c.refused(at(8, 3), sheet(&[("OTH", 1, 1, 100, 0), G, ("OTH", 1, 1, 100, 1)]));
+    c.refused(at(8, 2), sheet(&[("OTH", 1, 1, 100, 0), ("OTH", 1, 1, 100, 1), G]));
     // 9 alone: document 01's LT 3001 over IR 3000.
     c.refused(at(9, 1), sheet(&[("RSK", 1, 2, 3_000, 3_001), G]));
     // 9 beside 11: the line stood before.
@@ -189,12 +203,12 @@ fn rows_8_to_10(c: &mut Cases) {
     // 10 alone: the largest amount as g.
     c.refused(at(10, 2), sheet(&[RISK, ("GEN", 0, SCALAR, LARGEST_AMOUNT, 0)]));
     // 10 beside 14: no room either.
-    c.room(0, Err(at(10, 1)), sheet(&[("GEN", 0, SCALAR, 20_002, 0), RISK]));
+    c.room(0, Err(at(10, 2)), sheet(&[RISK, ("GEN", 0, SCALAR, 20_002, 0)]));
 }
 
 fn rows_11_to_14(c: &mut Cases) {
     // 11 alone.
-    c.refused(at(11, 3), sheet(&[RISK, G, RISK]));
+    c.refused(at(11, 2), sheet(&[RISK, RISK, G]));
     // 11 beside 12: and there is no g line.
     c.refused(at(11, 2), sheet(&[RISK, RISK]));
     // 12 alone.
@@ -216,16 +230,16 @@ fn survival_and_death(c: &mut Cases) {
     let sums = |block: u64, s: u64, t: u64| ("MOR", block, 1, s, t);
     // The papers' 100 and 100: a credit of 129, below LT(1) and LT(1) itself.
     c.accepted(1, sheet(&[("RSK", 1, 1, 1_000, 400), sums(1, 100, 100), G]));
-    c.accepted(1, sheet(&[sums(1, 100, 100), G, ("RSK", 1, 1, 129, 129)]));
-    // Before the block's other lines; T above S; the other block has no credit.
+    c.accepted(1, sheet(&[("RSK", 1, 1, 129, 129), sums(1, 100, 100), G]));
+    // T above S; the other block has no credit.
     c.accepted(
         2,
         sheet(&[
-            sums(16, 7, 60_001),
-            ("RSK", 16, 3, 500, 77),
             ("RSK", 2, 1, 900, 800),
             ("RSK", 16, 1, 900, 800),
+            ("RSK", 16, 3, 500, 77),
             ("OTH", 16, 2, 333, 0),
+            sums(16, 7, 60_001),
             G,
         ]),
     );
@@ -242,7 +256,7 @@ fn survival_and_death(c: &mut Cases) {
     // 4: letters of the code in another order.
     c.refused(at(4, 1), sheet(&[("MRO", 1, 1, 0, 0), G]));
     // 11: it stood before, beside 16.
-    c.refused(at(11, 3), sheet(&[sums(1, 5, 5), G, sums(1, 5, 5)]));
+    c.refused(at(11, 2), sheet(&[sums(1, 5, 5), sums(1, 5, 5), G]));
 }
 
 /// 16, a credit above its block's LT(1), alone and beside what is tested before it and after it.
@@ -253,12 +267,12 @@ fn row_16(c: &mut Cases) {
     c.refused(nowhere(16), sheet(&[risk, sums, G]));
     // Alone: the block has no line of risk 1, or isn't there at all.
     c.refused(nowhere(16), sheet(&[("RSK", 1, 2, 1_000, 400), sums, G]));
-    c.refused(nowhere(16), sheet(&[G, ("RSK", 1, 1, 1_000, 400), ("MOR", 9, 1, 1, 1)]));
+    c.refused(nowhere(16), sheet(&[("RSK", 1, 1, 1_000, 400), ("MOR", 9, 1, 1, 1), G]));
     // Alone: the largest credit, which is above the largest amount.
     let (most, largest) = (LARGEST_AMOUNT, ("MOR", 16, 1, LARGEST_AMOUNT, LARGEST_AMOUNT));
     c.refused(nowhere(16), sheet(&[("RSK", 16, 1, most, most), largest, G]));
     // Beside a bad line after it.
-    c.refused(at(9, 4), sheet(&[risk, sums, G, ("RSK", 1, 2, 0, 1)]));
+    c.refused(at(8, 4), sheet(&[risk, sums, G, ("GEN", 0, CREDITS, 0, 1)]));
     // Beside 12.
     c.refused(nowhere(12), sheet(&[risk, sums]));
     // Beside 13.
@@ -271,85 +285,86 @@ fn row_16(c: &mut Cases) {
 fn participating(c: &mut Cases) {
     let other = |block: u64| ("OTH", block, 2, 100, 0);
     // A participating block beside the block before it, without a credit.
-    c.accepted(2, sheet(&[other(17), ("RSK", 16, 1, 100, 40), G]));
-    // Credits of a part of K, of all of it and of 0; the line before its block's and behind it.
-    c.accepted(3, sheet(&[("CRD", 32, 1, 30, 0), other(32), other(17), ("CRD", 17, 1, 100, 0), other(20), G]));
-    c.accepted(2, sheet(&[("RSK", 31, 7, 0, 0), ("CRD", 31, 1, 0, 0), G, RISK]));
+    c.accepted(2, sheet(&[("RSK", 16, 1, 100, 40), other(17), G]));
+    // Credits of a part of K, of all of it and of 0, and a block without one.
+    c.accepted(3, sheet(&[other(17), other(20), other(32), G, ("CRD", 17, 1, 100, 0), ("CRD", 32, 1, 30, 0)]));
+    c.accepted(2, sheet(&[RISK, ("RSK", 31, 7, 0, 0), G, ("CRD", 31, 1, 0, 0)]));
     // 4: letters of the code in another order.
-    c.refused(at(4, 1), sheet(&[("CDR", 17, 1, 0, 0), G]));
+    c.refused(at(4, 2), sheet(&[G, ("CDR", 17, 1, 0, 0)]));
     // 5: blocks 1, 16 and 33.
-    c.refused(at(5, 1), sheet(&[("CRD", 1, 1, 0, 0), G]));
-    c.refused(at(5, 1), sheet(&[("CRD", 16, 1, 0, 0), G]));
+    c.refused(at(5, 2), sheet(&[G, ("CRD", 1, 1, 0, 0)]));
+    c.refused(at(5, 2), sheet(&[G, ("CRD", 16, 1, 0, 0)]));
     c.refused(at(5, 2), sheet(&[G, ("CRD", 33, 1, 0, 0)]));
     // 6: classes 2 and 0, the first beside 8.
-    c.refused(at(6, 2), sheet(&[other(17), ("CRD", 17, 2, 0, 1), G]));
-    c.refused(at(6, 2), sheet(&[other(32), ("CRD", 32, 0, 0, 0), G]));
+    c.refused(at(6, 3), sheet(&[other(17), G, ("CRD", 17, 2, 0, 1)]));
+    c.refused(at(6, 3), sheet(&[other(32), G, ("CRD", 32, 0, 0, 0)]));
     // 8: a second amount, beside 11.
-    c.refused(at(8, 3), sheet(&[other(17), ("CRD", 17, 1, 5, 0), ("CRD", 17, 1, 5, 1), G]));
+    c.refused(at(8, 4), sheet(&[other(17), G, ("CRD", 17, 1, 5, 0), ("CRD", 17, 1, 5, 1)]));
     // 11: it stood before, beside 17.
-    c.refused(at(11, 3), sheet(&[other(17), ("CRD", 17, 1, 500, 0), ("CRD", 17, 1, 0, 0), G]));
+    c.refused(at(11, 4), sheet(&[other(17), G, ("CRD", 17, 1, 500, 0), ("CRD", 17, 1, 0, 0)]));
 }
 
 /// 17, a dividend credit above its block's K or for no block, alone and beside what is tested before it and after it.
 fn row_17(c: &mut Cases) {
     let (other, above) = (("OTH", 17, 2, 100, 0), ("CRD", 17, 1, 101, 0));
     // Alone: a cent above; another block has enough.
-    c.refused(nowhere(17), sheet(&[other, above, G]));
-    c.refused(nowhere(17), sheet(&[("OTH", 18, 2, 900, 0), other, above, G]));
+    c.refused(nowhere(17), sheet(&[other, G, above]));
+    c.refused(nowhere(17), sheet(&[other, ("OTH", 18, 2, 900, 0), G, above]));
     // Alone: the block isn't there, the credit is 0, or the largest.
-    c.refused(nowhere(17), sheet(&[other, ("CRD", 18, 1, 0, 0), G]));
+    c.refused(nowhere(17), sheet(&[other, G, ("CRD", 18, 1, 0, 0)]));
     c.refused(nowhere(17), sheet(&[G, ("CRD", 32, 1, LARGEST_AMOUNT, 0)]));
     // Beside a bad line after it.
-    c.refused(at(9, 4), sheet(&[other, above, G, ("RSK", 1, 2, 0, 1)]));
+    c.refused(at(8, 4), sheet(&[other, G, above, ("CRD", 18, 1, 0, 1)]));
     // Beside 12.
     c.refused(nowhere(12), sheet(&[other, above]));
     // Beside 16.
-    c.refused(nowhere(16), sheet(&[other, above, G, ("MOR", 1, 1, 1, 1)]));
+    c.refused(nowhere(16), sheet(&[other, ("MOR", 1, 1, 1, 1), G, above]));
     // Beside 13, of the group credits and of an adjustable product.
-    c.refused(nowhere(17), sheet(&[other, above, G, ("GEN", 0, CREDITS, LARGEST_AMOUNT, 0)]));
-    c.refused(nowhere(17), sheet(&[other, above, G, ("CRD", 0, 16, LARGEST_AMOUNT, 0)]));
+    c.refused(nowhere(17), sheet(&[other, G, ("GEN", 0, CREDITS, LARGEST_AMOUNT, 0), above]));
+    c.refused(nowhere(17), sheet(&[other, G, ("CRD", 0, 16, LARGEST_AMOUNT, 0), above]));
     // Beside 14: no room either.
-    c.room(0, Err(nowhere(17)), sheet(&[other, above, G]));
+    c.room(0, Err(nowhere(17)), sheet(&[other, G, above]));
 }
 
 /// Credits of adjustable products, compared with what is left: K 100 less 60, and 500 + RO 23.
 fn adjustable(c: &mut Cases) {
-    let bracket = [("OTH", 17, 2, 100, 0), ("CRD", 17, 1, 60, 0), ("GEN", 0, 2, 500, 0), G];
-    let with = |more: &[Line]| sheet(&[&bracket, more].concat());
+    let bracket = [("OTH", 17, 2, 100, 0), ("GEN", 0, 2, 500, 0), G];
+    let with = |more: &[Line]| sheet(&[&bracket, more, &[("CRD", 17, 1, 60, 0)]].concat());
     // Some of it; all of it, by one product, and by several and the group.
     c.accepted(1, with(&[("CRD", 0, 1, 63, 0)]));
     c.accepted(1, with(&[("CRD", 0, 16, 563, 0)]));
-    c.accepted(1, with(&[("CRD", 0, 3, 200, 0), ("GEN", 0, CREDITS, 62, 0), ("CRD", 0, 9, 301, 0)]));
+    c.accepted(1, with(&[("GEN", 0, CREDITS, 62, 0), ("CRD", 0, 3, 200, 0), ("CRD", 0, 9, 301, 0)]));
     // 13: a cent above, in the same ways.
     c.refused(nowhere(13), with(&[("CRD", 0, 16, 564, 0)]));
-    c.refused(nowhere(13), with(&[("CRD", 0, 3, 200, 0), ("GEN", 0, CREDITS, 62, 0), ("CRD", 0, 9, 302, 0)]));
+    c.refused(nowhere(13), with(&[("GEN", 0, CREDITS, 62, 0), ("CRD", 0, 3, 200, 0), ("CRD", 0, 9, 302, 0)]));
     // 6: classes 0 and 17.
-    c.refused(at(6, 5), with(&[("CRD", 0, 0, 0, 0)]));
-    c.refused(at(6, 5), with(&[("CRD", 0, 17, 0, 0)]));
+    c.refused(at(6, 4), with(&[("CRD", 0, 0, 0, 0)]));
+    c.refused(at(6, 4), with(&[("CRD", 0, 17, 0, 0)]));
     // 8: a second amount.
-    c.refused(at(8, 5), with(&[("CRD", 0, 16, 1, 1)]));
-    // 11: it stood before; the same class of GEN and of block 17 is another line.
-    c.refused(at(11, 7), with(&[("CRD", 0, 1, 1, 0), ("GEN", 0, 1, 1, 0), ("CRD", 0, 1, 1, 0)]));
+    c.refused(at(8, 4), with(&[("CRD", 0, 16, 1, 1)]));
+    // 11: it stood before. The same class of GEN, and of block 17, is another line.
+    c.refused(at(11, 5), with(&[("CRD", 0, 2, 1, 0), ("CRD", 0, 2, 1, 0)]));
+    c.accepted(1, sheet(&[bracket[0], ("GEN", 0, 1, 1, 0), G, ("CRD", 0, 1, 1, 0), ("CRD", 17, 1, 1, 0)]));
 }
 
 /// Two bad lines: the first one answers.
 fn two_bad_lines(c: &mut Cases) {
     // 11 in line 2, 3 in line 3.
-    c.refused(at(11, 2), [sheet(&[RISK, RISK]), put(4, b"x")].concat());
+    c.refused(at(11, 2), [sheet(&[RISK, RISK]), broken()].concat());
     // 9 in line 1, 4 in line 2.
     c.refused(at(9, 1), sheet(&[("RSK", 1, 1, 0, 1), ("XXX", 1, 1, 0, 0), G]));
     // 3 in line 1, 3 in line 2.
-    c.refused(at(3, 1), [put(4, b"x")[..LINE_BYTES].to_vec(), put(4, b"x")].concat());
-    // A bad line as the last of a full sheet: OTH 32 3 has become a second OTH 32 2.
+    c.refused(at(3, 1), [broken(), put(4, b"x")].concat());
+    // A bad line as the last of a full sheet: the block before it has no credit, and its own stands twice.
     let mut last = full(0);
-    last.retain(|line| *line != ("OTH", 32, 3, LARGEST_AMOUNT, 0));
-    last.push(("OTH", 32, 2, LARGEST_AMOUNT, 0));
+    last.retain(|line| *line != ("CRD", 31, 1, 0, 0));
+    last.push(("CRD", 32, 1, 0, 0));
     c.room(0, Err(at(11, MOST_LINES)), sheet(&last));
 }
 
 fn duplicates(c: &mut Cases) {
-    // Equal amounts, one line apart.
-    c.refused(at(11, 3), sheet(&[("VOL", 2, 8, 5, 6), G, ("VOL", 2, 8, 5, 6)]));
+    // Equal amounts.
+    c.refused(at(11, 2), sheet(&[("VOL", 2, 8, 5, 6), ("VOL", 2, 8, 5, 6), G]));
     // Other amounts.
     c.refused(at(11, 2), sheet(&[("VOL", 2, 8, 5, 6), ("VOL", 2, 8, 0, 0), G]));
     // A repeated g line, good.
@@ -359,7 +374,7 @@ fn duplicates(c: &mut Cases) {
     // No duplicates: the same block and class under three codes, the same class of two blocks.
     c.accepted(
         2,
-        sheet(&[RISK, ("OTH", 1, 1, 7, 0), ("VOL", 1, 1, 9, 3), ("RSK", 2, 1, 100, 40), ("GEN", 0, 1, 9, 0), G]),
+        sheet(&[RISK, ("RSK", 2, 1, 100, 40), ("OTH", 1, 1, 7, 0), ("VOL", 1, 1, 9, 3), ("GEN", 0, 1, 9, 0), G]),
     );
 }
 
@@ -367,27 +382,27 @@ fn scalars(c: &mut Cases) {
     // g 0.
     c.refused(at(10, 1), sheet(&[("GEN", 0, SCALAR, 0, 0)]));
     // g 1.
-    c.accepted(1, sheet(&[("GEN", 0, SCALAR, 1, 0), RISK]));
+    c.accepted(1, sheet(&[RISK, ("GEN", 0, SCALAR, 1, 0)]));
     // g 20,000.
-    c.accepted(1, sheet(&[("GEN", 0, SCALAR, 20_000, 0), RISK]));
+    c.accepted(1, sheet(&[RISK, ("GEN", 0, SCALAR, 20_000, 0)]));
     // g 20,001.
     c.refused(at(10, 1), sheet(&[("GEN", 0, SCALAR, 20_001, 0)]));
 }
 
 /// 501 lines with 32 blocks at the largest amounts.
 fn largest_amounts(c: &mut Cases) {
-    // Ascending; LT, prior volumes and credits the largest as well.
+    // LT, prior volumes and credits the largest as well.
     c.accepted(32, sheet(&full(LARGEST_AMOUNT)));
-    // Shuffled; LT, prior volumes and credits 0, which gives the largest figures of all.
-    c.accepted(32, sheet(&shuffled(&full(0))));
+    // LT, prior volumes and credits 0, which gives the largest figures of all.
+    c.accepted(32, sheet(&full(0)));
 }
 
 /// Blocks that exist by zeros alone.
 fn blocks_of_zeros(c: &mut Cases) {
     // A risk of zeros.
     c.accepted(1, sheet(&[("RSK", 3, 5, 0, 0), G]));
-    // Credit of zero, in block 16, before a block with amounts.
-    c.accepted(2, sheet(&[("OTH", 16, 2, 0, 0), RISK, G]));
+    // Credit of zero, in block 1, in a line behind that of a block with amounts.
+    c.accepted(2, sheet(&[("RSK", 16, 1, 100, 40), ("OTH", 1, 2, 0, 0), G]));
     // Volumes make no block.
     c.accepted(0, sheet(&[("VOL", 5, 1, 15_000, 10_000), G]));
     // The scalar alone.
@@ -508,13 +523,159 @@ fn roots(c: &mut Cases) {
         sheet(&[
             ("RSK", 1, 5, 100, 0),
             ("RSK", 1, 6, 100, 0),
-            ("OTH", 1, 1, 50, 0),
             ("RSK", 2, 1, 100, 31),
             ("RSK", 2, 3, 80, 0),
+            ("OTH", 1, 1, 50, 0),
             ("OTH", 2, 1, 50, 0),
             ("OTH", 2, 3, 33, 0),
             G,
         ]),
+    );
+}
+
+/// A line of zeros.
+fn zeros(code: &'static str, block: u64, class: u64) -> Line {
+    (code, block, class, 0, 0)
+}
+
+/// #105: a line for every step of the order, from class to class, from block to block, where classes may fall, and from code
+/// to code, where both may.
+fn steps() -> Vec<Line> {
+    vec![
+        zeros("RSK", 1, 7),
+        zeros("RSK", 2, 1),
+        zeros("RSK", 32, 1),
+        zeros("RSK", 32, 2),
+        zeros("RSK", 32, 7),
+        zeros("OTH", 1, 2),
+        zeros("OTH", 1, 3),
+        zeros("OTH", 16, 3),
+        zeros("OTH", 17, 1),
+        zeros("OTH", 18, 1),
+        zeros("OTH", 32, 3),
+        zeros("MOR", 1, 1),
+        zeros("MOR", 15, 1),
+        zeros("MOR", 16, 1),
+        zeros("VOL", 1, 1),
+        zeros("VOL", 9, 8),
+        zeros("VOL", 10, 1),
+        zeros("VOL", 16, 7),
+        zeros("VOL", 16, 8),
+        zeros("GEN", 0, 1),
+        zeros("GEN", 0, 2),
+        G,
+        zeros("GEN", 0, CREDITS),
+        zeros("CRD", 0, 1),
+        zeros("CRD", 0, 9),
+        zeros("CRD", 0, 10),
+        zeros("CRD", 0, 16),
+        zeros("CRD", 17, 1),
+        zeros("CRD", 18, 1),
+    ]
+}
+
+/// The steps in their order, and every two neighbours of them exchanged: 19 alone, at the second of the two.
+fn orders(c: &mut Cases) {
+    let lines = steps();
+    c.accepted(6, sheet(&lines));
+    for first in 0..lines.len() - 1 {
+        let mut exchanged = lines.clone();
+        exchanged.swap(first, first + 1);
+        c.refused_with(6, at(19, first + 2), sheet(&exchanged));
+    }
+}
+
+/// 19, a line that doesn't come after the one before it, alone and beside faults of the whole sheet, which are tested before
+/// it (1, 2) and after it.
+fn row_19(c: &mut Cases) {
+    // Alone: the two lines of the sound sheet; document 01's whole run, its first line put last; a line that comes after
+    // the first and not after the one before it; the codes by the alphabet, from its start and from its end.
+    c.refused(at(19, 2), sheet(&[G, RISK]));
+    c.refused(at(19, 13), [&WHOLE_RUN[LINE_BYTES..], &WHOLE_RUN[..LINE_BYTES]].concat());
+    c.refused(at(19, 3), sheet(&[RISK, zeros("RSK", 1, 3), zeros("RSK", 1, 2), G]));
+    c.refused(
+        at(19, 2),
+        sheet(&[zeros("CRD", 0, 1), G, zeros("MOR", 1, 1), zeros("OTH", 1, 1), RISK, zeros("VOL", 1, 1)]),
+    );
+    c.refused(
+        at(19, 2),
+        sheet(&[zeros("VOL", 1, 1), RISK, zeros("OTH", 1, 1), zeros("MOR", 1, 1), G, zeros("CRD", 0, 1)]),
+    );
+    // The lines of a block together, as sheets were written before.
+    c.refused_with(2, at(19, 3), sheet(&[RISK, zeros("OTH", 1, 1), zeros("RSK", 2, 1), zeros("OTH", 2, 1), G]));
+    // Beside 1: a full sheet out of order, and one byte more.
+    c.room(0, Err(nowhere(1)), [sheet(&shuffled(&full(0))), b"\n".to_vec()].concat());
+    // Beside 2: the last line feed is missing.
+    c.refused(nowhere(2), sheet(&[G, RISK])[..79].to_vec());
+    // Beside 12.
+    c.refused(at(19, 2), sheet(&[zeros("OTH", 1, 1), RISK]));
+    // Beside 16.
+    c.refused(at(19, 2), sheet(&[("MOR", 1, 1, 5, 5), zeros("OTH", 1, 1), G]));
+    // Beside 17.
+    c.refused(at(19, 2), sheet(&[zeros("CRD", 18, 1), G]));
+    // Beside 13.
+    c.refused(at(19, 2), sheet(&[("GEN", 0, CREDITS, LARGEST_AMOUNT, 0), G]));
+    // Beside 14: no room either; a full sheet whose lines are mixed, and one whose first line is put last.
+    c.room(0, Err(at(19, 2)), sheet(&[G, RISK]));
+    c.room(0, Err(at(19, 6)), sheet(&shuffled(&full(0))));
+    let mut turned = full(0);
+    turned.rotate_left(1);
+    c.room(0, Err(at(19, MOST_LINES)), sheet(&turned));
+}
+
+/// 19 beside another fault of the same line: all the others are tested before it.
+fn row_19_in_the_same_line(c: &mut Cases) {
+    // 3 and 4. Without a code the line has no place in the order.
+    c.refused(at(3, 2), [sheet(&[G]), broken()].concat());
+    c.refused(at(4, 2), sheet(&[G, zeros("RKS", 1, 1)]));
+    // 5: a block too low, and one too high, of a code that comes before.
+    c.refused(at(5, 2), sheet(&[zeros("RSK", 1, 2), zeros("RSK", 0, 1), G]));
+    c.refused(at(5, 2), sheet(&[G, zeros("VOL", 17, 1)]));
+    // 6.
+    c.refused(at(6, 2), sheet(&[zeros("OTH", 1, 1), zeros("OTH", 1, 0), G]));
+    c.refused(at(6, 2), sheet(&[zeros("VOL", 1, 1), zeros("MOR", 1, 2), G]));
+    // 8, of each sort.
+    c.refused(at(8, 2), sheet(&[G, ("OTH", 1, 1, 1, 1)]));
+    c.refused(at(8, 2), sheet(&[G, ("GEN", 0, 3, 1, 1)]));
+    c.refused(at(8, 2), sheet(&[G, ("RSK", 1, 7, 1, 1)]));
+    // 9.
+    c.refused(at(9, 2), sheet(&[G, ("RSK", 1, 1, 0, 1)]));
+    // 10: a wrong g in a wrong place.
+    c.refused(at(10, 2), sheet(&[zeros("GEN", 0, CREDITS), zeros("GEN", 0, SCALAR)]));
+    // 11: the line stood before, with its amounts and with others, one line and two lines before.
+    c.refused(at(11, 3), sheet(&[RISK, G, RISK]));
+    c.refused(at(11, 3), sheet(&[("VOL", 2, 8, 5, 6), G, zeros("VOL", 2, 8)]));
+    c.refused(at(11, 4), sheet(&[RISK, zeros("RSK", 1, 2), zeros("RSK", 1, 3), RISK, G]));
+    // 11 and no 19: right behind its equal.
+    c.refused(at(11, 2), sheet(&[zeros("OTH", 32, 3), zeros("OTH", 32, 3), G]));
+}
+
+/// 19 beside another fault of another line: the first bad line answers.
+fn row_19_in_other_lines(c: &mut Cases) {
+    // Before it: 3, 5, 9 and 11.
+    c.refused(at(3, 1), [broken(), sheet(&[G, RISK])].concat());
+    c.refused(at(5, 1), sheet(&[zeros("GEN", 1, 1), RISK, G]));
+    c.refused(at(9, 1), sheet(&[("RSK", 1, 2, 0, 1), RISK, G]));
+    c.refused(at(11, 2), sheet(&[zeros("OTH", 1, 1), zeros("OTH", 1, 1), RISK, G]));
+    // Behind it: 3, 4, 5, 6, 8, 9, 10 and 11.
+    let turned = [zeros("OTH", 1, 1), RISK];
+    c.refused(at(19, 2), [sheet(&turned), broken()].concat());
+    for bad in [
+        zeros("XXX", 1, 1),
+        zeros("RSK", 33, 1),
+        zeros("VOL", 1, 9),
+        ("GEN", 0, 1, 0, 1),
+        ("RSK", 2, 1, 0, 1),
+        zeros("GEN", 0, SCALAR),
+        RISK,
+    ] {
+        c.refused(at(19, 2), sheet(&[&turned[..], &[bad]].concat()));
+    }
+    // Two lines out of order: the first of them.
+    c.refused(at(19, 2), sheet(&[zeros("RSK", 1, 5), zeros("RSK", 1, 3), RISK, G]));
+    c.refused(
+        at(19, 3),
+        sheet(&[RISK, zeros("RSK", 1, 5), zeros("RSK", 1, 3), zeros("RSK", 1, 4), zeros("RSK", 1, 2)]),
     );
 }
 
@@ -572,7 +733,7 @@ mod tests {
     #[test]
     fn the_reference_answers_as_written() {
         let cases = cases();
-        assert!(cases.len() <= 165, "{} cases", cases.len());
+        assert!(cases.len() <= 230, "{} cases", cases.len());
         for (at, case) in cases.iter().enumerate() {
             assert!(case.sheet.len() <= LONGEST_SHEET + 1 && case.room <= LONGEST_REPORT + 93);
             assert_eq!(input(case).len(), 12 + case.sheet.len());
@@ -597,6 +758,6 @@ mod tests {
     fn every_row_of_a_sheet_stands() {
         let numbers: std::collections::BTreeSet<u8> =
             cases().iter().filter_map(|case| case.answer.err().map(|refusal| refusal.number)).collect();
-        assert_eq!(numbers.into_iter().collect::<Vec<u8>>(), [1, 2, 3, 4, 5, 6, 8, 9, 10, 11, 12, 13, 14, 16, 17]);
+        assert_eq!(numbers.into_iter().collect::<Vec<u8>>(), [1, 2, 3, 4, 5, 6, 8, 9, 10, 11, 12, 13, 14, 16, 17, 19]);
     }
 }
