@@ -25,11 +25,11 @@
       1  nowhere             the sheet is longer than TSAV_LONGEST_SHEET
       2  nowhere             its length isn't a multiple of 40
       3  line                columns 4 to 40 break the layout
-      4  line                the code isn't RSK, OTH, MOR, VOL, GEN or CRD
+      4  line                the code isn't RSK, OTH, MOR, VOL, ACQ, GEN or CRD
       5  line                the block is outside the code's range
       6  line                the class is outside the range of the code, for CRD also of the block
       7  position            an amount is above TSAV_LARGEST_AMOUNT
-      8  line or position    a second amount where there is none: OTH, GEN, CRD, level and trend of expenses
+      8  line or position    a second amount where there is none: OTH, ACQ, GEN, CRD, level and trend of expenses
       9  line or position    a level and trend part is above its component
      10  line                the scalar is outside 1 to 20,000
      11  line                a line with this code, block and class stood before
@@ -42,7 +42,7 @@
      17  nowhere             a dividend credit (CRD of a block) is above its block's K, or the block has no RSK or OTH line
      18  nowhere             the row of a fluctuation factor is outside 1 to 7
      19  line                the line doesn't come after the one before it: lines ascend by code, in the order RSK, OTH, MOR,
-                             VOL, GEN, CRD, then by block, then by class */
+                             VOL, ACQ, GEN, CRD, then by block, then by class */
 
 #ifndef TSAV_H
 #define TSAV_H
@@ -74,8 +74,8 @@ extern "C" {
 #define TSAV_SHEET_LINE 40
 #define TSAV_REPORT_LINE 29
 
-/* 501 lines. */
-#define TSAV_LONGEST_SHEET 20040
+/* 629 lines. */
+#define TSAV_LONGEST_SHEET 25160
 
 /* The report of 32 blocks. With this room a sheet is never refused by 14; with less, only one whose report is longer. */
 #define TSAV_LONGEST_REPORT 4727
@@ -101,7 +101,7 @@ uint64_t tsav_block(const uint64_t numbers[TSAV_BLOCK_NUMBERS], uint64_t figures
 /* The operational call, section 8.2.
 
    volumes: count numbers, TSAV_TERRITORY_NUMBERS for each territory: eight pairs, current and prior, of the volume classes 1
-   to 8. None is no territory.
+   to 8. None is no territory. A prior is what it is given as: of bought business, the caller's own and the seller's together.
    general: gross components, guarantee requirement, ceded premiums.
 
    Accepted, figure holds RO in cents.
@@ -135,7 +135,8 @@ uint64_t tsav_fluctuation(uint64_t row, uint64_t requirement, uint64_t face, uin
 
 /* The sheet call: sections 11.1.1, 11.2 and 8.2 for every block and territory of a sheet, and section 11.3, the buffer.
 
-   sheet: bytes bytes, a line for each TSAV_SHEET_LINE, in the order of refusal 19.
+   sheet: bytes bytes, a line for each TSAV_SHEET_LINE, in the order of refusal 19. The amount of an ACQ line, bought business
+   (section 8.2.2), is added to the prior amount of its territory and class; the two together may pass TSAV_LARGEST_AMOUNT.
    report: room bytes, of any content.
 
    Accepted, written holds the report's length, 29 * (5 * n + 3) for n blocks; so many bytes of report, from its start, are

@@ -91,6 +91,22 @@ class Calls(unittest.TestCase):
         self.refused(19, 14, None, tsav.sheet, SHEET + above)
         self.refused(17, None, None, tsav.sheet, SHEET + b"CRD 17  1              0              0\n")
 
+    def test_bought_business(self):
+        """Document 003's acquisition example in cents, and two of the largest amounts as one prior."""
+
+        def ro(current, prior, acquired):
+            lines = [b"VOL  1  1 %14d %14d\n" % (current, prior), b"ACQ  1  1 %14d              0\n" % acquired]
+            lines += [b"GEN  0  4          10000              0\n"]
+            report = tsav.sheet(b"".join(lines)).decode().splitlines()
+            self.assertEqual(len(report), 3)
+            return report[1]
+
+        self.assertEqual(ro(22_500, 10_000, 5_000), "TOT  0  2                675")
+        self.assertEqual(ro(22_500, 10_000, 0), "TOT  0  2                825")
+        most = tsav.LARGEST_AMOUNT
+        self.assertEqual(ro(most, most, most), "TOT  0  2      2500000000000")
+        self.refused(8, 1, None, tsav.sheet, b"ACQ  1  1              5              1\n")
+
     def test_the_longest_report(self):
         lines = [b"OTH %2d  1              1              0\n" % (block + 1) for block in range(tsav.MOST_BLOCKS)]
         lines += [b"GEN  0  4          10000              0\n"]

@@ -36,8 +36,8 @@ MOST_BLOCKS = 32
 SHEET_LINE = 40
 REPORT_LINE = 29
 
-# 501 lines; five report lines for each block, and three of totals.
-LONGEST_SHEET = 501 * SHEET_LINE
+# 629 lines; five report lines for each block, and three of totals.
+LONGEST_SHEET = 629 * SHEET_LINE
 LONGEST_REPORT = REPORT_LINE * (BLOCK_FIGURES * MOST_BLOCKS + 3)
 
 # The kinds of a place.

@@ -80,7 +80,7 @@ impl Draws {
                     market[at] = amount;
                     (amount, 0)
                 }
-                ("RSK", EXPENSES) | ("GEN", _) => (amount, 0),
+                ("RSK", EXPENSES) | ("ACQ" | "GEN", _) => (amount, 0),
                 ("RSK", 1) => {
                     mortality_lt[at] = self.part(amount);
                     (amount, mortality_lt[at])
@@ -96,10 +96,15 @@ impl Draws {
     }
 }
 
+/// Every line that a sheet without bought business can have: 501, as many as there were before ACQ.
+pub fn lines_without_bought() -> Vec<Line> {
+    all_lines(MOST_BLOCKS).into_iter().filter(|&(code, ..)| code != "ACQ").collect()
+}
+
 /// The lines of document 01's whole run: one block, one volume, the first general figure and the scalar.
 pub fn small_lines() -> Vec<Line> {
     let in_run = |&(code, _, class): &Line| match code {
-        "MOR" | "CRD" => false,
+        "MOR" | "ACQ" | "CRD" => false,
         "VOL" => class == 1,
         "GEN" => class == 1 || class == SCALAR,
         _ => true,

@@ -12,7 +12,7 @@
 mod figures;
 mod peer;
 
-use figures::{small_lines, Draws, Line, Size};
+use figures::{lines_without_bought, small_lines, Draws, Line, Size};
 use peer::{root_by_digits, root_by_newton, root_without_jumps, Root};
 use reference::{all_lines, BLOCK_NUMBERS, FIGURES};
 use std::hint::black_box;
@@ -34,7 +34,7 @@ const FULL_SHEETS: usize = 64;
 const SMALL_SHEETS: usize = 1024;
 const TABLE_SHEETS: usize = 64;
 
-/// The blocks of the sheets in the table, each with every line that so many blocks can have. The last are full sheets, of 501.
+/// The blocks of the sheets in the table, each with every line that so many blocks can have. The last are full sheets, of 629.
 const TABLE: [usize; 7] = [0, 1, 2, 4, 8, 16, MOST_BLOCKS];
 
 const SIZES: [(&str, Size); 2] = [("", Size::Middling), (", near the limit", Size::NearTheLimit)];
@@ -50,6 +50,11 @@ fn main() {
     let mut table = TABLE.map(|blocks| sheets(&mut draws, TABLE_SHEETS, &all_lines(blocks), Size::Middling));
     for (size_name, size) in SIZES {
         named.push((format!("fluctuation call{size_name}"), fluctuations(&mut draws, size)));
+    }
+    for (size_name, size) in SIZES {
+        let lines = lines_without_bought();
+        let name = format!("full sheet without ACQ, {} lines{size_name}", lines.len());
+        named.push((name, sheets(&mut draws, FULL_SHEETS, &lines, size)));
     }
     for round in 0..SAMPLES {
         for (_, kind) in &mut named {

@@ -1,4 +1,4 @@
-//! The calculator of document 01, with requests #101, #102, #104 and #105 of document 02, as a good programmer writes it with
+//! The calculator of document 01, with requests #101, #102 and #104 to #106 of document 02, as a good programmer writes it with
 //! u128: no allocation, every figure worked out once, and everything tested that the papers have tested. It is here for its
 //! speed; tests/reference, written to be plain, is the independent calculation.
 //!
@@ -159,7 +159,7 @@ pub fn fluctuation(row: u64, requirement: u64, face: u64, root: Root) -> Result<
 const VOLUME_FACTORS: [u64; VOLUME_CLASSES] = [250, 250, 250, 175, 40, 15, 10, 10];
 const GENERAL_FACTORS: [u64; GENERAL_NUMBERS] = [575, 450, 250];
 
-/// RO of amounts within the limit.
+/// RO of amounts within the limit, and of prior ones within twice the limit.
 fn operational(volumes: &[u64; MOST_VOLUMES], general: &[u64; GENERAL_CLASSES]) -> u64 {
     let mut sum = 0_u128;
     for territory in volumes.chunks_exact(TERRITORY_NUMBERS) {
@@ -177,6 +177,7 @@ fn operational(volumes: &[u64; MOST_VOLUMES], general: &[u64; GENERAL_CLASSES]) 
 /// What the lines of a sheet say: tables of the amounts, and which lines and blocks there were.
 struct Sheet {
     blocks: [[u64; BLOCK_NUMBERS]; MOST_BLOCKS],
+    /// Current and prior of each class; the acquired prior is added to the prior, since ACQ comes after VOL.
     volumes: [u64; MOST_VOLUMES],
     general: [u64; GENERAL_CLASSES],
     /// S and T of each block without participation.
@@ -184,7 +185,7 @@ struct Sheet {
     /// The dividend credit of each block, and the sum of the credits of adjustable products.
     dividends: [u64; MOST_BLOCKS],
     adjustable: u64,
-    /// A bit for each class: of RSK, then OTH, then VOL and MOR or CRD, for each block; of GEN and CRD in the last.
+    /// A bit for each class: of RSK, then OTH, then VOL, MOR and ACQ or CRD, for each block; of GEN and CRD in the last.
     seen: [u32; MOST_BLOCKS + 1],
     /// What the line before is compared by: its code's place in their order, from 1, its block and its class; 0 before any.
     last: usize,
@@ -216,11 +217,13 @@ pub fn sheet(bytes: &[u8], report: &mut [u8], root: Root) -> Result<usize, Refus
     sheet.report(report, root)
 }
 
-/// The bits of `seen` that say that a block exists, those of RSK and OTH; where those of OTH, VOL, MOR and CRD begin.
+/// The bits of `seen` that say that a block exists, those of RSK and OTH; where those of OTH, VOL, MOR, ACQ and CRD
+/// begin.
 const EXISTS: u32 = (1 << VOLUMES_FROM) - 1;
 const OTHERS_FROM: usize = RISKS;
 const VOLUMES_FROM: usize = RISKS + 3;
 const SUMS_FROM: usize = VOLUMES_FROM + VOLUME_CLASSES;
+const ACQUIRED_FROM: usize = SUMS_FROM + 1;
 const CREDITS_FROM: usize = VOLUMES_FROM;
 
 impl Sheet {
@@ -240,9 +243,10 @@ impl Sheet {
             b"OTH" => (2, 1..=MOST_BLOCKS, 3, OTHERS_FROM),
             b"MOR" => (3, 1..=NON_PARTICIPATING, 1, SUMS_FROM),
             b"VOL" => (4, 1..=MOST_TERRITORIES, VOLUME_CLASSES, VOLUMES_FROM),
-            b"GEN" => (5, 0..=0, GENERAL_CLASSES, 0),
-            b"CRD" if block == 0 => (6, 0..=0, ADJUSTABLE_PRODUCTS, CREDITS_FROM),
-            b"CRD" => (6, NON_PARTICIPATING + 1..=MOST_BLOCKS, 1, CREDITS_FROM),
+            b"ACQ" => (5, 1..=MOST_TERRITORIES, VOLUME_CLASSES, ACQUIRED_FROM),
+            b"GEN" => (6, 0..=0, GENERAL_CLASSES, 0),
+            b"CRD" if block == 0 => (7, 0..=0, ADJUSTABLE_PRODUCTS, CREDITS_FROM),
+            b"CRD" => (7, NON_PARTICIPATING + 1..=MOST_BLOCKS, 1, CREDITS_FROM),
             _ => return Some(4),
         };
         if !blocks.contains(&block) {
@@ -283,6 +287,7 @@ impl Sheet {
                 let from = TERRITORY_NUMBERS * block + 2 * class;
                 self.volumes[from..from + 2].copy_from_slice(&amounts);
             }
+            b'A' => self.volumes[TERRITORY_NUMBERS * block + 2 * class + 1] += amounts[0],
             _ => self.general[class] = amounts[0],
         }
     }
@@ -349,7 +354,7 @@ fn amounts_refused(code: u8, class: usize, first: u64, second: u64) -> Option<u8
     match code {
         b'R' if class == RISKS && second != 0 => Some(8),
         b'R' if first < second => Some(9),
-        b'O' | b'G' | b'C' if second != 0 => Some(8),
+        b'O' | b'A' | b'G' | b'C' if second != 0 => Some(8),
         b'G' if class == 4 && !(1..=LARGEST_SCALAR).contains(&first) => Some(10),
         _ => None,
     }

@@ -168,7 +168,7 @@ mod tests {
         assert_eq!(operational(15, [NOWHERE, 0], 1), refused(15, Place::Nowhere));
         assert_eq!(fluctuation(7, [POSITION, 1]), refused(7, Place::Position(1)));
         assert_eq!(fluctuation(18, [NOWHERE, 0]), refused(18, Place::Nowhere));
-        assert_eq!(sheet(11, [LINE, 501], LONGEST_SHEET), refused(11, Place::Line(501)));
+        assert_eq!(sheet(11, [LINE, 629], LONGEST_SHEET), refused(11, Place::Line(629)));
         assert_eq!(sheet(19, [LINE, 2], 2 * SHEET_LINE), refused(19, Place::Line(2)));
         assert_eq!(sheet(16, [NOWHERE, 0], SHEET_LINE), refused(16, Place::Nowhere));
         assert_eq!(sheet(17, [NOWHERE, 0], SHEET_LINE), refused(17, Place::Nowhere));

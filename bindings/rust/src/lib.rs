@@ -38,8 +38,8 @@ pub const MOST_BLOCKS: usize = 32;
 pub const SHEET_LINE: usize = 40;
 pub const REPORT_LINE: usize = 29;
 
-/// 501 lines.
-pub const LONGEST_SHEET: usize = 501 * SHEET_LINE;
+/// 629 lines.
+pub const LONGEST_SHEET: usize = 629 * SHEET_LINE;
 
 /// With this room a sheet is never refused by 14.
 pub const LONGEST_REPORT: usize = report_length(MOST_BLOCKS);

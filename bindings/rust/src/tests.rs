@@ -1,6 +1,8 @@
 use super::*;
 use contract::{LINE, NOWHERE, POSITION};
-use reference::{example, fluctuation_cases, EXAMPLE_FIGURES, WHOLE_RUN, WHOLE_RUN_REPORT};
+use reference::{
+    all_lines, example, fluctuation_cases, report_line, sheet_line, EXAMPLE_FIGURES, WHOLE_RUN, WHOLE_RUN_REPORT,
+};
 
 const OVER: u64 = LARGEST_AMOUNT + 1;
 
@@ -86,6 +88,32 @@ fn refusals_of_the_sheet_call() {
     assert_eq!(sheet(WHOLE_RUN, &mut report), refused(14, Place::Nowhere));
     assert_eq!(&report, b"any content");
     assert_eq!(sheet(WHOLE_RUN, &mut []), refused(14, Place::Nowhere));
+}
+
+/// Document 003's acquisition example in cents: RO 675 of a prior of 10,000 and 5,000; two of the largest amounts together.
+#[test]
+fn bought_business() {
+    let ro = |current: u64, prior: u64, acquired: u64| {
+        let lines = [("VOL", 1, 1, current, prior), ("ACQ", 1, 1, acquired, 0), ("GEN", 0, 4, 10_000, 0)];
+        let bytes: Vec<u8> =
+            lines.iter().flat_map(|&(code, block, class, one, two)| sheet_line(code, block, class, one, two)).collect();
+        let mut report = [b'#'; LONGEST_REPORT];
+        let length = sheet(&bytes, &mut report)?;
+        assert_eq!(length, report_length(0));
+        Ok::<_, Error>(report[REPORT_LINE..2 * REPORT_LINE].to_vec())
+    };
+    assert_eq!(ro(22_500, 10_000, 5_000), Ok(report_line("TOT", 0, 2, 675)));
+    assert_eq!(ro(22_500, 15_000, 0), Ok(report_line("TOT", 0, 2, 675)));
+    assert_eq!(ro(22_500, 10_000, 0), Ok(report_line("TOT", 0, 2, 825)));
+    let joined = ro(LARGEST_AMOUNT, LARGEST_AMOUNT, LARGEST_AMOUNT);
+    assert_eq!(joined, Ok(report_line("TOT", 0, 2, 2_500_000_000_000)));
+    // A sheet of every line there is, the longest; and one line more.
+    let lines: Vec<u8> =
+        all_lines(MOST_BLOCKS).iter().flat_map(|&(code, block, class)| sheet_line(code, block, class, 1, 0)).collect();
+    assert_eq!(lines.len(), LONGEST_SHEET);
+    assert_eq!(sheet(&lines, &mut [0; LONGEST_REPORT]), Ok(LONGEST_REPORT));
+    let more = [&lines[..], b"GEN  0  4          10000              0\n"].concat();
+    assert_eq!(sheet(&more, &mut [0; LONGEST_REPORT]), refused(1, Place::Nowhere));
 }
 
 #[test]

@@ -37,8 +37,9 @@ pub record ReportedBlock (es : List Entry) (report : List ℕ) (b : ℕ) : Type 
   pub credited-u : u + creditOf es b ≡ U (blockOf es b)
   pub credited-lt : lt + creditOf es b ≡ LT (blockOf es b)
 
--- the reported buffer, read back off the report, against the exact one, IR(1) and LT(1) of the sheet taken after the reported credits; every
--- block that exists; and of every block the reported credit against the exact one (document 02, #101)
+-- the reported buffer, read back off the report, against the exact one, IR(1) and LT(1) of the sheet taken after the reported credits, each prior
+-- volume joined with the acquired one ('The exact buffer is read with the joined prior', document 02, #106); every block that exists; and of every
+-- block the reported credit against the exact one (document 02, #101)
 pub record ReportDemand (es : List Entry) (report : List ℕ) : Type 0 where
   pub buffer : ℕ
   pub reads-buffer : numberAt report TOT 0 3 ≡ Value buffer

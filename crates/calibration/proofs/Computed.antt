@@ -19,6 +19,7 @@ use Rattle.operational.specs.Call.{rule7, operationalCall}
 use Rattle.fluctuation.specs.Rows.{rows, rowOf, baseOf}
 use Rattle.fluctuation.specs.Result.{reaches, result}
 use Rattle.fluctuation.specs.Call.{rule7 as fluctuationRule7, fluctuationCall}
+use Rattle.ledger.specs.Entries.{hasKey, lookup, pairs, volumesBy}
 use Rattle.calibration.specs.Points.{nothing, gives, allGiven, points}
 use Rattle.calibration.specs.Miscalibrations.{pcInRisk, netted, eachRounded}
 
@@ -59,7 +60,7 @@ unfolding
     pick leastFrom firstFrom firstAbove factors sumℤ A U LT Vh y ys Q4 largestOf largest root I a D requirement K figuresOf
     total volume growth operationalNumerator RO firstLtAbove rule9 rule8 blockCall rule7 operationalCall
     rows rowOf baseOf reaches result fluctuationRule7 fluctuationCall
-    twiceRadicand aggregated credit gives allGiven pcInRisk netted eachRounded
+    hasKey lookup pairs volumesBy twiceRadicand aggregated credit gives allGiven pcInRisk netted eachRounded
 computed =
     record {
       rows = tt;

@@ -12,6 +12,9 @@ use Rattle.mortality.specs.Credit.{aggregated, credit}
 use Rattle.block.specs.Call.{blockCall}
 use Rattle.operational.specs.Call.{operationalCall}
 use Rattle.fluctuation.specs.Call.{fluctuationCall}
+use Rattle.sheet_line.specs.declared.Code.the-variants.{Vol, Acq}
+use Rattle.sheet_line.specs.declared.Entry.{Entry}
+use Rattle.ledger.specs.Entries.{volumesOf}
 
 -- a figure and its place among the call's values
 pub record Figure : Type 0 where
@@ -82,6 +85,14 @@ seventh current prior = 0 ∷ 0 ∷ 0 ∷ 0 ∷ 0 ∷ 0 ∷ 0 ∷ 0 ∷ 0 ∷ 0 
 abbrev pub nothing : List ℕ
 nothing = 0 ∷ 0 ∷ 0 ∷ []
 
+-- the lines of a territory that took a portfolio over in its first class: 100 of prior premiums, 50 of the seller's, 225 after it (document 003,
+-- section 8.2.2), in cents; the last line first
+abbrev acquisition : List Entry
+acquisition =
+    record { code = Acq; block = 1; class = 1; first = 5000; second = 0 }
+    ∷ record { code = Vol; block = 1; class = 1; first = 22500; second = 10000 }
+    ∷ []
+
 -- a block of its 17 numbers, risks 1 to 7, then PC, credit and market
 abbrev pub points : List Point
 points =
@@ -113,6 +124,8 @@ points =
     ∷ record { outcome = operationalCall (first 12000 10000) nothing; figures = RO 300 ∷ [] }
     -- VOL class 1: 22500, 15000
     ∷ record { outcome = operationalCall (first 22500 15000) nothing; figures = RO 675 ∷ [] }
+    -- document 02, #106: document 003's acquisition example, VOL class 1: 22500, 10000, and ACQ class 1: 5000, taken off these lines
+    ∷ record { outcome = operationalCall (volumesOf acquisition) nothing; figures = RO 675 ∷ [] }
     -- VOL class 7: 1, 1
     ∷ record { outcome = operationalCall (seventh 1 1) nothing; figures = RO 1 ∷ [] }
     -- document 02, #101: S and T both 100

@@ -42,12 +42,12 @@ unfolding values
 factors-fall k h =
     leb-true _ _ (values-same (λ j. leb (getD volumeFactors (suc j) 0) (getD volumeFactors j 0)) (λ j. true) volumeClasses refl k h)
 
--- each pair is charged at most ten times the limit for each unit of its factor
-charged-most : (l : List ℕ) → ((j : ℕ) → getD l j 0 ≤ limit) → (k : ℕ) → charged l k ≤ 10 * limit * total factorOf k
+-- each pair is charged at most ten times the limit for each unit of its factor, whatever its prior volume is
+charged-most : (l : List ℕ) → ((k : ℕ) → current l k ≤ limit) → (k : ℕ) → charged l k ≤ 10 * limit * total factorOf k
 unfolding total
 charged-most l u zero = omega (arith, charged-none l)
 charged-most l u (suc k) =
-    let b : 5 * current l k + excess l k ≤ 10 * limit = omega (arith, u (2 * k)) in
+    let b : 5 * current l k + excess l k ≤ 10 * limit = omega (arith, u k) in
     rw (← add-one k, charged-more) (omega (arith, charged-most l u k, mul-le-mul-left (factorOf k) b))
 
 total-rises : (f : ℕ → ℕ) (k m : ℕ) → total f k ≤ total f (k + m)
@@ -64,7 +64,7 @@ factors-sum = refl
 abbrev pub mostCharged : ℕ
 mostCharged = 10 * limit * (1000 * territories)
 
-pub charged-fits : (l : List ℕ) → ((j : ℕ) → getD l j 0 ≤ limit) → (k : ℕ) → k ≤ volumePairs → charged l k ≤ mostCharged
+pub charged-fits : (l : List ℕ) → ((k : ℕ) → current l k ≤ limit) → (k : ℕ) → k ≤ volumePairs → charged l k ≤ mostCharged
 charged-fits l u k h =
     let e : k + (volumePairs - k) ≡ volumePairs = omega arith in
     omega (arith, charged-most l u k, rw e at (total-rises factorOf k (volumePairs - k)), factors-sum)
@@ -79,7 +79,7 @@ pub numerator-fits : (l g : List ℕ) → OperationalAmounts l g → NumeratorFi
 unfolding operationalNumerator
 numerator-fits l g a =
     let h : length l / 2 ≤ volumePairs = omega (arith, a .short) in
-    let b = charged-fits l (a .volumes) (length l / 2) h in
+    let b = charged-fits l (a .currents) (length l / 2) h in
     let e = charged-all l in
     let r : generalRequirement g ≤ 1275 * limit = omega (arith, a .gross, a .guarantee, a .ceded) in
     record { business-fits = omega arith; general-fits = r; sum-fits = omega arith }

@@ -17,9 +17,9 @@ use Rattle.guideline.specs.Difference.{uncut, times-diff}
 use Rattle.guideline.specs.Fraction.{Fraction, numerator, _≤ᶠ_, _<ᶠ_, whole, ratio, plus, ≤ᶠ-<ᶠ-trans}
 use Rattle.guideline.specs.Exact.{Fits, kAt}
 
--- a sheet's amounts: the blocks that exist, of both sorts, ascending, each its 17 numbers; the operational call's numbers; g, in
--- ten-thousandths; ∑ CR_i, the dividend credits of the participating blocks; ∑ CR_j, the credits of adjustable products; CG, the group and
--- deposit credits
+-- a sheet's amounts: the blocks that exist, of both sorts, ascending, each its 17 numbers; the numbers of RO, as the operational
+-- call has them, each prior volume joined with the acquired one; g, in ten-thousandths; ∑ CR_i, the dividend credits of the participating blocks;
+-- ∑ CR_j, the credits of adjustable products; CG, the group and deposit credits
 pub record Sheet : Type 0 where
   pub blocks : List (List ℕ)
   pub volumes : List ℕ

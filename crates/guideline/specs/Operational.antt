@@ -91,10 +91,12 @@ operationalNumerator l g = 5 * volume l + growth l + 5 * generalRequirement g
 unfoldable pub RO : List ℕ → List ℕ → ℕ
 RO l g = least (λ r. leb (operationalNumerator l g) (operationalDenominator * r))
 
--- what rules 15 and 7 leave: volumes of no more territories than there are, and no amount above the limit
+-- the numbers that RO is worked out of: volumes of no more territories than there are; no amount above the limit, but a prior volume, which is of
+-- two amounts where one was acquired (document 02, #106), at most twice it. What rules 15 and 7 leave is within this
 pub record OperationalAmounts (l g : List ℕ) : Type 0 where
   pub short : length l ≤ volumeNumbers
-  pub volumes : (j : ℕ) → getD l j 0 ≤ limit
+  pub currents : (k : ℕ) → current l k ≤ limit
+  pub priors : (k : ℕ) → prior l k ≤ 2 * limit
   pub gross : getD g 0 0 ≤ limit
   pub guarantee : getD g 1 0 ≤ limit
   pub ceded : getD g 2 0 ≤ limit

@@ -30,7 +30,7 @@ use Rattle.guideline.proofs.Totals.{sum-more, available-fits}
 use Rattle.sheet_line.specs.Line.{sheetLineBytes}
 use Rattle.sheet_line.specs.Codes.{Key, scalarClass}
 use Rattle.sheet_line.specs.declared.Code.{Code}
-use Rattle.sheet_line.specs.declared.Code.the-variants.{Rsk, Oth, Mor, Vol, Gen, Crd}
+use Rattle.sheet_line.specs.declared.Code.the-variants.{Rsk, Oth, Mor, Vol, Acq, Gen, Crd}
 use Rattle.sheet_line.specs.declared.Entry.{Entry}
 use Rattle.sheet_line.specs.Rules.{AcceptedLine}
 use Rattle.ledger.specs.Entries.{lookup, markOf, ofBlock, exists, hasLine, DistinctKeys, blockOf, survivalSum, deathSum, dividendCredit, adjustableCredit}
@@ -79,7 +79,8 @@ module _ (es : List Entry) (all : Each AcceptedLine es) where
   amounts-within =
       record {
         short = omega (arith, length-volumes es all);
-        volumes = volumes-most es all;
+        currents = λ k. volumes-most es all k .0;
+        priors = λ k. volumes-most es all k .1;
         gross = general-most es all 1;
         guarantee = general-most es all 2;
         ceded = general-most es all 3;
@@ -140,6 +141,7 @@ block-within Rsk b c e v = (v .low, v .high)
 block-within Oth b c e v = (v .low, v .high)
 block-within Mor b c e v = never (cc)
 block-within Vol b c e v = never (cc)
+block-within Acq b c e v = never (cc)
 block-within Gen b c e v = never (cc)
 block-within Crd b c e v = never (cc)
 

@@ -2,14 +2,16 @@
 use mathlib.Core.Path.{_≡_, ap}
 use mathlib.Core.List.{List}
 use Prim.Native.Nat.{ℕ, _≤_}
+use native.Mathlib.Omega.{arith}
 use lib.Dec.{ltb}
 use Rattle.guideline.specs.Sizes.{blocks}
 use Rattle.sheet_line.specs.Codes.{generalClasses, scalarClass, Key}
 use Rattle.sheet_line.specs.declared.Code.{Code}
-use Rattle.sheet_line.specs.declared.Code.the-variants.{Gen}
+use Rattle.sheet_line.specs.declared.Code.the-variants.{Vol, Acq, Gen}
 use Rattle.sheet_line.specs.declared.Entry.{Entry}
-use Rattle.ledger.specs.Entries.{lookup, firstOf, secondOf, markOf, exists, hasLine, blockBy, volumesBy, blockOf, volumesOf, generalAmount}
-use Rattle.ledger.specs.Tables.{tabled, hasMark, blockMarked}
+use Rattle.ledger.specs.Entries.{lookup, firstOf, secondOf, markOf, exists, hasLine, blockBy, joinedBy, blockOf, volumesOf, generalAmount}
+use Rattle.ledger.specs.Tables.{tabled, JoinedFits, hasMark, blockMarked}
+use Rattle.ledger.proofs.Bounds.{first-most, second-most}
 use Rattle.ledger.proofs.Indexes.{lookup-table}
 use Rattle.ledger.proofs.Marks.{exists-table}
 use Rattle.ledger.proofs.Numbers.{block-table, volumes-table, general-table, scalar-table}
@@ -22,14 +24,23 @@ module _ {es : List Entry} {f s m : List ℕ} (H : Holds es f s m) where
   pub numbers-are : (b : ℕ) → 1 ≤ b → b ≤ blocks → blockBy (tabled f) (tabled s) b ≡ blockOf es b
   numbers-are b l h = rw (H .tables .first, H .tables .second) (block-table es (H .lines) b (l, h))
 
-  pub volumes-are : volumesBy (tabled f) (tabled s) ≡ volumesOf es
+  pub amount-is : (k : Code) (b c : ℕ) → Key k b c → (tabled f k b c ≡ lookup firstOf es k b c) × (tabled s k b c ≡ lookup secondOf es k b c)
+  amount-is k b c v = rw (H .tables .first, H .tables .second) (lookup-table firstOf es k b c v (H .lines), lookup-table secondOf es k b c v (H .lines))
+
+  -- two amounts fit a word
+  pub joined-small : JoinedFits f s
+  joined-small =
+      record {
+        each = λ b c v.
+            let w : Key Vol b c = record { low = v .low; high = v .high; one = v .one; most = v .most } in
+            omega (arith, amount-is Vol b c w .1, amount-is Acq b c v .0, second-most es (H .lines) Vol b c, first-most es (H .lines) Acq b c);
+      }
+
+  pub volumes-are : joinedBy (tabled f) (tabled s) ≡ volumesOf es
   volumes-are = rw (H .tables .first, H .tables .second) (volumes-table es (H .lines))
 
   pub general-is : (c : ℕ) → (1 ≤ c) × (c ≤ generalClasses) → tabled f Gen 0 c ≡ generalAmount es c
   general-is c h = rw (H .tables .first) (general-table es (H .lines) c h)
-
-  pub amount-is : (k : Code) (b c : ℕ) → Key k b c → (tabled f k b c ≡ lookup firstOf es k b c) × (tabled s k b c ≡ lookup secondOf es k b c)
-  amount-is k b c v = rw (H .tables .first, H .tables .second) (lookup-table firstOf es k b c v (H .lines), lookup-table secondOf es k b c v (H .lines))
 
   pub mark-is : (k : Code) (b c : ℕ) → Key k b c → hasMark m k b c ≡ hasLine es k b c
   mark-is k b c v = rw (H .tables .mark) (ap (λ (n : ℕ). ltb 0 n) (lookup-table markOf es k b c v (H .lines)))

@@ -67,7 +67,7 @@ ruleLines (complete es) = rule12 es
 unfoldable pub rule2 : List ℕ → Judgement
 rule2 s = pick (eqb (length s % sheetLineBytes) 0) (ruleLines (reading s)) (turnedAway 2 place.Nowhere)
 
--- rule 1, 'sheet above 11,720 bytes' (20,040 with MOR and CRD), and then the others
+-- rule 1, 'sheet above 11,720 bytes' (25,160 with MOR, ACQ and CRD), and then the others
 unfoldable pub judgement : List ℕ → Judgement
 judgement s = pick (ltb longestSheet (length s)) (turnedAway 1 place.Nowhere) (rule2 s)
 

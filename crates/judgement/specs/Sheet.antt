@@ -23,8 +23,8 @@ afterCredit es b = lowered (creditOf es b) (blockOf es b)
 unfoldable pub blocksTo : List Entry → ℕ → List (List ℕ)
 blocksTo es n = ascending (exists es) (λ b. afterCredit es b ∷ []) n
 
--- 'GEN: 1 gross components, 2 guarantee requirement, 3 ceded premiums, 4 g, 5 credits', and CRD's credits; a block without participation has
--- no dividend credit
+-- 'GEN: 1 gross components, 2 guarantee requirement, 3 ceded premiums, 4 g, 5 credits', CRD's credits, of which a block without participation has
+-- none of its own, and the volumes with joined priors
 unfoldable pub sheetOf : List Entry → Sheet
 sheetOf es =
     record {

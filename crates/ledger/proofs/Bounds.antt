@@ -3,18 +3,19 @@ use mathlib.Core.Path.{_≡_, refl, _∙_}
 use mathlib.Core.List.{List, [], _∷_, _++_, append-nil}
 use mathlib.Core.Bool.{Bool, true, false}
 use Prim.Native.Nat.{ℕ, zero, suc, _+_, _*_, _/_, _%_, _≤_, _<_}
-use native.Mathlib.Decide.{ℕ-discrete}
+use native.Mathlib.Decide.{ℕ-discrete, decLe}
 use native.Mathlib.Omega.{arith}
-use lib.ListN.{length, getD, length-append}
+use lib.ListN.{length, getD, length-append, List·getD-eq-default}
 use lib.Seq.{append-snoc, getD-append-seam, getD-append-add}
 use Rattle.amount.specs.Amount.{limit}
 use Rattle.search.specs.Pick.{pick}
 use Rattle.search.specs.Each.{Each}
 use Rattle.search.proofs.Eaches.{each-at}
 use Rattle.guideline.specs.Sizes.{blockNumbers, volumeClasses, volumeNumbers, largestScalar, volumePairs}
+use Rattle.guideline.specs.Operational.{current, prior}
 use Rattle.sheet_line.specs.Codes.{riskClasses, expensesClass, scalarClass, Key}
 use Rattle.sheet_line.specs.declared.Code.{Code}
-use Rattle.sheet_line.specs.declared.Code.the-variants.{Rsk, Oth, Vol, Gen}
+use Rattle.sheet_line.specs.declared.Code.the-variants.{Rsk, Oth, Vol, Acq, Gen}
 use Rattle.sheet_line.specs.declared.Entry.{Entry}
 use Rattle.sheet_line.specs.Rules.{AcceptedLine, AcceptedAmounts}
 use Rattle.ledger.specs.Entries.{hasKey, lookup, firstOf, secondOf, markOf, pairs, blockBy, volumesBy, blockOf, volumesOf, generalAmount}
@@ -98,6 +99,9 @@ module _ (f g : ℕ → ℕ) where
             (getD-append-seam (pairs f g n) (f n) (g n ∷ t) 0, getD-append-add (pairs f g n) (f n ∷ g n ∷ t) 1 0)
       ]
 
+  pairs-alone : (n i : ℕ) → i < n → (getD (pairs f g n) (2 * i) 0 ≡ f i) × (getD (pairs f g n) (2 * i + 1) 0 ≡ g i)
+  pairs-alone n i h = rw append-nil at (pairs-at n [] i h)
+
 -- the numbers of a block as the block call wants them
 pub record RuledNumbers (ns : List ℕ) : Type 0 where
   pub long : length ns ≡ blockNumbers
@@ -131,12 +135,25 @@ module _ (es : List Entry) (all : Each AcceptedLine es) where
   unfolding volumesBy
   length-volumes = length-pairs _ _ volumePairs
 
-  volume-amounts : Each Amount (volumesOf es)
+  -- the pair of a class: the first amount of its VOL line; and the second one, joined with the amount of its ACQ line
+  volume-at : (k : ℕ) → k < volumePairs →
+      let b = k / volumeClasses + 1 in
+      let c = k % volumeClasses + 1 in
+      (current (volumesOf es) k ≡ lookup firstOf es Vol b c) × (prior (volumesOf es) k ≡ lookup secondOf es Vol b c + lookup firstOf es Acq b c)
   unfolding volumesBy
-  volume-amounts =
-      rw append-nil at
-      (pairs-most _ _ (λ i. first-most es all Vol (i / volumeClasses + 1) (i % volumeClasses + 1))
-      (λ i. second-most es all Vol (i / volumeClasses + 1) (i % volumeClasses + 1)) volumePairs [] tt)
+  volume-at k h = pairs-alone _ _ volumePairs k h
 
-  pub volumes-most : (k : ℕ) → getD (volumesOf es) k 0 ≤ limit
-  volumes-most = each-at Amount 0 (omega arith) (volumesOf es) volume-amounts
+  -- so a prior volume is at most two amounts
+  pub volumes-most : (k : ℕ) → (current (volumesOf es) k ≤ limit) × (prior (volumesOf es) k ≤ 2 * limit)
+  volumes-most k =
+      elim (decLe volumePairs k) [
+        | yes h ↦ (rest (2 * k) (omega arith), omega (arith, rest (2 * k + 1) (omega arith)))
+        | no h ↦
+            let b = k / volumeClasses + 1 in
+            let c = k % volumeClasses + 1 in
+            let v = volume-at k (omega arith) in
+            (omega (arith, v .0, first-most es all Vol b c), omega (arith, v .1, second-most es all Vol b c, first-most es all Acq b c))
+      ]
+    where
+      rest : (j : ℕ) → volumeNumbers ≤ j → getD (volumesOf es) j 0 ≤ limit
+      rest j h = omega (arith, List·getD-eq-default (volumesOf es) 0 {n = j} (rw length-volumes h))

@@ -13,10 +13,10 @@ use Rattle.search.specs.Each.{Each}
 use Rattle.search.proofs.Picks.{if-true, if-false, if-eq, if-ne, if-lt, if-ge}
 use Rattle.search.proofs.Values.{values, values-same}
 use Rattle.guideline.specs.Sizes.{nonParticipating, blocks, volumeClasses, adjustableProducts}
-use Rattle.sheet_line.specs.Codes.{riskClasses, otherClasses, mortalityClasses, dividendClasses, rangeOf, Key}
+use Rattle.sheet_line.specs.Codes.{riskClasses, otherClasses, mortalityClasses, acquiredClasses, dividendClasses, rangeOf, Key}
 use Rattle.sheet_line.specs.Rules.{AcceptedLine}
 use Rattle.sheet_line.specs.declared.Code.{Code}
-use Rattle.sheet_line.specs.declared.Code.the-variants.{Rsk, Oth, Mor, Vol, Gen, Crd}
+use Rattle.sheet_line.specs.declared.Code.the-variants.{Rsk, Oth, Mor, Vol, Acq, Gen, Crd}
 use Rattle.sheet_line.specs.declared.Entry.{Entry}
 use Rattle.ledger.specs.Entries.{hasKey, lookup, SameKey}
 use Rattle.ledger.specs.Tables.{places, blockPlaces, rowPlaces, columnsBefore, indexOf, indexFor, table, tabled}
@@ -29,6 +29,7 @@ block-most Rsk b = omega arith
 block-most Oth b = omega arith
 block-most Mor b = omega arith
 block-most Vol b = omega arith
+block-most Acq b = omega arith
 block-most Gen b = omega arith
 block-most Crd zero = omega arith
 block-most Crd (suc b) = omega arith
@@ -38,6 +39,7 @@ column-most Rsk b = omega arith
 column-most Oth b = omega arith
 column-most Mor b = omega arith
 column-most Vol b = omega arith
+column-most Acq b = omega arith
 column-most Gen b = omega arith
 column-most Crd zero = omega arith
 column-most Crd (suc b) = omega arith
@@ -50,7 +52,9 @@ index-most k b c v = omega (arith, block-most k b, column-most k b)
 
 -- the codes of the row of a block without participation, column by column
 blockRow : List Code
-blockRow = replicate riskClasses Rsk ++ (replicate otherClasses Oth ++ (replicate volumeClasses Vol ++ replicate mortalityClasses Mor))
+blockRow =
+    replicate riskClasses Rsk
+    ++ (replicate otherClasses Oth ++ (replicate volumeClasses Vol ++ (replicate mortalityClasses Mor ++ replicate acquiredClasses Acq)))
 
 -- the codes of the row of a participating block
 participatingRow : List Code
@@ -99,6 +103,7 @@ code-at Rsk b c v = in-both Rsk b c refl refl v (v .low)
 code-at Oth b c v = in-both Oth b c refl refl v (v .low)
 code-at Mor b c v = column-code Mor b c blockRow refl v (in-block b (v .low) (v .high))
 code-at Vol b c v = column-code Vol b c blockRow refl v (in-block b (v .low) (omega (arith, v .high)))
+code-at Acq b c v = column-code Acq b c blockRow refl v (in-block b (v .low) (omega (arith, v .high)))
 code-at Gen b c v = column-code Gen b c generalRow refl v (in-general b (v .high))
 code-at Crd zero c v = column-code Crd 0 c generalRow refl v (in-general 0 (omega arith))
 code-at Crd (suc b) c v = column-code Crd (suc b) c participatingRow refl v (in-participating (suc b) (omega (arith, v .low)))

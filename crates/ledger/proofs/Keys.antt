@@ -10,7 +10,7 @@ use borrow.Author.Tests.{eqb-true, eq-eqb}
 use Rattle.search.proofs.Picks.{if-true, if-false, if-eq, by-test, never}
 use Rattle.sheet_line.specs.Codes.{codes}
 use Rattle.sheet_line.specs.declared.Code.{Code}
-use Rattle.sheet_line.specs.declared.Code.the-variants.{Rsk, Oth, Mor, Vol, Gen, Crd}
+use Rattle.sheet_line.specs.declared.Code.the-variants.{Rsk, Oth, Mor, Vol, Acq, Gen, Crd}
 use Rattle.sheet_line.specs.declared.Entry.{Entry}
 use Rattle.ledger.specs.Entries.{rank, hasKey, lookup, hasLine, SameKey, DistinctKeys}
 
@@ -25,6 +25,7 @@ ranked-rank Rsk = refl
 ranked-rank Oth = refl
 ranked-rank Mor = refl
 ranked-rank Vol = refl
+ranked-rank Acq = refl
 ranked-rank Gen = refl
 ranked-rank Crd = refl
 

@@ -16,7 +16,7 @@ use Rattle.guideline.specs.Sizes.{blocks}
 use Rattle.sheet_line.specs.Codes.{rangeOf, Key}
 use Rattle.sheet_line.specs.Rules.{AcceptedLine}
 use Rattle.sheet_line.specs.declared.Code.{Code}
-use Rattle.sheet_line.specs.declared.Code.the-variants.{Rsk, Oth, Mor, Vol, Gen, Crd}
+use Rattle.sheet_line.specs.declared.Code.the-variants.{Rsk, Oth, Mor, Vol, Acq, Gen, Crd}
 use Rattle.sheet_line.specs.declared.Entry.{Entry}
 use Rattle.ledger.specs.Entries.{markOf, ofBlock, exists}
 use Rattle.ledger.specs.Tables.{places, blockPlaces, columnsBefore, indexOf, indexFor, table, anyMark, blockMarked}
@@ -86,6 +86,7 @@ columns-of Rsk b = inl (refl, omega arith)
 columns-of Oth b = inl (refl, omega arith)
 columns-of Mor b = inr (refl, inl (omega arith))
 columns-of Vol b = inr (refl, inl (omega arith))
+columns-of Acq b = inr (refl, inl (omega arith))
 columns-of Gen b = inr (refl, inr (omega arith))
 columns-of Crd b = inr (refl, inl (omega arith))
 

@@ -2,7 +2,7 @@
 -- numbers of those entries. Assumes nothing.
 use mathlib.Core.Path.{_≡_, refl, ap, _∙_}
 use mathlib.Core.List.{List, append-assoc}
-use Prim.Native.Nat.{ℕ, zero, suc, _+_, _*_, _/_, _%_, _≤_, _<_}
+use Prim.Native.Nat.{ℕ, zero, suc, _+_, _*_, _/_, _%_, _^_, _≤_, _<_}
 use native.Mathlib.Numerals.{add-one}
 use native.Mathlib.Omega.{arith}
 use lib.Dec.{ltb}
@@ -13,46 +13,57 @@ use Rattle.guideline.specs.Sizes.{blocks, blockNumbers, volumeClasses, volumeNu
 use Rattle.sheet_line.specs.Codes.{riskClasses, otherClasses, generalClasses, scalarClass, rangeOf}
 use Rattle.sheet_line.specs.Rules.{AcceptedLine}
 use Rattle.sheet_line.specs.declared.Code.{Code}
-use Rattle.sheet_line.specs.declared.Code.the-variants.{Rsk, Oth, Vol, Gen}
+use Rattle.sheet_line.specs.declared.Code.the-variants.{Rsk, Oth, Vol, Acq, Gen}
 use Rattle.sheet_line.specs.declared.Entry.{Entry}
-use Rattle.ledger.specs.Entries.{lookup, firstOf, secondOf, markOf, hasLine, pairs, blockBy, volumesBy, blockOf, volumesOf, generalAmount}
-use Rattle.ledger.specs.Tables.{indexOf, table, tabled, hasMark}
+use Rattle.ledger.specs.Entries.{lookup, firstOf, secondOf, markOf, hasLine, pairs, blockBy, volumesBy, joinedBy, blockOf, volumesOf, generalAmount}
+use Rattle.ledger.specs.Tables.{indexOf, table, tabled, JoinedFits, hasMark}
 use Rattle.ledger.proofs.Indexes.{lookup-table}
 
 -- ---- a list written pair by pair
 
--- i pairs of two tables are written, each taken at its own index
-pub record Copied (firsts seconds : List ℕ) (index : ℕ → ℕ) (l₀ : List ℕ) (i : ℕ) (l : List ℕ) : Type 0 where
-  pub wrote : Wrote l₀ (2 * i) (pairs (λ j. getD firsts (index j) 0) (λ j. getD seconds (index j) 0) i) l
+-- the first i pairs are written
+pub record Copied (f g : ℕ → ℕ) (l₀ : List ℕ) (i : ℕ) (l : List ℕ) : Type 0 where
+  pub wrote : Wrote l₀ (2 * i) (pairs f g i) l
 
-module _ {firsts seconds : List ℕ} {index : ℕ → ℕ} {l₀ : List ℕ} where
-  pub no-pair : Copied firsts seconds index l₀ 0 l₀
+module _ {f g : ℕ → ℕ} {l₀ : List ℕ} where
+  pub no-pair : Copied f g l₀ 0 l₀
   unfolding pairs
   no-pair = record { wrote = nothing l₀ }
 
-  pub next-pair : {i at : ℕ} {l : List ℕ} → Copied firsts seconds index l₀ i l → 2 * i + 1 < length l₀ → at ≡ index i
-      → Copied firsts seconds index l₀ (i + 1) (set (set l (2 * i) (getD firsts at 0)) (2 * i + 1) (getD seconds at 0))
+  pub next-pair : {i x y : ℕ} {l : List ℕ} → Copied f g l₀ i l → 2 * i + 1 < length l₀ → x ≡ f i → y ≡ g i
+      → Copied f g l₀ (i + 1) (set (set l (2 * i) x) (2 * i + 1) y)
   unfolding pairs
-  next-pair {i} W h p =
+  next-pair {i} W h p q =
       let e : 2 * (i + 1) ≡ suc (suc (2 * i)) = omega arith in
-      record { wrote = rw (e, add-one i, add-one (2 * i), p) (next (next (W .wrote) (getD firsts (index i) 0) (omega arith)) (getD seconds (index i) 0) (omega arith)) }
+      record { wrote = rw (e, add-one i, add-one (2 * i), p, q) (next (next (W .wrote) (f i) (omega arith)) (g i) (omega arith)) }
 
 -- the pairs of a block, and the three amounts after them
-pub block-written : (b : ℕ) {firsts seconds l₀ l : List ℕ} {x y z i : ℕ} → length l₀ ≡ blockNumbers
-    → Copied firsts seconds (λ j. indexOf Rsk b (j + 1)) l₀ i l → i ≡ riskClasses
+pub block-written : (b : ℕ) (firsts seconds : List ℕ) {l₀ l : List ℕ} {x y z i : ℕ} → length l₀ ≡ blockNumbers
+    → Copied (λ j. tabled firsts Rsk b (j + 1)) (λ j. tabled seconds Rsk b (j + 1)) l₀ i l → i ≡ riskClasses
     → x ≡ tabled firsts Oth b 1 → y ≡ tabled firsts Oth b 2 → z ≡ tabled firsts Oth b 3
     → set (set (set l 14 x) 15 y) 16 z ≡ blockBy (tabled firsts) (tabled seconds) b
 unfolding blockBy
-block-written b {firsts} h W e p q r =
+block-written b firsts seconds h W e p q r =
     let W′ = next (next (next (rw e at (W .wrote)) (tabled firsts Oth b 1) (omega arith)) (tabled firsts Oth b 2) (omega arith)) (tabled firsts Oth b 3) (omega arith) in
     rw (p, q, r) (all-written W′ (omega arith) ∙ simp append-assoc)
 
+-- the two prior amounts of a pair fit a word together
+pub joined-fits : {firsts seconds : List ℕ} → JoinedFits firsts seconds → (i : ℕ) → i < volumePairs → {p q : ℕ}
+    → p ≡ indexOf Vol (i / volumeClasses + 1) (i % volumeClasses + 1) → q ≡ indexOf Acq (i / volumeClasses + 1) (i % volumeClasses + 1)
+    → getD seconds p 0 + getD firsts q 0 < 2 ^ 64
+joined-fits fits i h e d = rw (e, d) (fits .each _ _ (record { low = omega arith; high = omega arith; one = omega arith; most = omega arith }))
+
+-- a pair of a territory's class, joined
+abbrev pub Joined : List ℕ → List ℕ → List ℕ → ℕ → List ℕ → Type 0
+Joined firsts seconds =
+    Copied (λ j. tabled firsts Vol (j / volumeClasses + 1) (j % volumeClasses + 1))
+    (λ j. tabled seconds Vol (j / volumeClasses + 1) (j % volumeClasses + 1) + tabled firsts Acq (j / volumeClasses + 1) (j % volumeClasses + 1))
+
 -- the pairs of all territories
-pub volumes-written : {firsts seconds l₀ l : List ℕ} {i : ℕ} → length l₀ ≡ volumeNumbers
-    → Copied firsts seconds (λ j. indexOf Vol (j / volumeClasses + 1) (j % volumeClasses + 1)) l₀ i l → i ≡ volumePairs
-    → l ≡ volumesBy (tabled firsts) (tabled seconds)
+pub volumes-written : (firsts seconds : List ℕ) {l₀ l : List ℕ} {i : ℕ} → length l₀ ≡ volumeNumbers → Joined firsts seconds l₀ i l → i ≡ volumePairs
+    → l ≡ joinedBy (tabled firsts) (tabled seconds)
 unfolding volumesBy
-volumes-written h W e = all-written (rw e at (W .wrote)) (omega arith)
+volumes-written firsts seconds h W e = all-written (rw e at (W .wrote)) (omega arith)
 
 -- ---- the numbers of entries
 
@@ -61,6 +72,12 @@ unfolding pairs
 pairs-same f g f′ g′ zero p q = refl
 pairs-same f g f′ g′ (suc n) p q =
     rw (pairs-same f g f′ g′ n (λ i h. p i (omega arith)) (λ i h. q i (omega arith)), p n (omega arith), q n (omega arith))
+
+-- where nothing was acquired, the volumes are those of the VOL lines
+pub none-acquired : (es : List Entry) → ((b c : ℕ) → lookup firstOf es Acq b c ≡ 0) → volumesOf es ≡ volumesBy (lookup firstOf es) (lookup secondOf es)
+unfolding volumesBy
+none-acquired es z =
+    pairs-same _ _ _ _ volumePairs (λ i l. refl) (λ i l. omega (arith, z (i / volumeClasses + 1) (i % volumeClasses + 1)))
 
 module _ (es : List Entry) (all : Each AcceptedLine es) where
   -- a code's line, where block and class are in its range
@@ -79,13 +96,17 @@ module _ (es : List Entry) (all : Each AcceptedLine es) where
       other : (c : ℕ) → (1 ≤ c) × (c ≤ otherClasses) → tabled (table firstOf es) Oth b c ≡ lookup firstOf es Oth b c
       other c l = entry-at Oth b c h l firstOf
 
-  pub volumes-table : volumesBy (tabled (table firstOf es)) (tabled (table secondOf es)) ≡ volumesOf es
+  pub volumes-table : joinedBy (tabled (table firstOf es)) (tabled (table secondOf es)) ≡ volumesOf es
   unfolding volumesBy
-  volumes-table = pairs-same _ _ _ _ volumePairs (λ i l. volume i l firstOf) (λ i l. volume i l secondOf)
+  volumes-table = pairs-same _ _ _ _ volumePairs (λ i l. volume i l firstOf) (λ i l. rw (volume i l secondOf, acquired i l))
     where
       volume : (i : ℕ) → i < volumePairs → (f : Entry → ℕ)
           → tabled (table f es) Vol (i / volumeClasses + 1) (i % volumeClasses + 1) ≡ lookup f es Vol (i / volumeClasses + 1) (i % volumeClasses + 1)
       volume i l = entry-at Vol (i / volumeClasses + 1) (i % volumeClasses + 1) (omega arith, omega arith) (omega arith, omega arith)
+
+      acquired : (i : ℕ) → i < volumePairs
+          → tabled (table firstOf es) Acq (i / volumeClasses + 1) (i % volumeClasses + 1) ≡ lookup firstOf es Acq (i / volumeClasses + 1) (i % volumeClasses + 1)
+      acquired i l = entry-at Acq (i / volumeClasses + 1) (i % volumeClasses + 1) (omega arith, omega arith) (omega arith, omega arith) firstOf
 
   pub general-table : (c : ℕ) → (1 ≤ c) × (c ≤ generalClasses) → tabled (table firstOf es) Gen 0 c ≡ generalAmount es c
   general-table c h = entry-at Gen 0 c (omega arith, omega arith) h firstOf

@@ -10,17 +10,18 @@ use Rattle.search.specs.Pick.{pick}
 use Rattle.guideline.specs.Sizes.{volumeClasses, volumePairs}
 use Rattle.sheet_line.specs.Codes.{riskClasses}
 use Rattle.sheet_line.specs.declared.Code.{Code}
-use Rattle.sheet_line.specs.declared.Code.the-variants.{Rsk, Oth, Mor, Vol, Gen, Crd}
+use Rattle.sheet_line.specs.declared.Code.the-variants.{Rsk, Oth, Mor, Vol, Acq, Gen, Crd}
 use Rattle.sheet_line.specs.declared.Entry.{Entry}
 
--- a code's place in the order of codes, 'RSK, OTH, MOR, VOL, GEN, CRD' (document 02, #105)
+-- a code's place in the order of codes, 'RSK, OTH, MOR, VOL, GEN, CRD' (document 02, #105), with ACQ, which 'stands after VOL' (#106)
 abbrev pub rank : Code → ℕ
 rank Rsk = 0
 rank Oth = 1
 rank Mor = 2
 rank Vol = 3
-rank Gen = 4
-rank Crd = 5
+rank Acq = 4
+rank Gen = 5
+rank Crd = 6
 
 -- whether an entry has this code, block and class
 unfoldable pub hasKey : Code → ℕ → ℕ → Entry → Bool
@@ -74,6 +75,7 @@ ofBlock Rsk = true
 ofBlock Oth = true
 ofBlock Mor = false
 ofBlock Vol = false
+ofBlock Acq = false
 ofBlock Gen = false
 ofBlock Crd = false
 
@@ -98,13 +100,18 @@ volumesBy first second =
     pairs (λ i. first Vol (i / volumeClasses + 1) (i % volumeClasses + 1)) (λ i. second Vol (i / volumeClasses + 1) (i % volumeClasses + 1))
     volumePairs
 
+-- the volumes with joined priors: 'A line ACQ .. gives the acquired prior amount, added to the prior of that class before the 120 %' (document 02,
+-- #106), since section 8.2.2 of document 003 counts the prior amount of both parties
+abbrev pub joinedBy : (Code → ℕ → ℕ → ℕ) → (Code → ℕ → ℕ → ℕ) → List ℕ
+joinedBy first second = volumesBy first (λ k b c. second k b c + first Acq b c)
+
 -- the 17 numbers of a block
 abbrev pub blockOf : List Entry → ℕ → List ℕ
 blockOf es b = blockBy (lookup firstOf es) (lookup secondOf es) b
 
 -- the volumes of all territories
 abbrev pub volumesOf : List Entry → List ℕ
-volumesOf es = volumesBy (lookup firstOf es) (lookup secondOf es)
+volumesOf es = joinedBy (lookup firstOf es) (lookup secondOf es)
 
 -- 'GEN: 1 gross components, 2 guarantee requirement, 3 ceded premiums, 4 g, 5 credits'
 abbrev pub generalAmount : List Entry → ℕ → ℕ

@@ -1,6 +1,6 @@
 -- The order of a sheet's lines, and what admits a line after those before it. Document 02, #105: 'Lines now ascend strictly by code, in the order
 -- RSK, OTH, MOR, VOL, GEN, CRD, then by block, then by class. It refuses, as number 19 with its line, a line that doesn't come after the one before
--- it, tested after 11.' Assumes nothing.
+-- it, tested after 11.' ACQ 'stands after VOL in the order of lines' (#106). Assumes nothing.
 use mathlib.Core.Path.{_≡_}
 use mathlib.Core.Logic.{_⊎_, inl, inr, _↔_}
 use mathlib.Core.Bool.{Bool}

@@ -1,17 +1,17 @@
--- The tables that hold a sheet's entries: a row for each block, with a column for each class that RSK, OTH, VOL, MOR and CRD have, and row 0
--- for GEN and CRD. First amounts, second amounts and marks have a table each. Assumes nothing.
+-- The tables that hold a sheet's entries: a row for each block, with a column for each class that RSK, OTH, VOL, MOR, ACQ and CRD have, and
+-- row 0 for GEN and CRD. First amounts, second amounts and marks have a table each. Assumes nothing.
 use mathlib.Core.Path.{_≡_}
-use Prim.Native.Nat.{ℕ, zero, suc, _+_, _-_, _*_}
+use Prim.Native.Nat.{ℕ, zero, suc, _+_, _-_, _*_, _^_, _<_}
 use mathlib.Core.List.{List, [], _∷_}
 use mathlib.Core.Bool.{Bool, true, false}
 use lib.Dec.{ltb, eqb}
 use lib.ListN.{getD, set, replicate}
 use Rattle.search.specs.Pick.{pick}
-use Rattle.guideline.specs.Sizes.{nonParticipating, participating, blocks, volumeClasses, volumePairs, adjustableProducts}
-use Rattle.sheet_line.specs.Codes.{riskClasses, otherClasses, mortalityClasses, generalClasses, dividendClasses}
+use Rattle.guideline.specs.Sizes.{nonParticipating, participating, blocks, territories, volumeClasses, volumePairs, adjustableProducts}
+use Rattle.sheet_line.specs.Codes.{riskClasses, otherClasses, mortalityClasses, acquiredClasses, generalClasses, dividendClasses, Key}
 use Rattle.sheet_line.specs.Line.{sheetLineBytes}
 use Rattle.sheet_line.specs.declared.Code.{Code}
-use Rattle.sheet_line.specs.declared.Code.the-variants.{Rsk, Oth, Mor, Vol, Gen, Crd}
+use Rattle.sheet_line.specs.declared.Code.the-variants.{Rsk, Oth, Mor, Vol, Acq, Gen, Crd}
 use Rattle.sheet_line.specs.declared.Entry.{Entry}
 use Rattle.sheet_line.specs.declared.Line.{Line}
 use Rattle.sheet_line.specs.declared.Line.the-variants.{Good, Refused}
@@ -24,19 +24,20 @@ use Rattle.ledger.specs.declared.Answer.{Answer}
 abbrev pub blockPlaces : ℕ
 blockPlaces = riskClasses + otherClasses
 
--- the places of a row. The columns behind RSK and OTH are VOL's and MOR's in the rows of blocks 1 to 16, and CRD's, of which row 0 has the
--- most, in the others
+-- the places of a row. The columns behind RSK and OTH are VOL's, MOR's and ACQ's in the rows of blocks 1 to 16, which have the most, and CRD's in
+-- the others
 abbrev pub rowPlaces : ℕ
-rowPlaces = blockPlaces + adjustableProducts
+rowPlaces = blockPlaces + volumeClasses + mortalityClasses + acquiredClasses
 
 -- the places of a table: a row for each block, and row 0
 abbrev pub places : ℕ
 places = rowPlaces * (blocks + 1)
 
--- the lines that a sheet can have, one for each code, block and class: 501
+-- the lines that a sheet can have, one for each code, block and class: 629
 abbrev pub mostLines : ℕ
 mostLines =
-    blocks * blockPlaces + nonParticipating * mortalityClasses + volumePairs + generalClasses + participating * dividendClasses + adjustableProducts
+    blocks * blockPlaces + nonParticipating * mortalityClasses + volumePairs + territories * acquiredClasses + generalClasses
+    + participating * dividendClasses + adjustableProducts
 
 -- the bytes of that many lines
 abbrev pub longestSheet : ℕ
@@ -48,6 +49,7 @@ columnsBefore Rsk = 0
 columnsBefore Oth = riskClasses
 columnsBefore Mor = blockPlaces + volumeClasses
 columnsBefore Vol = blockPlaces
+columnsBefore Acq = blockPlaces + volumeClasses + mortalityClasses
 columnsBefore Gen = 0
 columnsBefore Crd = blockPlaces
 
@@ -87,6 +89,10 @@ pub record Entered (e : Entry) (f s f′ s′ : List ℕ) : Type 0 where
 -- what a table holds for a code, block and class
 abbrev pub tabled : List ℕ → Code → ℕ → ℕ → ℕ
 tabled l k b c = getD l (indexOf k b c) 0
+
+-- each prior amount fits a word with the acquired one
+pub record JoinedFits (firsts seconds : List ℕ) : Type 0 where
+  pub each : (b c : ℕ) → Key Acq b c → tabled seconds Vol b c + tabled firsts Acq b c < 2 ^ 64
 
 -- whether a table of marks has one for a code, block and class
 abbrev pub hasMark : List ℕ → Code → ℕ → ℕ → Bool

@@ -1,20 +1,21 @@
 // The lines of a sheet read into tables that the caller lends, and the figures that are taken off them.
 //
-// A table has a row for each block, with a column for each class that RSK, OTH, VOL, MOR and CRD have, and row 0 for GEN and CRD. The marks of the lines
-// that stood before are a table of their own.
+// A table has a row for each block, with a column for each class that RSK, OTH, VOL, MOR, ACQ and CRD have, and row 0 for GEN and CRD. The marks of the
+// lines that stood before are a table of their own.
 ghost use mathlib.Core.Path.{_≡_};
 ghost use Prim.Native.Nat.{_+_, _≤_, _<_};
 ghost use Rattle.sheet_line.specs.Codes.{generalClasses, scalarClass, Key};
 ghost use Rattle.guideline.specs.Sizes.{blocks};
-ghost use Rattle.ledger.specs.Entries.{rank, blockBy, volumesBy};
+ghost use Rattle.ledger.specs.Entries.{rank, blockBy, joinedBy};
 ghost use Rattle.ledger.specs.Order.{orderBase, keyFor, Keyed};
 ghost use Rattle.ledger.specs.Reading.{reading};
-ghost use Rattle.ledger.specs.Tables.{places, columnsBefore, indexOf, indexFor, Empty, Filled, Entered, tabled, hasMark, Admits, blockMarked};
+ghost use Rattle.ledger.specs.Tables.{places, columnsBefore, indexOf, indexFor, Empty, Filled, Entered, tabled, JoinedFits, hasMark, Admits, blockMarked};
 use guideline::ADJUSTABLE_PRODUCTS;
 use guideline::BLOCK_NUMBERS;
 use guideline::BLOCKS;
 use guideline::NON_PARTICIPATING;
 use guideline::PARTICIPATING;
+use guideline::TERRITORIES;
 use guideline::VOLUME_CLASSES;
 use guideline::VOLUME_NUMBERS;
 use guideline::VOLUME_PAIRS;
@@ -23,6 +24,7 @@ use sheet_line::Code;
 use sheet_line::Entry;
 use sheet_line::Line;
 use sheet_line::SHEET_LINE_BYTES;
+use sheet_line::codes::ACQUIRED_CLASSES;
 use sheet_line::codes::DIVIDEND_CLASSES;
 use sheet_line::codes::GENERAL_CLASSES;
 use sheet_line::codes::MORTALITY_CLASSES;
@@ -37,6 +39,7 @@ const BLOCK_PLACES: usize = RISK_CLASSES + OTHER_CLASSES;
 pub const MOST_LINES: usize = BLOCKS * BLOCK_PLACES
     + NON_PARTICIPATING * MORTALITY_CLASSES
     + VOLUME_PAIRS
+    + TERRITORIES * ACQUIRED_CLASSES
     + GENERAL_CLASSES
     + PARTICIPATING * DIVIDEND_CLASSES
     + ADJUSTABLE_PRODUCTS;
@@ -44,8 +47,8 @@ pub const MOST_LINES: usize = BLOCKS * BLOCK_PLACES
 // The bytes of that many lines.
 pub const LONGEST_SHEET: usize = SHEET_LINE_BYTES * MOST_LINES;
 
-// The places of a row. The columns behind RSK and OTH are VOL's and MOR's in the rows of blocks 1 to 16, and CRD's in the others.
-const ROW_PLACES: usize = BLOCK_PLACES + ADJUSTABLE_PRODUCTS;
+// The places of a row. The columns behind RSK and OTH are VOL's, MOR's and ACQ's in the rows of blocks 1 to 16, and CRD's in the others.
+const ROW_PLACES: usize = BLOCK_PLACES + VOLUME_CLASSES + MORTALITY_CLASSES + ACQUIRED_CLASSES;
 
 // A power of two above every block and class, which have two columns each.
 const ORDER_BASE: u64 = 128;
@@ -126,8 +129,9 @@ fn rank(code: Code) -> u64
         Code::Oth => 1,
         Code::Mor => 2,
         Code::Vol => 3,
-        Code::Gen => 4,
-        Code::Crd => 5,
+        Code::Acq => 4,
+        Code::Gen => 5,
+        Code::Crd => 6,
     }
 }
 
@@ -175,6 +179,7 @@ fn columns_before(code: Code) -> usize
         Code::Oth => RISK_CLASSES,
         Code::Mor => BLOCK_PLACES + VOLUME_CLASSES,
         Code::Vol => BLOCK_PLACES,
+        Code::Acq => BLOCK_PLACES + VOLUME_CLASSES + MORTALITY_CLASSES,
         Code::Gen => 0,
         Code::Crd => BLOCK_PLACES,
     }
@@ -203,16 +208,20 @@ pub fn block_numbers(
     numbers
 }
 
-// The volumes of all territories, eight pairs current, prior each.
+// The volumes of all territories, eight pairs current, prior each, the prior one joined with the acquired one.
 pub fn volume_numbers(firsts: &[u64; PLACES], seconds: &[u64; PLACES]) -> [u64; VOLUME_NUMBERS]
-    ensures { λ r. ⌜ r ≡ volumesBy (tabled (now (firsts .entry))) (tabled (now (seconds .entry))) ⌝ }
+    requires { ⌜ JoinedFits (now firsts) (now seconds) ⌝ }
+    ensures { λ r. ⌜ r ≡ joinedBy (tabled (now (firsts .entry))) (tabled (now (seconds .entry))) ⌝ }
 {
     let mut numbers = [0u64; VOLUME_NUMBERS];
     let mut i = 0;
     while i < VOLUME_PAIRS {
-        let at = index_of(Code::Vol, i / VOLUME_CLASSES + 1, i % VOLUME_CLASSES + 1);
+        let territory = i / VOLUME_CLASSES + 1;
+        let class = i % VOLUME_CLASSES + 1;
+        let at = index_of(Code::Vol, territory, class);
+        let acquired = firsts[index_of(Code::Acq, territory, class)];
         numbers[2 * i] = firsts[at];
-        numbers[2 * i + 1] = seconds[at];
+        numbers[2 * i + 1] = seconds[at] + acquired;
         i += 1;
     }
     numbers

@@ -1,7 +1,7 @@
 -- Rules 15 and 7 of the operational call, by what its tests find; the general figures' positions follow the volumes'. Assumes nothing.
 use mathlib.Core.Path.{_≡_, sym, ap, _∙_}
 use mathlib.Core.List.{List, [], _∷_, _++_}
-use Prim.Native.Nat.{ℕ, _+_, _%_, _≤_, _<_}
+use Prim.Native.Nat.{ℕ, _+_, _*_, _%_, _≤_, _<_}
 use native.Mathlib.Omega.{arith}
 use lib.ListN.{length, length-append}
 use Rattle.search.proofs.Picks.{if-lt, if-ge, if-eq}
@@ -48,4 +48,4 @@ module _ (l g : List ℕ) where
     amounts n k =
         let v = none-above l (omega arith) in
         let w = none-above g (omega arith) in
-        record { short = n; volumes = v; gross = w 0; guarantee = w 1; ceded = w 2 }
+        record { short = n; currents = λ j. v (2 * j); priors = λ j. omega (arith, v (2 * j + 1)); gross = w 0; guarantee = w 1; ceded = w 2 }

@@ -6,7 +6,7 @@ ghost use lib.ListN.{length, getD};
 ghost use Rattle.search.specs.Least.{least};
 ghost use Rattle.amount.specs.Amount.{limit};
 ghost use Rattle.guideline.specs.Sizes.{volumeNumbers};
-ghost use Rattle.guideline.specs.Operational.{OperationalAmounts, largestFactor, volume, growth, generalRequirement, operationalDenominator, RO};
+ghost use Rattle.guideline.specs.Operational.{OperationalAmounts, largestFactor, current, prior, volume, growth, generalRequirement, operationalDenominator, RO};
 ghost use Rattle.operational.specs.Call.{stated, operationalCall};
 use guideline::GENERAL_FIGURES;
 use guideline::OPERATIONAL_DENOMINATOR;
@@ -62,7 +62,7 @@ fn general_requirement(figures: &[u64; GENERAL_FIGURES]) -> u64
 // Volume and growth of all classes of all territories, over 50,000.
 fn business(volumes: &[u64]) -> u64
     requires { ⌜ length (now volumes) ≤ volumeNumbers ⌝ }
-    requires { ⌜ ((k : ℕ) → getD (now volumes) k 0 ≤ limit) ⌝ }
+    requires { ⌜ ((k : ℕ) → current (now volumes) k ≤ limit) × ((k : ℕ) → prior (now volumes) k ≤ 2 * limit) ⌝ }
     ensures { λ r. ⌜ r ≡ 5 * volume (now (volumes .entry)) + growth (now (volumes .entry)) ⌝ }
 {
     let n = volumes.len() / 2;
@@ -81,7 +81,7 @@ fn business(volumes: &[u64]) -> u64
 
 // A class in a territory, over 50,000. The excess over 120 % of the prior volume is in fifths, so that none is lost.
 fn charge(factor: u64, current: u64, prior: u64) -> u64
-    requires { ⌜ (factor ≤ largestFactor) × (current ≤ limit) × (prior ≤ limit) ⌝ }
+    requires { ⌜ (factor ≤ largestFactor) × (current ≤ limit) × (prior ≤ 2 * limit) ⌝ }
     ensures { λ r. ⌜ r ≡ factor * (5 * current + (5 * current - 6 * prior)) ⌝ }
 {
     factor * (5 * current + amount::excess(5 * current, 6 * prior))

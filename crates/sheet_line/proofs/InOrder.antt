@@ -14,7 +14,7 @@ use Rattle.sheet_line.specs.Line.{sheetLineBytes, spaced, layoutOf, lett
 use Rattle.sheet_line.specs.Rules.{outside, blockOutside, classOutside, secondBarred, trendAbove, scalarOutside}
 use Rattle.sheet_line.specs.Rules.{rule5, rule6, rule8, parseLine}
 use Rattle.sheet_line.specs.declared.Code.{Code}
-use Rattle.sheet_line.specs.declared.Code.the-variants.{Rsk, Oth, Mor, Vol, Gen, Crd}
+use Rattle.sheet_line.specs.declared.Code.the-variants.{Rsk, Oth, Mor, Vol, Acq, Gen, Crd}
 use Rattle.sheet_line.specs.declared.codes.Coded.the-variants.{Unknown}
 use Rattle.sheet_line.specs.declared.columns.Layout.the-variants.{Broken}
 use Rattle.sheet_line.specs.declared.Entry.{Entry}
@@ -72,5 +72,6 @@ not-both e = apart (e .code) (e .class) (e .first) (e .second)
     apart Oth c first second h = refl
     apart Mor c first second h = refl
     apart Vol c first second h = refl
+    apart Acq c first second h = refl
     apart Gen c first second h = never (cc)
     apart Crd c first second h = refl

@@ -23,7 +23,7 @@ use Rattle.sheet_line.specs.Line.{sheetLineBytes, byteAt, spaced, separa
 use Rattle.sheet_line.specs.Rules.{outside, singleOf, secondBarred, hasTrend, trendAbove, isScalar, scalarOutside}
 use Rattle.sheet_line.specs.Rules.{rule5, rule6, rule8, rule9, rule10, parseLine, AcceptedLine}
 use Rattle.sheet_line.specs.declared.Code.{Code}
-use Rattle.sheet_line.specs.declared.Code.the-variants.{Rsk, Oth, Mor, Vol, Gen, Crd}
+use Rattle.sheet_line.specs.declared.Code.the-variants.{Rsk, Oth, Mor, Vol, Acq, Gen, Crd}
 use Rattle.sheet_line.specs.declared.codes.Coded.the-variants.{Known}
 use Rattle.sheet_line.specs.declared.columns.Layout.the-variants.{Kept}
 use Rattle.sheet_line.specs.declared.Entry.{Entry}
@@ -37,6 +37,7 @@ three-letters Rsk = refl
 three-letters Oth = refl
 three-letters Mor = refl
 three-letters Vol = refl
+three-letters Acq = refl
 three-letters Gen = refl
 three-letters Crd = refl
 
@@ -69,6 +70,7 @@ printed-code Rsk e = refl
 printed-code Oth e = refl
 printed-code Mor e = refl
 printed-code Vol e = refl
+printed-code Acq e = refl
 printed-code Gen e = refl
 printed-code Crd e = refl
 
@@ -98,6 +100,7 @@ key-small Rsk b c v = omega arith
 key-small Oth b c v = omega arith
 key-small Mor b c v = omega arith
 key-small Vol b c v = omega arith
+key-small Acq b c v = omega arith
 key-small Gen b c v = omega arith
 key-small Crd zero c v = omega arith
 key-small Crd (suc b) c v = omega arith

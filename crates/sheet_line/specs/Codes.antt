@@ -8,21 +8,22 @@ use lib.ListN.{getD}
 use Rattle.search.specs.Pick.{pick}
 use Rattle.guideline.specs.Sizes.{nonParticipating, blocks, risks, otherAmounts, territories, volumeClasses, adjustableProducts}
 use Rattle.sheet_line.specs.declared.Code.{Code}
-use Rattle.sheet_line.specs.declared.Code.the-variants.{Rsk, Oth, Mor, Vol, Gen, Crd}
+use Rattle.sheet_line.specs.declared.Code.the-variants.{Rsk, Oth, Mor, Vol, Acq, Gen, Crd}
 use Rattle.sheet_line.specs.declared.codes.Coded.{Coded}
 use Rattle.sheet_line.specs.declared.codes.Coded.the-variants.{Known, Unknown}
 use Rattle.sheet_line.specs.declared.codes.Range.{Range}
 
--- the codes, in the table's order, with document 02's MOR after OTH and CRD last
+-- the codes, in the table's order, with document 02's MOR after OTH, ACQ after VOL and CRD last
 abbrev pub codes : List Code
-codes = Rsk ∷ Oth ∷ Mor ∷ Vol ∷ Gen ∷ Crd ∷ []
+codes = Rsk ∷ Oth ∷ Mor ∷ Vol ∷ Acq ∷ Gen ∷ Crd ∷ []
 
--- the bytes of a code: RSK, OTH, MOR, VOL, GEN, CRD
+-- the bytes of a code: RSK, OTH, MOR, VOL, ACQ, GEN, CRD
 abbrev pub lettersOf : Code → List ℕ
 lettersOf Rsk = 82 ∷ 83 ∷ 75 ∷ []
 lettersOf Oth = 79 ∷ 84 ∷ 72 ∷ []
 lettersOf Mor = 77 ∷ 79 ∷ 82 ∷ []
 lettersOf Vol = 86 ∷ 79 ∷ 76 ∷ []
+lettersOf Acq = 65 ∷ 67 ∷ 81 ∷ []
 lettersOf Gen = 71 ∷ 69 ∷ 78 ∷ []
 lettersOf Crd = 67 ∷ 82 ∷ 68 ∷ []
 
@@ -41,6 +42,10 @@ otherClasses = otherAmounts
 -- MOR's classes: one, that of S and T, 'the level and trend sums for survival and death products' (document 02, #101)
 abbrev pub mortalityClasses : ℕ
 mortalityClasses = 1
+
+-- ACQ's classes: those of the volumes, of which it has the acquired prior amounts (document 02, #106)
+abbrev pub acquiredClasses : ℕ
+acquiredClasses = volumeClasses
 
 -- GEN's classes: gross components to credits
 abbrev pub generalClasses : ℕ
@@ -70,13 +75,14 @@ creditsClass = 5
 abbrev pub scalarClass : ℕ
 scalarClass = 4
 
--- the columns Block and Class of the table, for the range that a block falls under: 1–32 and 1–7, 1–32 and 1–3, 1–16 and 1, 1–16 and 1–8,
--- 0 and 1–5; of CRD 0 and 1–16, or 17–32 and 1
+-- the columns Block and Class of the table, for the range that a block falls under: 1–32 and 1–7, 1–32 and 1–3, 1–16 and 1, 1–16 and 1–8
+-- twice, 0 and 1–5; of CRD 0 and 1–16, or 17–32 and 1
 abbrev pub rangeOf : Code → ℕ → Range
 rangeOf Rsk b = record { lowest = 1; highest = blocks; classes = riskClasses }
 rangeOf Oth b = record { lowest = 1; highest = blocks; classes = otherClasses }
 rangeOf Mor b = record { lowest = 1; highest = nonParticipating; classes = mortalityClasses }
 rangeOf Vol b = record { lowest = 1; highest = territories; classes = volumeClasses }
+rangeOf Acq b = record { lowest = 1; highest = territories; classes = acquiredClasses }
 rangeOf Gen b = record { lowest = 0; highest = 0; classes = generalClasses }
 rangeOf Crd zero = record { lowest = 0; highest = 0; classes = adjustableProducts }
 rangeOf Crd (suc b) = record { lowest = nonParticipating + 1; highest = blocks; classes = dividendClasses }

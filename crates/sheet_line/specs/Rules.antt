@@ -12,7 +12,7 @@ use Rattle.guideline.specs.Sizes.{largestScalar}
 use Rattle.sheet_line.specs.Codes.{expensesClass, scalarClass, rangeOf, Key, codeOf}
 use Rattle.sheet_line.specs.Line.{layoutOf}
 use Rattle.sheet_line.specs.declared.Code.{Code}
-use Rattle.sheet_line.specs.declared.Code.the-variants.{Rsk, Oth, Mor, Vol, Gen, Crd}
+use Rattle.sheet_line.specs.declared.Code.the-variants.{Rsk, Oth, Mor, Vol, Acq, Gen, Crd}
 use Rattle.sheet_line.specs.declared.codes.Coded.{Coded}
 use Rattle.sheet_line.specs.declared.codes.Coded.the-variants.{Known, Unknown}
 use Rattle.sheet_line.specs.declared.columns.Numbers.{Numbers}
@@ -36,12 +36,13 @@ blockOutside e = outside (rangeOf (e .code) (e .block) .lowest) (rangeOf (e .cod
 abbrev pub classOutside : Entry → Bool
 classOutside e = outside 1 (rangeOf (e .code) (e .block) .classes) (e .class)
 
--- the lines that have one amount alone: OTH, GEN, CRD, and RSK's expenses, as LT(7) is zero
+-- the lines that have one amount alone: OTH, ACQ, GEN, CRD, and RSK's expenses, as LT(7) is zero
 abbrev pub singleOf : Code → ℕ → Bool
 singleOf Rsk c = eqb c expensesClass
 singleOf Oth c = true
 singleOf Mor c = false
 singleOf Vol c = false
+singleOf Acq c = true
 singleOf Gen c = true
 singleOf Crd c = true
 
@@ -55,6 +56,7 @@ hasTrend Rsk = true
 hasTrend Oth = false
 hasTrend Mor = false
 hasTrend Vol = false
+hasTrend Acq = false
 hasTrend Gen = false
 hasTrend Crd = false
 
@@ -68,6 +70,7 @@ isScalar Rsk c = false
 isScalar Oth c = false
 isScalar Mor c = false
 isScalar Vol c = false
+isScalar Acq c = false
 isScalar Gen c = eqb c scalarClass
 isScalar Crd c = false
 
@@ -101,7 +104,7 @@ rule5 e = pick (blockOutside e) (Refused 5) (rule6 e)
 abbrev pub entryOf : Code → Numbers → Entry
 entryOf k n = record { code = k; block = n .block; class = n .class; first = n .first; second = n .second }
 
--- rule 4: 'code isn't one of the four', six with MOR and CRD; then rule 5
+-- rule 4: 'code isn't one of the four', seven with MOR, ACQ and CRD; then rule 5
 abbrev pub rule4 : Coded → Numbers → Line
 rule4 Unknown n = Refused 4
 rule4 (Known k) n = rule5 (entryOf k n)

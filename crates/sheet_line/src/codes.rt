@@ -38,6 +38,9 @@ pub const OTHER_CLASSES: usize = OTHER_AMOUNTS;
 // MOR's classes: one, that of S and T.
 pub const MORTALITY_CLASSES: usize = 1;
 
+// ACQ's classes: those of the volumes.
+pub const ACQUIRED_CLASSES: usize = VOLUME_CLASSES;
+
 // GEN's classes: gross components to credits.
 pub const GENERAL_CLASSES: usize = 5;
 
@@ -75,6 +78,9 @@ pub(crate) fn read_code(s: &[u8]) -> Coded
     }
     if starts_with(s, b"VOL") {
         return Coded::Known(Code::Vol);
+    }
+    if starts_with(s, b"ACQ") {
+        return Coded::Known(Code::Acq);
     }
     if starts_with(s, b"GEN") {
         return Coded::Known(Code::Gen);
@@ -123,6 +129,11 @@ pub(crate) fn range_of(code: Code, block: u64) -> Range
             lowest: 1,
             highest: TERRITORIES as u64,
             classes: VOLUME_CLASSES as u64,
+        },
+        Code::Acq => Range {
+            lowest: 1,
+            highest: TERRITORIES as u64,
+            classes: ACQUIRED_CLASSES as u64,
         },
         Code::Gen => Range {
             lowest: 0,

@@ -20,6 +20,7 @@ pub enum Code {
     Oth,
     Mor,
     Vol,
+    Acq,
     Gen,
     Crd,
 }

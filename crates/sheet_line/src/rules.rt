@@ -22,7 +22,7 @@ pub(crate) fn rule_3(layout: Layout, coded: Coded) -> Line
     rule_4(coded, n)
 }
 
-// Rule 4: the code isn't one of the six.
+// Rule 4: the code isn't one of the seven.
 fn rule_4(coded: Coded, n: Numbers) -> Line
     ensures { λ r. ⌜ r ≡ rule4 coded n ⌝ }
 {
@@ -124,6 +124,7 @@ fn single(code: Code, class: u64) -> bool
         Code::Oth => true,
         Code::Mor => false,
         Code::Vol => false,
+        Code::Acq => true,
         Code::Gen => true,
         Code::Crd => true,
     }
@@ -149,6 +150,7 @@ fn has_trend(code: Code) -> bool
         Code::Oth => false,
         Code::Mor => false,
         Code::Vol => false,
+        Code::Acq => false,
         Code::Gen => false,
         Code::Crd => false,
     }
@@ -173,6 +175,7 @@ fn is_scalar(code: Code, class: u64) -> bool
         Code::Oth => false,
         Code::Mor => false,
         Code::Vol => false,
+        Code::Acq => false,
         Code::Gen => class == SCALAR_CLASS as u64,
         Code::Crd => false,
     }

@@ -15,6 +15,8 @@
 //!
 //! Between the ends the bracket can't decide, and the sheet counts as agreeing.
 //!
+//! #106: the exact operational figure is that of the joined prior.
+//!
 //! #102: all credits are taken off the bracket, those of participating blocks, of adjustable products and the group's; n
 //! counts blocks of both sorts.
 //!
@@ -103,7 +105,7 @@ fn judge_buffer(sheet: &Sheet, blocks: &[(u64, [u64; BLOCK_NUMBERS])], buffer: u
     let cents = Big::from(SCALE) * Big::from(SCALE);
     let of = |amount: u64| Big::from(u128::from(amount));
     let (g, ten_thousand, fifty_thousand) = (of(sheet.scalar()), Big::from(10_000), Big::from(50_000));
-    let ro = Big::from(over_50_000(&sheet.volumes, &sheet.operational()));
+    let ro = Big::from(over_50_000(&sheet.joined(), &sheet.operational()));
     let credits = of(sheet.dividends() + sheet.free_credits());
     let reported = (of(buffer) * ten_thousand + g * credits) * fifty_thousand * cents;
     let exact = |sum_of_k: Big| g * ((sum_of_k + of(sheet.guarantee()) * cents) * fifty_thousand + ro * cents);

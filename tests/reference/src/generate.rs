@@ -6,6 +6,7 @@ use crate::block::{EXPENSES_LT, PC};
 use crate::fluctuation::{row_of, Base};
 use crate::sheet::{key_of, last_class, read_sheet, Key, Sheet, CODE, FIELDS, LINE_FEED, SPACES};
 use crate::*;
+use std::collections::BTreeMap;
 
 /// Case `index` of `seed`: a sheet and the length of the report to lend.
 pub fn case(seed: u64, index: u64) -> (Vec<u8>, usize) {
@@ -281,6 +282,7 @@ fn sound_lines(random: &mut Random) -> Vec<Line> {
             }
         }
     }
+    acquired_lines(random, &manner, &mut lines);
     general_lines(random, &manner, &mut lines);
     dividend_lines(random, &manner, &mut lines);
     free_credit_lines(random, &manner, &mut lines);
@@ -366,6 +368,36 @@ fn largest(wanted: impl Fn(u64) -> bool) -> u64 {
         }
     }
     fits
+}
+
+/// In half of the sheets ACQ lines, beside some VOL lines and a few without one.
+fn acquired_lines(random: &mut Random, manner: &Manner, lines: &mut Vec<Line>) {
+    if !manner.full && random.one_in(2) {
+        return;
+    }
+    let volumes: BTreeMap<(u64, u64), (u64, u64)> =
+        lines.iter().filter(|l| l.code == "VOL").map(|l| ((l.block, l.class), (l.first, l.second))).collect();
+    for block in 1..=MOST_TERRITORIES as u64 {
+        for class in 1..=VOLUME_CLASSES as u64 {
+            let beside = volumes.get(&(block, class)).copied();
+            if manner.stands(random) && (manner.full || beside.is_some() || random.one_in(16)) {
+                let first = acquired(random, manner.style, beside.unwrap_or_default());
+                lines.push(Line { code: "ACQ", block, class, first, second: 0 });
+            }
+        }
+    }
+}
+
+/// An acquired prior amount: any, with which the joined prior times 120 % is next to the current volume, a part of the
+/// current or of the prior, the largest.
+fn acquired(random: &mut Random, style: u64, (current, prior): (u64, u64)) -> u64 {
+    match random.below(6) {
+        0 | 1 => (current / 6 * 5 + current % 6 * 5 / 6 + random.below(3)).saturating_sub(prior),
+        2 => part_of(random, current),
+        3 => part_of(random, prior),
+        4 => LARGEST_AMOUNT - random.below(3),
+        _ => amount(random, style),
+    }
 }
 
 /// The GEN lines but for the credits, which come last, because the lines before them limit them.
@@ -556,7 +588,7 @@ fn damage_lines(random: &mut Random, lines: &mut Vec<Line>, kind: u64) {
         }
         // 8: a second amount that must be 0
         5 => {
-            let at = line_of(random, lines, |l| matches!(l.code, "OTH" | "GEN" | "CRD"));
+            let at = line_of(random, lines, |l| matches!(l.code, "OTH" | "ACQ" | "GEN" | "CRD"));
             lines[at].second = some_amount(random);
         }
         // 8: LT(7), which may be above IR(7) too
@@ -748,9 +780,9 @@ fn line_of(random: &mut Random, lines: &mut Vec<Line>, wanted: impl Fn(&Line) ->
 /// NUL, tab, line feed, carriage return, signs, points, the neighbours of the digits, letters, bytes above 127.
 const STRANGE: [u8; 17] = [0, 9, 10, 11, 13, b'+', b',', b'-', b'.', b'/', b':', b'A', 127, 128, 160, 233, 255];
 
-const WRONG_CODES: [[u8; 3]; 16] = [
+const WRONG_CODES: [[u8; 3]; 18] = [
     *b"rsk", *b"RSX", *b"XSK", *b"   ", *b"BLK", *b"TOT", *b"REF", *b"OHT", *b"VO ", *b" GE", *b"\0\0\0", *b"GE\n",
-    *b"VO\r", *b"\xCBSK", *b"MOT", *b"CDR",
+    *b"VO\r", *b"\xCBSK", *b"MOT", *b"CDR", *b"AQC", *b"ACO",
 ];
 
 /// Puts in a fault of bytes, of this kind: the refusal that it is to give is named.
@@ -823,6 +855,6 @@ fn longer_line(random: &mut Random, sheet: &mut Vec<u8>, at: usize) {
 /// Any bytes at all, or any of those that a sheet has.
 fn any_bytes(random: &mut Random) -> Vec<u8> {
     let length = LINE_BYTES * random.pick(&[1, 2, 10]) + random.pick(&[0, 0, 1, LINE_BYTES - 1]);
-    let alphabet: Vec<u8> = if random.one_in(2) { (0..=255).collect() } else { b" 0123456789RSKGENMOCD\n".to_vec() };
+    let alphabet: Vec<u8> = if random.one_in(2) { (0..=255).collect() } else { b" 0123456789RSKGENMOCDAQ\n".to_vec() };
     (0..length).map(|_| random.pick(&alphabet)).collect()
 }

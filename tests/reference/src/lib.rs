@@ -1,4 +1,4 @@
-//! The calculator of document 01, with requests #101, #102, #104 and #105 of document 02, in plain Rust with u128: no
+//! The calculator of document 01, with requests #101, #102 and #104 to #106 of document 02, in plain Rust with u128: no
 //! dependency, nothing clever, and no code shared with the calculator itself. It is a test oracle: what it answers is
 //! compared with what the calculator answers.
 //!
@@ -70,8 +70,8 @@ pub const LARGEST_SCALAR: u64 = 20_000;
 pub const LINE_BYTES: usize = 40;
 pub const REPORT_LINE_BYTES: usize = 29;
 
-/// "What is turned away", row 1, as #102 has it: 501 lines, one for every code, block and class there is.
-pub const MOST_LINES: usize = 501;
+/// "What is turned away", row 1, as #106 has it: 629 lines, one for every code, block and class there is.
+pub const MOST_LINES: usize = 629;
 pub const LONGEST_SHEET: usize = MOST_LINES * LINE_BYTES;
 
 /// "The sheet and the report": room for all blocks.

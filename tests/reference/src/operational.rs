@@ -17,8 +17,12 @@ pub fn operational_call(volumes: &[u64], general: &[u64; GENERAL_NUMBERS]) -> Re
     if let Some(position) = volumes.iter().chain(general).position(|&amount| amount > LARGEST_AMOUNT) {
         return Err(Refusal::at_position(7, position));
     }
-    // Rounded up once, at the end.
-    Ok(u64::try_from(over_50_000(volumes, general).div_ceil(50_000)).unwrap())
+    Ok(ro(volumes, general))
+}
+
+/// RO: the sum, as a fraction over 50,000, is rounded up once, at the end.
+pub(crate) fn ro(volumes: &[u64], general: &[u64; GENERAL_NUMBERS]) -> u64 {
+    u64::try_from(over_50_000(volumes, general).div_ceil(50_000)).unwrap()
 }
 
 /// The exact operational figure: the numerator of its fraction over 50,000.

@@ -1,6 +1,7 @@
 //! "The sheet and the report": the sheet call.
 
 use crate::block::{MORTALITY_IR, MORTALITY_LT, PC};
+use crate::operational::ro;
 use crate::*;
 use std::collections::{BTreeMap, BTreeSet};
 use std::ops::Range;
@@ -15,8 +16,10 @@ pub(crate) struct Sheet {
     dividends: BTreeMap<u64, u64>,
     /// #102: the credits of adjustable products.
     adjustable: [u64; ADJUSTABLE_PRODUCTS],
-    /// The territories, as the operational call takes them.
-    pub volumes: [u64; MOST_VOLUMES],
+    /// The territories, current and prior as they were entered.
+    volumes: [u64; MOST_VOLUMES],
+    /// #106: the acquired prior amounts, each class of a territory after the other.
+    acquired: [u64; MOST_TERRITORIES * VOLUME_CLASSES],
     /// GEN classes 1 to 5 at 0 to 4.
     general: [u64; GENERAL_CLASSES],
 }
@@ -48,7 +51,16 @@ impl Sheet {
     fn mortality_lt(&self, block: u64) -> u64 {
         self.blocks.get(&block).map_or(0, |amounts| amounts[MORTALITY_LT])
     }
-    /// Each block's number with its I, D, U, LT and K. Lines that were accepted can't be refused by the two calls.
+    /// #106: the territories, to each class's prior added the acquired one. The joined prior may be two amounts large, so
+    /// that it isn't one of the operational call.
+    pub fn joined(&self) -> [u64; MOST_VOLUMES] {
+        let mut volumes = self.volumes;
+        for (pair, acquired) in volumes.chunks_mut(2).zip(self.acquired) {
+            pair[1] += acquired;
+        }
+        volumes
+    }
+    /// Each block's number with its I, D, U, LT and K. Lines that were accepted can't be refused by the block call.
     pub fn figures(&self) -> Vec<(u64, [u64; FIGURES])> {
         let lowered = |(&number, amounts)| {
             let (s, t) = self.sums(number);
@@ -60,7 +72,7 @@ impl Sheet {
         self.figures().iter().map(|(_, figures)| figures[4]).sum()
     }
     pub fn ro(&self) -> u64 {
-        operational_call(&self.volumes, &self.operational()).unwrap()
+        ro(&self.joined(), &self.operational())
     }
     /// #102: whether a dividend credit is above its block's K, or its block has no RSK or OTH line, whatever its amount.
     pub fn dividend_too_large(&self) -> bool {
@@ -141,8 +153,8 @@ pub fn sheet_line(code: &str, block: u64, class: u64, first: u64, second: u64) -
     line
 }
 
-/// #105: the codes in the order in which their lines come.
-const CODES: [&str; 6] = ["RSK", "OTH", "MOR", "VOL", "GEN", "CRD"];
+/// #105: the codes in the order in which their lines come; by #106 ACQ after VOL.
+const CODES: [&str; 7] = ["RSK", "OTH", "MOR", "VOL", "ACQ", "GEN", "CRD"];
 
 /// #105: "ascend strictly by code, .. then by block, then by class". What a line is compared by: the place of its code among
 /// them, its block, its class.
@@ -178,6 +190,7 @@ pub(crate) fn read_sheet(bytes: &[u8]) -> Result<Sheet, Refusal> {
         dividends: BTreeMap::new(),
         adjustable: [0; ADJUSTABLE_PRODUCTS],
         volumes: [0; MOST_VOLUMES],
+        acquired: [0; MOST_TERRITORIES * VOLUME_CLASSES],
         general: [0; GENERAL_CLASSES],
     };
     let (mut stood_before, mut line_before) = (BTreeSet::new(), None);
@@ -219,14 +232,14 @@ fn read_line(bytes: &[u8]) -> Result<Line<'_>, u8> {
     // 3: columns 4–40 break the layout.
     let line = read_layout(bytes).ok_or(3)?;
     let Line { code, block, class, first, second } = line;
-    // 4: the code isn't one of the four, six with #101 and #102. 5: the block is outside the code's range.
+    // 4: the code isn't one of the four, seven with #101, #102 and #106. 5: the block is outside the code's range.
     let last = last_class(code, block)?;
     // 6: the class is.
     if !(1..=last).contains(&class) {
         return Err(6);
     }
-    // 8: second amount not 0 for OTH or GEN, by #102 for CRD; LT(7) not 0.
-    let alone = matches!(code, b"OTH" | b"GEN" | b"CRD") || (code == b"RSK" && class == EXPENSES);
+    // 8: second amount not 0 for OTH or GEN, by #102 for CRD, by #106 for ACQ; LT(7) not 0.
+    let alone = matches!(code, b"OTH" | b"ACQ" | b"GEN" | b"CRD") || (code == b"RSK" && class == EXPENSES);
     if second != 0 && alone {
         return Err(8);
     }
@@ -252,11 +265,11 @@ pub(crate) fn last_class(code: &[u8], block: u64) -> Result<u64, u8> {
         (b"RSK", 1..=LAST) => Ok(RISKS as u64),
         (b"OTH", 1..=LAST) => Ok(3),
         (b"MOR", 1..=SIXTEEN) => Ok(1),
-        (b"VOL", 1..=TERRITORIES) => Ok(VOLUME_CLASSES as u64),
+        (b"VOL" | b"ACQ", 1..=TERRITORIES) => Ok(VOLUME_CLASSES as u64),
         (b"GEN", 0) => Ok(GENERAL_CLASSES as u64),
         (b"CRD", 0) => Ok(ADJUSTABLE_PRODUCTS as u64),
         (b"CRD", SEVENTEEN..=LAST) => Ok(1),
-        (b"RSK" | b"OTH" | b"MOR" | b"VOL" | b"GEN" | b"CRD", _) => Err(5),
+        (b"RSK" | b"OTH" | b"MOR" | b"VOL" | b"ACQ" | b"GEN" | b"CRD", _) => Err(5),
         _ => Err(4),
     }
 }
@@ -282,6 +295,8 @@ impl Sheet {
                 self.volumes[territory + 2 * at] = line.first;
                 self.volumes[territory + 2 * at + 1] = line.second;
             }
+            // Neither does this, nor does it need its VOL line.
+            b"ACQ" => self.acquired[VOLUME_CLASSES * (line.block as usize - 1) + at] = line.first,
             // Neither does this; block 0 has the adjustable products.
             b"CRD" if line.block == 0 => self.adjustable[at] = line.first,
             b"CRD" => {

@@ -186,7 +186,7 @@ fn no_other_order_is_accepted() {
 /// and farther off.
 #[test]
 fn orders_of_every_kind() {
-    let rank = |code: &str| "RSK OTH MOR VOL GEN CRD".find(code);
+    let rank = |code: &str| "RSK OTH MOR VOL ACQ GEN CRD".find(code);
     let mut counts: BTreeMap<&str, u64> = BTreeMap::new();
     for index in 0..20_000 {
         let (sheet, room) = case(12, index);
@@ -328,6 +328,68 @@ fn credits_of_every_kind() {
     }
     println!("credits in 12,000 cases: {counts:?}");
     assert_eq!(counts.len(), 15);
+    assert!(counts.values().all(|&count| count >= 10), "{counts:?}");
+}
+
+/// #106: acquired prior amounts of every kind stand: none, beside a VOL line and without one, with and without a prior; where
+/// the joined prior takes the growth charge to 0, just to it, next to it, or leaves some; where it passes the largest amount;
+/// of a territory whose block exists and of one whose block doesn't; and ACQ lines that are refused, each in its ways.
+#[test]
+fn acquired_of_every_kind() {
+    let mut counts: BTreeMap<&str, u64> = BTreeMap::new();
+    for index in 0..12_000 {
+        let (sheet, room) = case(13, index);
+        let answer = sheet_call(&sheet, &mut vec![0; room]);
+        let lines: Vec<Option<(&str, [u64; 4])>> = sheet.chunks(LINE_BYTES).map(line_of).collect();
+        let find = |code: &str, block: u64, class: u64| {
+            let mut such = lines.iter().flatten().filter(|line| line.0 == code && line.1[..2] == [block, class]);
+            such.next().map(|line| line.1)
+        };
+        let exists =
+            |block: u64| lines.iter().flatten().any(|line| matches!(line.0, "RSK" | "OTH") && line.1[0] == block);
+        let mut kinds = vec![];
+        for &(code, [block, class, acquired, _]) in lines.iter().flatten() {
+            if code != "ACQ" || answer.is_err() {
+                continue;
+            }
+            let [_, _, current, prior] = find("VOL", block, class).unwrap_or_default();
+            let (five, six, alone) = (5 * current, 6 * (prior + acquired), 6 * prior);
+            let volume = find("VOL", block, class).is_some();
+            kinds.extend([
+                ("nothing", acquired == 0),
+                ("without VOL", !volume && acquired > 0),
+                ("beside VOL", volume && acquired > 0),
+                ("no prior of its own", volume && prior == 0 && acquired > 0 && current > 0),
+                ("some growth is left", acquired > 0 && prior > 0 && five > six),
+                ("no growth is left", acquired > 0 && five > alone && five < six),
+                ("just no growth", acquired > 0 && five > alone && five == six),
+                ("next to it, growth", acquired > 0 && six < five && five - six < 6),
+                ("next to it, none", acquired > 0 && five < six && six - five < 6),
+                ("none without it either", acquired > 0 && current > 0 && five <= alone),
+                ("above the largest amount", prior + acquired > LARGEST_AMOUNT),
+                ("twice the largest amount", prior + acquired == 2 * LARGEST_AMOUNT),
+                ("a block that exists", exists(block)),
+                ("a block that doesn't", !exists(block)),
+            ]);
+        }
+        if let Err(Refusal { number, place: Place::Line(at) }) = answer {
+            let is = |code: &str, at: usize| matches!(lines[at - 1], Some((found, _)) if found == code);
+            kinds.extend([
+                ("5", number == 5 && is("ACQ", at)),
+                ("6", number == 6 && is("ACQ", at)),
+                ("8", number == 8 && is("ACQ", at)),
+                ("11", number == 11 && is("ACQ", at)),
+                ("19, it comes before ACQ", number == 19 && is("VOL", at) && is("ACQ", at - 1)),
+                ("19, of ACQ after another", number == 19 && is("ACQ", at) && !is("ACQ", at - 1)),
+                ("19, of two ACQ", number == 19 && is("ACQ", at) && is("ACQ", at - 1)),
+            ]);
+        }
+        for (kind, holds) in kinds {
+            *counts.entry(kind).or_default() += u64::from(holds);
+        }
+    }
+    println!("acquired prior amounts in 12,000 cases: {counts:?}");
+    assert_eq!(counts.len(), 21);
     assert!(counts.values().all(|&count| count >= 10), "{counts:?}");
 }
 

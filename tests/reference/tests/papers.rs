@@ -99,7 +99,7 @@ fn whole_run() {
 /// "The sheet and the report", "What is turned away": the longest of both, and a line for every code, block and class.
 #[test]
 fn longest_sheet_and_report() {
-    assert_eq!([LONGEST_SHEET, LONGEST_REPORT], [20_040, 4_727]);
+    assert_eq!([MOST_LINES, LONGEST_SHEET, LONGEST_REPORT], [629, 25_160, 4_727]);
     let mut sheet: Vec<u8> =
         all_lines(MOST_BLOCKS).iter().flat_map(|&(code, block, class)| sheet_line(code, block, class, 1, 0)).collect();
     assert_eq!(sheet.len(), LONGEST_SHEET);
@@ -192,9 +192,10 @@ fn demand_3_on_the_credit() {
     assert!(why(with(1_001, 130)).contains("after a credit"));
 }
 
-/// #105: "ascend strictly by code, in the order RSK, OTH, MOR, VOL, GEN, CRD, then by block, then by class", as a number.
+/// #105: "ascend strictly by code, in the order RSK, OTH, MOR, VOL, GEN, CRD, then by block, then by class", as a number;
+/// #106: ACQ "stands after VOL in the order of lines".
 fn order(code: &str, block: u64, class: u64) -> u64 {
-    let code = "RSK OTH MOR VOL GEN CRD".find(code).unwrap() as u64;
+    let code = "RSK OTH MOR VOL ACQ GEN CRD".find(code).unwrap() as u64;
     10_000 * code + 100 * block + class
 }
 
@@ -234,7 +235,7 @@ fn lines_of_credits() {
             let expected = if block > 32 { Err(Refusal::at_line(5, 1)) } else { Ok(()) };
             assert_eq!(before(sheet_line(code, block, 1, 0, 0)), expected, "{code} {block}");
         }
-        for code in ["MOR", "VOL"] {
+        for code in ["MOR", "VOL", "ACQ"] {
             let expected = if block > 16 { Err(Refusal::at_line(5, 1)) } else { Ok(()) };
             assert_eq!(before(sheet_line(code, block, 1, 0, 0)), expected, "{code} {block}");
         }
@@ -287,6 +288,99 @@ fn credits_of_no_block() {
     // 17 comes before 13.
     let above = [("CRD", 0, 1, LARGEST_AMOUNT), ("CRD", 18, 1, 0)];
     assert_eq!(with(&above), Err(Refusal::nowhere(17)));
+}
+
+/// A sheet of one territory's class 1, of an acquired prior amount and a scalar of one.
+fn with_acquired(current: u64, prior: u64, acquired: u64) -> Vec<u8> {
+    let lines = [("VOL", 1, 1, current, prior), ("ACQ", 1, 1, acquired, 0), ("GEN", 0, SCALAR, 10_000, 0)];
+    lines.iter().flat_map(|&(code, block, class, one, two)| sheet_line(code, block, class, one, two)).collect()
+}
+
+/// #106: document 003's acquisition example, in cents: 10,000 and 5,000 of prior, 22,500 of direct premiums, and a growth
+/// charge of 112.5. Typed in, the joined prior gives the same; without it RO is 825.
+#[test]
+fn acquisition_of_document_003() {
+    assert_eq!(totals(&with_acquired(22_500, 10_000, 5_000)), Ok([0, 675, 675]));
+    assert_eq!(volume(1, 22_500, 15_000), 675);
+    assert_eq!(volume(1, 22_500, 10_000), 825);
+    // Times 1,000: 5,625 of volume and 1,125 of growth.
+    assert_eq!(totals(&with_acquired(225_000, 100_000, 50_000)), Ok([0, 6_750, 6_750]));
+}
+
+/// #106: "added to the prior of that class before the 120 %", in every class and territory alone.
+#[test]
+fn the_prior_is_joined_before_120_percent() {
+    // 120 % of 200 is 240: RO is 6 of volume alone; and of a cent less of prior 0.03 more, rounded up.
+    for acquired in 0..=300 {
+        for prior in [0, 1, 99, 100, 199, 200] {
+            let [_, ro, _] = totals(&with_acquired(240, prior, acquired)).unwrap();
+            assert_eq!(ro, volume(1, 240, prior + acquired), "{prior} and {acquired}");
+            assert_eq!(ro == 6, prior + acquired >= 200);
+        }
+    }
+    let g = sheet_line("GEN", 0, SCALAR, 10_000, 0);
+    for block in 1..=MOST_TERRITORIES as u64 {
+        for class in 1..=VOLUME_CLASSES as u64 {
+            let ro = |acquired_block: u64, acquired_class: u64| {
+                let volume = sheet_line("VOL", block, class, 60_000_000, 25_000_000);
+                let acquired = sheet_line("ACQ", acquired_block, acquired_class, 25_000_000, 0);
+                totals(&[volume, acquired, g.clone()].concat()).unwrap()[1]
+            };
+            let alone = volume(class as usize, 60_000_000, 25_000_000);
+            assert_eq!(ro(block, class), volume(class as usize, 60_000_000, 50_000_000));
+            assert!(ro(block, class) < alone);
+            assert_eq!(ro(block % 16 + 1, class), alone);
+            assert_eq!(ro(block, class % 8 + 1), alone);
+        }
+    }
+}
+
+/// #106: the joined prior may be two amounts: no refusal, and nothing is cut. The operational call takes no such prior.
+#[test]
+fn a_joined_prior_above_the_limit() {
+    let most = LARGEST_AMOUNT;
+    // 250 of 10,000 of the largest amount, rounded up, and no growth.
+    for (prior, acquired) in [(most, 1), (1, most), (most, most), (0, most), (most, 0)] {
+        assert_eq!(totals(&with_acquired(most, prior, acquired)), Ok([0, 2_500_000_000_000, 2_500_000_000_000]));
+        assert_eq!(totals(&with_acquired(0, prior, acquired)), Ok([0, 0, 0]));
+    }
+    let mut volumes = [0; TERRITORY_NUMBERS];
+    (volumes[0], volumes[1]) = (most, most + 1);
+    assert_eq!(operational_call(&volumes, &[0; 3]), Err(Refusal::at_position(7, 1)));
+}
+
+/// #106: the line's block, class and second amount; it makes no block exist and needs no VOL line.
+#[test]
+fn lines_of_bought_business() {
+    let g = sheet_line("GEN", 0, SCALAR, 10_000, 0);
+    let answer =
+        |block: u64, class: u64, second: u64| run(&[sheet_line("ACQ", block, class, 7, second), g.clone()].concat());
+    for block in 0..=99 {
+        for class in 0..=99 {
+            // 5 comes before 6, and 6 before 8.
+            let number = match (block, class) {
+                (0 | 17.., _) => 5,
+                (_, 0 | 9..) => 6,
+                _ => 8,
+            };
+            assert_eq!(answer(block, class, 1), Err(Refusal::at_line(number, 1)), "block {block}, class {class}");
+            let sound = answer(block, class, 0).map(|report| report.len());
+            let expected = if number == 8 { Ok(report_length(0)) } else { Err(Refusal::at_line(number, 1)) };
+            assert_eq!(sound, expected, "block {block}, class {class}");
+        }
+    }
+    assert_eq!(run(&sheet_line("ACQ", 1, 1, 7, 0)), Err(Refusal::nowhere(12)));
+}
+
+/// #106: the exact buffer is read with the joined prior: the report of the sheet without its ACQ line breaks demand 3, and so
+/// does that of a sheet with one, of a sheet that has none.
+#[test]
+fn demand_3_of_the_joined_prior() {
+    let (joined, alone) = (with_acquired(22_500, 10_000, 5_000), with_acquired(22_500, 10_000, 0));
+    let [of_joined, of_alone] = [&joined, &alone].map(|sheet| run(sheet).unwrap());
+    assert_eq!((demand3(&joined, &of_joined), demand3(&alone, &of_alone)), (Ok(()), Ok(())));
+    assert!(demand3(&joined, &of_alone).unwrap_err().contains("the allowance or more above"));
+    assert!(demand3(&alone, &of_joined).unwrap_err().contains("below the exact one"));
 }
 
 /// #105: of every two lines that there are, the second is refused by 11 where it is the first again, by 19 where it comes

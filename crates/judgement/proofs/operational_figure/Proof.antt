@@ -8,7 +8,7 @@ use Rattle.sheet_line.specs.declared.Entry.{Entry}
 use Rattle.ledger.specs.Entries.{generalAmount}
 use Rattle.judgement.specs.Sheet.{sheetOf}
 use Rattle.judgement.specs.Steps.{Holds}
-use Rattle.judgement.proofs.Tables.{volumes-are, general-is}
+use Rattle.judgement.proofs.Tables.{joined-small, volumes-are, general-is}
 use Rattle.judgement.proofs.Accepted.{amounts-within}
 use Rattle.judgement.proofs.operational_figure.Statement.{statement}
 use Rattle.judgement.proofs.operational_figure.Tie as tie
@@ -41,4 +41,5 @@ pub operational-figure-spec : {M : Type 1} → statement M
 operational-figure-spec =
     tie.close
     (tie.spec
-    (λ c κs. search needs) (λ c κs. search needs) (λ c κs. search needs) (λ c κs. search needs) (λ c. search needs) operational-requires returns)
+    (λ c κs. joined-small (c .pre .1)) (λ c κs. search needs) (λ c κs. search needs) (λ c κs. search needs) (λ c. search needs) operational-requires
+    returns)

@@ -24,7 +24,8 @@ charge-requires c κs =
     let f = c .before .before in
     let l = f .before .before in
     let most = l .before .before .pre .1 in
-    (rw (f .volume-factor .ensures) (factor-most (l .loop .k)), most (2 * l .loop .k), most (2 * l .loop .k + 1))
+    let k = l .loop .k in
+    (rw (f .volume-factor .ensures) (factor-most k), most .0 k, most .1 k)
 
 -- the sum with this pair's charge is that of one pair more
 grown : (c : tie.After-charge Inv-loop μ-loop) →
@@ -44,7 +45,7 @@ add-sum c =
     let l = t .before .loop in
     let s = t .before .before .before in
     let k : l .k + 1 ≤ volumePairs = omega (arith, s .pre .0, t .loop-test .taken) in
-    omega (arith, grown c, charged-fits (s .args .volumes .now) (s .pre .1) (l .k + 1) k)
+    omega (arith, grown c, charged-fits (s .args .volumes .now) (s .pre .1 .0) (l .k + 1) k)
 
 loop-again : tie.Need-loop-again Inv-loop μ-loop
 loop-again c = (omega (arith, c .before .before .before .before .loop-test .taken), grown c)

@@ -10,7 +10,7 @@ use Rattle.operational.proofs.operational.Statement.{statement}
 use Rattle.operational.proofs.operational.Tie as tie
 
 business-requires : tie.Need-business-requires
-business-requires c κs = (c .before .pre .short, c .before .pre .volumes)
+business-requires c κs = let a = c .before .pre in (a .short, (a .currents, a .priors))
 
 general-requirement-requires : tie.Need-general-requirement-requires
 general-requirement-requires c κs = let a = c .before .before .pre in (a .gross, a .guarantee, a .ceded)

@@ -75,9 +75,9 @@ fn broken() -> Vec<u8> {
     put(4, b"x")[..LINE_BYTES].to_vec()
 }
 
-/// All 501 lines, in their order, every amount the largest; LT (but for risk 7), prior volumes, dividend credits, those of
-/// adjustable products and the group's as given. T is two thirds of them, with which the credit of survival and death
-/// business is LT(1) itself.
+/// All 629 lines, in their order, every amount the largest; LT (but for risk 7), prior volumes, acquired ones, dividend
+/// credits, those of adjustable products and the group's as given. T is two thirds of them, with which the credit of
+/// survival and death business is LT(1) itself.
 fn full(seconds: u64) -> Vec<Line> {
     const MOST: u64 = LARGEST_AMOUNT;
     let amounts = |(code, block, class): (&'static str, u64, u64)| match (code, class) {
@@ -85,13 +85,13 @@ fn full(seconds: u64) -> Vec<Line> {
         ("RSK" | "VOL", _) => (code, block, class, MOST, seconds),
         ("MOR", _) => (code, block, class, MOST, seconds / 3 * 2),
         ("GEN", SCALAR) => (code, block, class, LARGEST_SCALAR, 0),
-        ("GEN", CREDITS) | ("CRD", _) => (code, block, class, seconds, 0),
+        ("GEN", CREDITS) | ("ACQ" | "CRD", _) => (code, block, class, seconds, 0),
         _ => (code, block, class, MOST, 0),
     };
     all_lines(MOST_BLOCKS).into_iter().map(amounts).collect()
 }
 
-/// Every hundredth line in turn: 100 has no divisor in common with their number, 501, so that each comes once.
+/// Every hundredth line in turn: 100 has no divisor in common with their number, 629, so that each comes once.
 fn shuffled(lines: &[Line]) -> Vec<Line> {
     (0..lines.len()).map(|i| lines[(100 * i + 7) % lines.len()]).collect()
 }
@@ -109,6 +109,9 @@ fn cases() -> Vec<Case> {
         participating,
         row_17,
         adjustable,
+        bought_business,
+        joined_prior,
+        rules_of_acquired,
         two_bad_lines,
         duplicates,
         scalars,
@@ -347,6 +350,104 @@ fn adjustable(c: &mut Cases) {
     c.accepted(1, sheet(&[bracket[0], ("GEN", 0, 1, 1, 0), G, ("CRD", 0, 1, 1, 0), ("CRD", 17, 1, 1, 0)]));
 }
 
+/// #106: ACQ gives the acquired prior amount, which is added to the prior of its class and territory.
+fn bought_business(c: &mut Cases) {
+    let volume = |class: u64, current: u64, prior: u64| ("VOL", 1, class, current, prior);
+    let acquired = |block: u64, class: u64, prior: u64| ("ACQ", block, class, prior, 0);
+    // Document 003's example, in cents: 10,000 and 5,000 of prior and 22,500 of direct premiums, RO 675; the joined prior
+    // typed in; and none acquired.
+    c.accepted(0, sheet(&[volume(1, 22_500, 10_000), acquired(1, 1, 5_000), G]));
+    c.accepted(0, sheet(&[volume(1, 22_500, 15_000), G]));
+    c.accepted(0, sheet(&[volume(1, 22_500, 10_000), acquired(1, 1, 0), G]));
+    // No prior of one's own.
+    c.accepted(0, sheet(&[volume(1, 22_500, 0), acquired(1, 1, 15_000), G]));
+    // The growth charge at 120 % of the joined prior of 200, at that of a cent less and at that of a cent more; and where the
+    // prior is a cent less, in the last class of the last territory.
+    for prior in [100, 99, 101] {
+        c.accepted(0, sheet(&[volume(1, 240, 100), acquired(1, 1, prior), G]));
+    }
+    let last = |current: u64, prior: u64| ("VOL", 16, 8, current, prior);
+    c.accepted(0, sheet(&[last(6_000, 2_500), acquired(16, 8, 2_500), G]));
+    c.accepted(0, sheet(&[last(6_000, 2_499), acquired(16, 8, 2_500), G]));
+    // Another class and another territory stay as they are, and what they have too much helps no other.
+    c.accepted(0, sheet(&[volume(1, 240, 100), acquired(1, 2, 100), acquired(2, 1, 100), G]));
+    c.accepted(0, sheet(&[volume(1, 240, 100), volume(2, 240, 100), acquired(1, 1, 100), acquired(2, 2, 900), G]));
+    // A line for each class, of its factor.
+    let classes = 1..=VOLUME_CLASSES as u64;
+    let lines: Vec<Line> = classes.clone().map(|class| volume(class, 10_007 * class, 1_009 * class)).collect();
+    let bought: Vec<Line> = classes.map(|class| acquired(1, class, 7_001)).collect();
+    c.accepted(0, sheet(&[lines, bought, vec![G]].concat()));
+    // It makes no block exist, and needs no VOL line: alone, in every territory, beside a block's own lines, and where MOR has
+    // a credit. The room is for a report of no block, just so.
+    c.room(report_length(0), Ok(report_length(0)), sheet(&[acquired(1, 1, 5_000), G]));
+    let everywhere: Vec<Line> = (1..=MOST_TERRITORIES as u64).map(|block| acquired(block, 8, LARGEST_AMOUNT)).collect();
+    c.room(report_length(0), Ok(report_length(0)), sheet(&[everywhere, vec![G]].concat()));
+    c.accepted(1, sheet(&[RISK, acquired(1, 1, 5_000), acquired(2, 1, 5_000), G]));
+    c.refused(nowhere(16), sheet(&[("MOR", 2, 1, 1, 1), acquired(2, 1, 5_000), G]));
+}
+
+/// #106: a joined prior above the largest amount isn't refused and nothing of it is cut.
+fn joined_prior(c: &mut Cases) {
+    const MOST: u64 = LARGEST_AMOUNT;
+    let joined = |current: u64, prior: u64, acquired: u64| {
+        sheet(&[("VOL", 3, 1, current, prior), ("ACQ", 3, 1, acquired, 0), G])
+    };
+    // A cent above it, and twice; with the largest current and with none.
+    c.accepted(0, joined(MOST, MOST, 1));
+    c.accepted(0, joined(MOST, 1, MOST));
+    c.accepted(0, joined(MOST, MOST, MOST));
+    c.accepted(0, joined(0, MOST, MOST));
+    // Within it: all of it acquired, and just five sixths of the current, where there is a growth charge of a part of a cent.
+    c.accepted(0, joined(MOST, 0, MOST));
+    c.accepted(0, joined(MOST, MOST / 6 * 4, MOST / 6));
+    // 13: RO is that of the joined prior, 675, and the group's credits are a cent above it; 825 would be that of the prior.
+    let credits = |credits: u64| {
+        sheet(&[("VOL", 1, 1, 22_500, 10_000), ("ACQ", 1, 1, 5_000, 0), G, ("GEN", 0, CREDITS, credits, 0)])
+    };
+    c.accepted(0, credits(675));
+    c.refused(nowhere(13), credits(676));
+    // 14: no room either.
+    c.room(report_length(0) - 1, Err(nowhere(14)), credits(675));
+}
+
+/// #106: the rules of an ACQ line.
+fn rules_of_acquired(c: &mut Cases) {
+    let line = zeros("ACQ", 1, 1);
+    // 3: a line that breaks the layout too.
+    c.refused(at(3, 1), [&sheet(&[("ACQ", 17, 9, 0, 1)])[..LINE_BYTES - 1], b" ", &sheet(&[G])].concat());
+    // 4: letters of the code in another order, and small ones.
+    c.refused(at(4, 1), sheet(&[zeros("AQC", 1, 1), G]));
+    c.refused(at(4, 1), sheet(&[zeros("acq", 1, 1), G]));
+    // 5: block 0, which GEN has, 17 and 32, which RSK has, and 33; beside 6 and 8.
+    for block in [0, 17, 32, 33] {
+        c.refused(at(5, 1), sheet(&[zeros("ACQ", block, 1), G]));
+    }
+    c.refused(at(5, 1), sheet(&[("ACQ", 17, 9, 0, 1), G]));
+    // 6: classes 0 and 9; beside 8.
+    c.refused(at(6, 1), sheet(&[zeros("ACQ", 1, 0), G]));
+    c.refused(at(6, 1), sheet(&[zeros("ACQ", 16, 9), G]));
+    c.refused(at(6, 1), sheet(&[("ACQ", 16, 9, 0, 1), G]));
+    // 8: a second amount, also one above the first; beside 11, and beside 19.
+    c.refused(at(8, 1), sheet(&[("ACQ", 1, 1, 5_000, 1), G]));
+    c.refused(at(8, 2), sheet(&[zeros("VOL", 16, 8), ("ACQ", 16, 8, 0, LARGEST_AMOUNT), G]));
+    c.refused(at(8, 2), sheet(&[line, ("ACQ", 1, 1, 0, 1), G]));
+    c.refused(at(8, 2), sheet(&[G, ("ACQ", 1, 1, 0, 1)]));
+    // 11: it stood before, with its amount and with another; beside 12; out of order. VOL of the same block and class is
+    // another line.
+    c.refused(at(11, 2), sheet(&[line, line, G]));
+    c.refused(at(11, 3), sheet(&[zeros("VOL", 1, 1), line, ("ACQ", 1, 1, 7, 0)]));
+    c.refused(at(11, 3), sheet(&[line, G, line]));
+    // 19: before VOL, also one of a higher block; after GEN, and after CRD; before MOR. (Beside its neighbours: `steps`.)
+    c.refused(at(19, 2), sheet(&[line, zeros("VOL", 1, 1), G]));
+    c.refused(at(19, 3), sheet(&[zeros("VOL", 1, 1), zeros("ACQ", 1, 8), zeros("VOL", 2, 1), G]));
+    c.refused(at(19, 3), sheet(&[zeros("VOL", 1, 1), G, line]));
+    c.refused(at(19, 3), sheet(&[G, zeros("CRD", 0, 1), line]));
+    c.refused(at(19, 2), sheet(&[line, zeros("MOR", 1, 1), G]));
+    // 12: it is the only line, and beside another of GEN; beside 13.
+    c.refused(nowhere(12), sheet(&[line]));
+    c.refused(nowhere(12), sheet(&[("ACQ", 1, 1, 10_000, 0), ("GEN", 0, 2, 5, 0), ("GEN", 0, CREDITS, 9, 0)]));
+}
+
 /// Two bad lines: the first one answers.
 fn two_bad_lines(c: &mut Cases) {
     // 11 in line 2, 3 in line 3.
@@ -371,10 +472,18 @@ fn duplicates(c: &mut Cases) {
     c.refused(at(11, 2), sheet(&[G, ("GEN", 0, SCALAR, 20_000, 0)]));
     // A repeated g line, bad.
     c.refused(at(10, 2), sheet(&[G, ("GEN", 0, SCALAR, 0, 0)]));
-    // No duplicates: the same block and class under three codes, the same class of two blocks.
+    // No duplicates: the same block and class under four codes, the same class of two blocks.
     c.accepted(
         2,
-        sheet(&[RISK, ("RSK", 2, 1, 100, 40), ("OTH", 1, 1, 7, 0), ("VOL", 1, 1, 9, 3), ("GEN", 0, 1, 9, 0), G]),
+        sheet(&[
+            RISK,
+            ("RSK", 2, 1, 100, 40),
+            ("OTH", 1, 1, 7, 0),
+            ("VOL", 1, 1, 9, 3),
+            ("ACQ", 1, 1, 3, 0),
+            ("GEN", 0, 1, 9, 0),
+            G,
+        ]),
     );
 }
 
@@ -389,11 +498,11 @@ fn scalars(c: &mut Cases) {
     c.refused(at(10, 1), sheet(&[("GEN", 0, SCALAR, 20_001, 0)]));
 }
 
-/// 501 lines with 32 blocks at the largest amounts.
+/// 629 lines with 32 blocks at the largest amounts.
 fn largest_amounts(c: &mut Cases) {
-    // LT, prior volumes and credits the largest as well.
+    // LT, prior volumes, acquired ones and credits the largest as well: every joined prior is two amounts.
     c.accepted(32, sheet(&full(LARGEST_AMOUNT)));
-    // LT, prior volumes and credits 0, which gives the largest figures of all.
+    // LT, prior volumes, acquired ones and credits 0, which gives the largest figures of all.
     c.accepted(32, sheet(&full(0)));
 }
 
@@ -561,6 +670,10 @@ fn steps() -> Vec<Line> {
         zeros("VOL", 10, 1),
         zeros("VOL", 16, 7),
         zeros("VOL", 16, 8),
+        zeros("ACQ", 1, 1),
+        zeros("ACQ", 9, 8),
+        zeros("ACQ", 10, 1),
+        zeros("ACQ", 16, 8),
         zeros("GEN", 0, 1),
         zeros("GEN", 0, 2),
         G,
@@ -593,14 +706,10 @@ fn row_19(c: &mut Cases) {
     c.refused(at(19, 2), sheet(&[G, RISK]));
     c.refused(at(19, 13), [&WHOLE_RUN[LINE_BYTES..], &WHOLE_RUN[..LINE_BYTES]].concat());
     c.refused(at(19, 3), sheet(&[RISK, zeros("RSK", 1, 3), zeros("RSK", 1, 2), G]));
-    c.refused(
-        at(19, 2),
-        sheet(&[zeros("CRD", 0, 1), G, zeros("MOR", 1, 1), zeros("OTH", 1, 1), RISK, zeros("VOL", 1, 1)]),
-    );
-    c.refused(
-        at(19, 2),
-        sheet(&[zeros("VOL", 1, 1), RISK, zeros("OTH", 1, 1), zeros("MOR", 1, 1), G, zeros("CRD", 0, 1)]),
-    );
+    let (mortality, volume, acquired) = (zeros("MOR", 1, 1), zeros("VOL", 1, 1), zeros("ACQ", 1, 1));
+    let (other, product) = (zeros("OTH", 1, 1), zeros("CRD", 0, 1));
+    c.refused(at(19, 3), sheet(&[acquired, product, G, mortality, other, RISK, volume]));
+    c.refused(at(19, 2), sheet(&[volume, RISK, other, mortality, G, product, acquired]));
     // The lines of a block together, as sheets were written before.
     c.refused_with(2, at(19, 3), sheet(&[RISK, zeros("OTH", 1, 1), zeros("RSK", 2, 1), zeros("OTH", 2, 1), G]));
     // Beside 1: a full sheet out of order, and one byte more.
@@ -617,7 +726,7 @@ fn row_19(c: &mut Cases) {
     c.refused(at(19, 2), sheet(&[("GEN", 0, CREDITS, LARGEST_AMOUNT, 0), G]));
     // Beside 14: no room either; a full sheet whose lines are mixed, and one whose first line is put last.
     c.room(0, Err(at(19, 2)), sheet(&[G, RISK]));
-    c.room(0, Err(at(19, 6)), sheet(&shuffled(&full(0))));
+    c.room(0, Err(at(19, 8)), sheet(&shuffled(&full(0))));
     let mut turned = full(0);
     turned.rotate_left(1);
     c.room(0, Err(at(19, MOST_LINES)), sheet(&turned));
@@ -733,7 +842,7 @@ mod tests {
     #[test]
     fn the_reference_answers_as_written() {
         let cases = cases();
-        assert!(cases.len() <= 230, "{} cases", cases.len());
+        assert!(cases.len() <= 290, "{} cases", cases.len());
         for (at, case) in cases.iter().enumerate() {
             assert!(case.sheet.len() <= LONGEST_SHEET + 1 && case.room <= LONGEST_REPORT + 93);
             assert_eq!(input(case).len(), 12 + case.sheet.len());
