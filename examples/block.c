@@ -1,9 +1,9 @@
-/* The block call from C: reads 17 numbers, writes the block's figures. */
+/* The block call from C: reads 17 numbers, writes the block's figures and the steps of its two roots. */
 
 #include "example.h"
 
 int main(void) {
-    static const char *const names[TSAV_BLOCK_FIGURES] = {"I", "D", "U", "LT", "K"};
+    static const char *const names[TSAV_BLOCK_FIGURES] = {"I", "D", "U", "LT", "K", "steps-I", "steps-D"};
     /* One number more than a block, so that a longer list is seen. */
     uint64_t numbers[TSAV_BLOCK_NUMBERS + 1], figures[TSAV_BLOCK_FIGURES], place[2];
     size_t count;

@@ -1,4 +1,4 @@
-//! The block call from Rust: reads 17 numbers, writes the block's figures.
+//! The block call from Rust: reads 17 numbers, writes the block's figures and the steps of its two roots.
 
 mod outcome;
 
@@ -12,9 +12,9 @@ fn main() -> ExitCode {
 
 fn answer() -> Outcome {
     let numbers = numbers()?.try_into().map_err(|_| "17 whole numbers are to be read")?;
-    let tsav::Figures { i, d, u, lt, k } = tsav::block(&numbers)?;
+    let tsav::Figures { i, d, u, lt, k, steps_i, steps_d } = tsav::block(&numbers)?;
     let mut out = io::stdout().lock();
-    write!(out, "I {i}\nD {d}\nU {u}\nLT {lt}\nK {k}\n")?;
+    write!(out, "I {i}\nD {d}\nU {u}\nLT {lt}\nK {k}\nsteps-I {steps_i}\nsteps-D {steps_d}\n")?;
     // What was written may still lie in a buffer, and is known to be out only now.
     Ok(out.flush()?)
 }

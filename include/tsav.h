@@ -55,14 +55,17 @@ extern "C" {
 #endif
 
 /* Of the calls as they are declared here: what is lent to each, and what it means. Compare it with what tsav_version() gives
-   before any other call: a library of another version may write more than a caller of this header has lent. */
-#define TSAV_VERSION 1
+   before any other call: a library of another version may write more than a caller of this header has lent.
+
+   With version 2 the block call's figures grew from five to seven. A caller that was compiled for the header of version 1, and
+   that doesn't compare, would get two words written past the end of its array by a library of version 2. */
+#define TSAV_VERSION 2
 
 #define TSAV_LARGEST_AMOUNT UINT64_C(99999999999999)
 
-/* The block call's numbers and figures. */
+/* The block call's numbers, and its figures: five amounts and, from version 2 on, two numbers of steps. */
 #define TSAV_BLOCK_NUMBERS 17
-#define TSAV_BLOCK_FIGURES 5
+#define TSAV_BLOCK_FIGURES 7
 
 /* The operational call's volumes of a territory, its volumes at most, and its general figures. */
 #define TSAV_TERRITORY_NUMBERS 16
@@ -92,7 +95,12 @@ uint64_t tsav_version(void);
    numbers: seven pairs, gross component and its level and trend part, of 1 mortality, 2 longevity, 3 morbidity incidence,
    4 morbidity termination, 5 lapse-sensitive, 6 lapse-supported, 7 expenses; then property and casualty, credit, market.
 
-   Accepted, figures holds I and D in half cents, and U, LT and K in cents, in this order.
+   Accepted, figures holds TSAV_BLOCK_FIGURES numbers, in this order: I and D in half cents; U, LT and K in cents; the steps of
+   the root of I, and those of the root of D.
+
+   A root's steps are half the binary length of its radicand, padded to an even number, and 0 where the radicand is 0; they are
+   never above 52. With all amounts in half cents, the radicand of I is the least whole number at or above the sum under the
+   root, whether the floor is larger or not, and that of D is A * A + A * I + I * I, where A is credit and market.
 
    Refusals, tested in this order: 7 at the first amount that is too large; 8 at position 13, where level and trend of
    expenses isn't 0; 9 at the first level and trend part above its component. */

@@ -23,8 +23,9 @@ class Calls(unittest.TestCase):
 
     def test_block(self):
         figures = tsav.block(BLOCK)
-        self.assertEqual(figures, (157884172, 191405437, 176550000, 90400000, 151765333))
-        self.assertEqual((figures.i, figures.d, figures.u, figures.lt, figures.k), tuple(figures))
+        self.assertEqual(figures, (157884172, 191405437, 176550000, 90400000, 151765333, 28, 28))
+        self.assertEqual((figures.i, figures.d, figures.u, figures.lt, figures.k), tuple(figures)[:5])
+        self.assertEqual((figures.steps_i, figures.steps_d), tuple(figures)[5:])
         self.assertEqual(tsav.block(tuple(BLOCK)), figures)
         self.assertEqual(tsav.block(number for number in BLOCK), figures)
 
@@ -36,6 +37,12 @@ class Calls(unittest.TestCase):
                 return self.number
 
         self.assertEqual(tsav.block(map(Whole, BLOCK)), figures)
+
+    def test_steps(self):
+        """Zeros; PC alone, whose radicand of I is 0; the largest amounts, which have the most steps."""
+        self.assertEqual(tsav.block([0] * tsav.BLOCK_NUMBERS), (0,) * tsav.BLOCK_FIGURES)
+        self.assertEqual(tsav.block([0] * 14 + [100, 0, 0])[5:], (0, 8))
+        self.assertEqual(tsav.block([tsav.LARGEST_AMOUNT, 0] * 7 + [tsav.LARGEST_AMOUNT] * 3)[5:], (50, 51))
 
     def test_block_refused(self):
         def with_number(position, number):

@@ -17,13 +17,13 @@ from pathlib import Path
 from typing import NamedTuple, Optional
 
 # Of the library's calls, as this module knows them.
-VERSION = 1
+VERSION = 2
 
 LARGEST_AMOUNT = 99_999_999_999_999
 
-# The block call's numbers: seven pairs and three more. Its figures are I, D, U, LT and K.
+# The block call's numbers: seven pairs and three more. Its figures are I, D, U, LT and K, and the steps of two roots.
 BLOCK_NUMBERS = 17
-BLOCK_FIGURES = 5
+BLOCK_FIGURES = 7
 
 # The operational call's volumes of a territory, its volumes at most, and its general figures.
 TERRITORY_NUMBERS = 16
@@ -31,14 +31,15 @@ MOST_VOLUMES = 16 * TERRITORY_NUMBERS
 GENERAL_FIGURES = 3
 
 # The blocks of a sheet, of which those from 17 on are participating; the bytes of a line of the sheet and of the report,
-# the line feed among them.
+# the line feed among them; the lines that the report has for a block: I, D, U, LT and K.
 MOST_BLOCKS = 32
 SHEET_LINE = 40
 REPORT_LINE = 29
+BLOCK_LINES = 5
 
 # 629 lines; five report lines for each block, and three of totals.
 LONGEST_SHEET = 629 * SHEET_LINE
-LONGEST_REPORT = REPORT_LINE * (BLOCK_FIGURES * MOST_BLOCKS + 3)
+LONGEST_REPORT = REPORT_LINE * (BLOCK_LINES * MOST_BLOCKS + 3)
 
 # The kinds of a place.
 NOWHERE = 0
@@ -47,13 +48,15 @@ POSITION = 2
 
 
 class Figures(NamedTuple):
-    """A block's figures: I and D in half cents, U, LT and K in cents."""
+    """A block's figures: I and D in half cents, U, LT and K in cents; and the steps that the roots of I and of D take."""
 
     i: int
     d: int
     u: int
     lt: int
     k: int
+    steps_i: int
+    steps_d: int
 
 
 class Refused(Exception):

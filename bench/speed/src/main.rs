@@ -14,7 +14,7 @@ mod peer;
 
 use figures::{lines_without_bought, small_lines, Draws, Line, Size};
 use peer::{root_by_digits, root_by_newton, root_without_jumps, Root};
-use reference::{all_lines, BLOCK_NUMBERS, FIGURES};
+use reference::{all_lines, BLOCK_NUMBERS, BLOCK_VALUES};
 use std::hint::black_box;
 use std::time::Instant;
 use tsav::{LONGEST_REPORT, MOST_BLOCKS};
@@ -160,10 +160,10 @@ fn fluctuations(draws: &mut Draws, size: Size) -> Kind {
     })
 }
 
-/// Our figures of a block.
-fn ours(numbers: &[u64; BLOCK_NUMBERS]) -> [u64; FIGURES] {
+/// Our figures of a block, and the steps.
+fn ours(numbers: &[u64; BLOCK_NUMBERS]) -> [u64; BLOCK_VALUES] {
     let figures = tsav::block(numbers).expect("the block is accepted");
-    [figures.i, figures.d, figures.u, figures.lt, figures.k]
+    [figures.i, figures.d, figures.u, figures.lt, figures.k, figures.steps_i, figures.steps_d]
 }
 
 /// A call for each, none of which may be left out.

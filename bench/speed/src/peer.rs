@@ -1,14 +1,15 @@
-//! The calculator of document 01, with requests #101, #102 and #104 to #106 of document 02, as a good programmer writes it with
+//! The calculator of document 01, with requests #101, #102 and #104 to #107 of document 02, as a good programmer writes it with
 //! u128: no allocation, every figure worked out once, and everything tested that the papers have tested. It is here for its
 //! speed; tests/reference, written to be plain, is the independent calculation.
 //!
 //! The root is left to the caller, and there are three: one binary digit a step with a jump on it, as it is mostly written;
-//! the same without a jump and in words, as ours goes; and Newton's.
+//! the same without a jump and in words, as ours goes, but that ours shifts the radicand through two words and this one picks
+//! its digits; and Newton's. The steps of #107 are those of the radicand's length, whichever root is taken.
 
 use reference::{
-    Refusal, ADJUSTABLE_PRODUCTS, BLOCK_NUMBERS, FIGURES, GENERAL_CLASSES, GENERAL_NUMBERS, LARGEST_AMOUNT,
-    LARGEST_SCALAR, LINE_BYTES, LONGEST_SHEET, MOST_BLOCKS, MOST_TERRITORIES, MOST_VOLUMES, NON_PARTICIPATING,
-    REPORT_LINE_BYTES, RISKS, TERRITORY_NUMBERS, VOLUME_CLASSES,
+    Refusal, ADJUSTABLE_PRODUCTS, BLOCK_NUMBERS, BLOCK_VALUES, FIGURES, GENERAL_CLASSES, GENERAL_NUMBERS,
+    LARGEST_AMOUNT, LARGEST_SCALAR, LINE_BYTES, LONGEST_SHEET, MOST_BLOCKS, MOST_TERRITORIES, MOST_VOLUMES,
+    NON_PARTICIPATING, REPORT_LINE_BYTES, RISKS, TERRITORY_NUMBERS, VOLUME_CLASSES,
 };
 
 /// The least whole number whose square is at least the radicand.
@@ -72,8 +73,8 @@ const FACTORS: [[i128; RISKS]; RISKS] = [
     [0, 0, 0, 0, 0, 0, 4],
 ];
 
-/// The block call.
-pub fn block(b: &[u64; BLOCK_NUMBERS], root: Root) -> Result<[u64; FIGURES], Refusal> {
+/// The block call: the figures, and the steps of the two roots.
+pub fn block(b: &[u64; BLOCK_NUMBERS], root: Root) -> Result<[u64; BLOCK_VALUES], Refusal> {
     if let Some(position) = b.iter().position(|&amount| amount > LARGEST_AMOUNT) {
         return Err(Refusal::at_position(7, position));
     }
@@ -83,11 +84,13 @@ pub fn block(b: &[u64; BLOCK_NUMBERS], root: Root) -> Result<[u64; FIGURES], Ref
     if let Some(risk) = (0..RISKS).find(|&i| b[2 * i] < b[2 * i + 1]) {
         return Err(Refusal::at_position(9, 2 * risk + 1));
     }
-    Ok(figures(b, root))
+    let ([i, d, u, lt, k], radicands) = figures(b, root);
+    let [steps_i, steps_d] = radicands.map(|radicand| u64::from(129 - radicand.leading_zeros()) / 2);
+    Ok([i, d, u, lt, k, steps_i, steps_d])
 }
 
-/// I, D, U, LT and K of a block that rules 7, 8 and 9 let pass.
-fn figures(b: &[u64; BLOCK_NUMBERS], root: Root) -> [u64; FIGURES] {
+/// I, D, U, LT and K of a block that rules 7, 8 and 9 let pass, and the radicands of I and D.
+fn figures(b: &[u64; BLOCK_NUMBERS], root: Root) -> ([u64; FIGURES], [u128; 2]) {
     let [pc, credit, market] = [b[14], b[15], b[16]];
     let (mut u, mut lt, mut largest) = (pc + credit + market, 0, 0);
     let mut y = [0; RISKS];
@@ -103,10 +106,12 @@ fn figures(b: &[u64; BLOCK_NUMBERS], root: Root) -> [u64; FIGURES] {
             sum += FACTORS[i][j] * (i128::from(y[i]) * i128::from(y[j]));
         }
     }
-    let i = root((sum as u128).div_ceil(4)).max(largest) + 2 * pc;
+    let radicand_of_i = (sum as u128).div_ceil(4);
+    let i = root(radicand_of_i).max(largest) + 2 * pc;
     let (a, wide_i) = (u128::from(2 * (credit + market)), u128::from(i));
-    let d = root(a * a + a * wide_i + wide_i * wide_i);
-    [i, d, u, lt, requirement(u.into(), lt.into(), d.into())]
+    let radicand_of_d = a * a + a * wide_i + wide_i * wide_i;
+    let d = root(radicand_of_d);
+    ([i, d, u, lt, requirement(u.into(), lt.into(), d.into())], [radicand_of_i, radicand_of_d])
 }
 
 /// K.
@@ -318,7 +323,7 @@ impl Sheet {
         let (mut blocks, mut sum, mut dividends) = (0, 0, 0);
         for (number, (numbers, seen)) in self.blocks.iter().zip(self.seen).enumerate() {
             if seen & EXISTS != 0 {
-                rows[blocks] = (number as u64 + 1, figures(numbers, root));
+                rows[blocks] = (number as u64 + 1, figures(numbers, root).0);
                 let k = rows[blocks].1[4];
                 if k < self.dividends[number] {
                     return Err(Refusal::nowhere(17));

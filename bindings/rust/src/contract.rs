@@ -126,7 +126,7 @@ mod tests {
     #[test]
     fn versions() {
         assert_eq!(version(VERSION), Ok(()));
-        for found in [0, VERSION + 1, u64::MAX] {
+        for found in [0, VERSION - 1, VERSION + 1, u64::MAX] {
             assert_eq!(version(found), Err(Error::Contract(Breach::Version { found })));
         }
     }

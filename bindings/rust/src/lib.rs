@@ -11,15 +11,15 @@ mod error;
 pub use error::{Breach, Error, Place, Refusal};
 
 /// Of the library's calls, as this wrapper knows them.
-pub const VERSION: u64 = 1;
+pub const VERSION: u64 = 2;
 
 pub const LARGEST_AMOUNT: u64 = 99_999_999_999_999;
 
 /// The numbers of the block call: seven pairs and three more.
 pub const BLOCK_NUMBERS: usize = 17;
 
-/// What the block call gives, and the report has of each block: I, D, U, LT and K.
-const FIGURES: usize = 5;
+/// What the block call gives: I, D, U, LT and K, and the steps of the roots of I and of D.
+const BLOCK_FIGURES: usize = 7;
 
 /// The operational call's volumes of a territory, and its volumes at most.
 pub const TERRITORY_NUMBERS: usize = 16;
@@ -44,15 +44,18 @@ pub const LONGEST_SHEET: usize = 629 * SHEET_LINE;
 /// With this room a sheet is never refused by 14.
 pub const LONGEST_REPORT: usize = report_length(MOST_BLOCKS);
 
+/// The lines that a report has for a block: I, D, U, LT and K.
+const BLOCK_LINES: usize = 5;
+
 /// The bytes of a report: five lines for each block, and three of totals.
 pub const fn report_length(blocks: usize) -> usize {
-    REPORT_LINE * (FIGURES * blocks + 3)
+    REPORT_LINE * (BLOCK_LINES * blocks + 3)
 }
 
 /// The refusals are numbered from 1 to this.
 pub const LAST_REFUSAL: usize = 19;
 
-/// A block's figures: I and D in half cents, U, LT and K in cents.
+/// A block's figures: I and D in half cents, U, LT and K in cents; and the steps that the roots of I and of D take.
 #[derive(Clone, Copy, Debug, PartialEq, Eq)]
 pub struct Figures {
     pub i: u64,
@@ -60,18 +63,20 @@ pub struct Figures {
     pub u: u64,
     pub lt: u64,
     pub k: u64,
+    pub steps_i: u64,
+    pub steps_d: u64,
 }
 
 /// The block call: seven pairs of a gross component and its level and trend part, then property and casualty, credit,
 /// market.
 pub fn block(numbers: &[u64; BLOCK_NUMBERS]) -> Result<Figures, Error> {
     compare_versions()?;
-    let (mut figures, mut place) = ([0; FIGURES], [0; 2]);
+    let (mut figures, mut place) = ([0; BLOCK_FIGURES], [0; 2]);
     // SAFETY: each reference is to as many numbers as the call names.
     let answer = unsafe { library::tsav_block(numbers, &mut figures, &mut place) };
     contract::block(answer, place)?;
-    let [i, d, u, lt, k] = figures;
-    Ok(Figures { i, d, u, lt, k })
+    let [i, d, u, lt, k, steps_i, steps_d] = figures;
+    Ok(Figures { i, d, u, lt, k, steps_i, steps_d })
 }
 
 /// The operational call: 16 numbers for each territory, eight pairs of current and prior volume; then gross components,
@@ -119,11 +124,15 @@ fn compare_versions() -> Result<(), Error> {
 
 /// include/tsav.h.
 mod library {
-    use crate::{BLOCK_NUMBERS, FIGURES, GENERAL_NUMBERS};
+    use crate::{BLOCK_FIGURES, BLOCK_NUMBERS, GENERAL_NUMBERS};
 
     extern "C" {
         pub fn tsav_version() -> u64;
-        pub fn tsav_block(numbers: &[u64; BLOCK_NUMBERS], figures: &mut [u64; FIGURES], place: &mut [u64; 2]) -> u64;
+        pub fn tsav_block(
+            numbers: &[u64; BLOCK_NUMBERS],
+            figures: &mut [u64; BLOCK_FIGURES],
+            place: &mut [u64; 2],
+        ) -> u64;
         pub fn tsav_operational(
             volumes: *const u64,
             count: usize,

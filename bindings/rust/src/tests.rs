@@ -21,8 +21,21 @@ fn the_papers_whole_run() {
 
 #[test]
 fn the_example_of_document_000() {
-    let [i, d, u, lt, k] = EXAMPLE_FIGURES;
-    assert_eq!(block(&example()), Ok(Figures { i, d, u, lt, k }));
+    let [i, d, u, lt, k, steps_i, steps_d] = EXAMPLE_FIGURES;
+    assert_eq!(block(&example()), Ok(Figures { i, d, u, lt, k, steps_i, steps_d }));
+}
+
+/// Zeros; PC alone, whose radicand of I is 0; the largest amounts, which have the most steps.
+#[test]
+fn the_steps_of_the_roots() {
+    let steps = |numbers: &[u64; BLOCK_NUMBERS]| block(numbers).map(|figures| (figures.steps_i, figures.steps_d));
+    let mut numbers = [0; BLOCK_NUMBERS];
+    assert_eq!(steps(&numbers), Ok((0, 0)));
+    numbers[14] = 100;
+    assert_eq!(steps(&numbers), Ok((0, 8)));
+    let mut numbers = [LARGEST_AMOUNT; BLOCK_NUMBERS];
+    (1..14).step_by(2).for_each(|position| numbers[position] = 0);
+    assert_eq!(steps(&numbers), Ok((50, 51)));
 }
 
 #[test]
@@ -152,7 +165,7 @@ fn the_headers_numbers() {
         ("VERSION", VERSION),
         ("LARGEST_AMOUNT", LARGEST_AMOUNT),
         ("BLOCK_NUMBERS", BLOCK_NUMBERS as u64),
-        ("BLOCK_FIGURES", FIGURES as u64),
+        ("BLOCK_FIGURES", BLOCK_FIGURES as u64),
         ("TERRITORY_NUMBERS", TERRITORY_NUMBERS as u64),
         ("MOST_VOLUMES", MOST_VOLUMES as u64),
         ("GENERAL_FIGURES", GENERAL_NUMBERS as u64),
@@ -177,13 +190,13 @@ const KEPT: u64 = 0x0123_4567_89AB_CDEF;
 #[test]
 fn untouched_by_the_block_call() {
     let call = |numbers: &[u64; BLOCK_NUMBERS]| {
-        let (mut figures, mut place) = ([KEPT; FIGURES], [KEPT; 2]);
+        let (mut figures, mut place) = ([KEPT; BLOCK_FIGURES], [KEPT; 2]);
         // SAFETY: as in `block`.
         let answer = unsafe { library::tsav_block(numbers, &mut figures, &mut place) };
         (answer, figures, place)
     };
     assert_eq!(call(&example()), (0, EXAMPLE_FIGURES, [KEPT; 2]));
-    assert_eq!(call(&[OVER; BLOCK_NUMBERS]), (7, [KEPT; FIGURES], [POSITION, 0]));
+    assert_eq!(call(&[OVER; BLOCK_NUMBERS]), (7, [KEPT; BLOCK_FIGURES], [POSITION, 0]));
 }
 
 #[test]

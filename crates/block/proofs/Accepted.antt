@@ -2,7 +2,7 @@
 -- finds one. Assumes nothing.
 use mathlib.Core.Path.{_≡_, refl, sym, subst, _∙_}
 use mathlib.Core.Bool.{false}
-use mathlib.Core.List.{List, [], _∷_}
+use mathlib.Core.List.{List, [], _∷_, _++_}
 use Prim.Native.Nat.{ℕ, _≤_}
 use native.Mathlib.Omega.{arith}
 use lib.ListN.{length, getD}
@@ -19,9 +19,11 @@ use Rattle.amount.proofs.Amounts.{none-above, all-within}
 use Rattle.guideline.specs.Sizes.{risks, blockNumbers}
 use Rattle.guideline.specs.Block.{AcceptedBlock, lt, figuresOf}
 use Rattle.guideline.proofs.Demand.{block-demand}
+use Rattle.block.specs.RootSteps.{stepsOf, FewSteps}
 use Rattle.block.specs.Call.{ltAbove, firstLtAbove, rule8, rule9, blockCall}
 use Rattle.block.specs.Accepted.{AcceptsBlock, BlockDemand3}
 use Rattle.block.proofs.Rules.{passed-7, passed-8, passed-9, acceptable}
+use Rattle.block.proofs.RootSteps.{few-steps-i, few-steps-d}
 
 -- what rule 7 lets pass
 abbrev Fits : ℕ → Type 0
@@ -48,12 +50,12 @@ module _ (b : List ℕ) (v : AcceptedBlock b) where
       sought-none (ltAbove b) risks risks (omega arith)
       (record { within = omega arith; before = values-same (ltAbove b) (λ i. false) risks pairs })
 
-  passes : length b ≡ blockNumbers → blockCall b ≡ accepted (figuresOf b)
+  passes : length b ≡ blockNumbers → blockCall b ≡ accepted (figuresOf b ++ stepsOf b)
   passes long = passed-7 b long refl (omega (arith, all-within b (within long))) ∙ passed-8 b (v .lt-seven) ∙ passed-9 b refl (omega (arith, none-above-ir))
 
--- what holds of an outcome: accepted, the values are the figures of a block that the rules leave; refused, the number is not 0
+-- what holds of an outcome: accepted, the values are the figures and steps of a block that the rules leave; refused, the number is not 0
 unfoldable Promised : List ℕ → Outcome → Type 0
-Promised b (accepted vs) = (vs ≡ figuresOf b) × AcceptedBlock b
+Promised b (accepted vs) = (vs ≡ figuresOf b ++ stepsOf b) × AcceptedBlock b
 Promised b (refused n p) = n ≡ 0 → ⊥
 
 module _ (b : List ℕ) where
@@ -80,3 +82,8 @@ module _ (b : List ℕ) where
   unfolding Promised
   block-demanded (accepted vs) e = let j = subst (Promised b) (sym e) promised in (j .0, block-demand b (j .1))
   block-demanded (refused n p) e = tt
+
+  pub block-few-steps : (o : Outcome) → o ≡ blockCall b → FewSteps o
+  unfolding Promised stepsOf figuresOf
+  block-few-steps (accepted vs) e = let j = subst (Promised b) (sym e) promised in rw (j .0) (few-steps-i b (j .1), few-steps-d b (j .1))
+  block-few-steps (refused n p) e = tt

@@ -64,9 +64,13 @@ module _ (b : List ℕ) (h : AcceptedBlock b) where
   floor-room = omega (arith, v-fits b h, i-high b h)
 
   -- a and I, and so D, stay small
+  pub joint-most : a b + I b ≤ 20 * limit
+  unfolding a
+  joint-most = omega (arith, v-fits b h, i-high b h)
+
   pub joint-fits : 2 * (credit b + market b) + I b ≤ 20 * limit
   unfolding a A
-  joint-fits = omega (arith, v-fits b h, i-high b h)
+  joint-fits = joint-most
 
   pub joint-found : (i d : ℕ) → i ≡ I b → d ≡ least (λ r. leb (radicand (2 * (credit b + market b)) i) (r * r)) → d ≡ D b
   unfolding D a A

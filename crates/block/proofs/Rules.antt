@@ -1,6 +1,6 @@
 -- Rules 7, 8 and 9 of the block call: what each gives where its test finds something, and where it finds nothing. Assumes nothing.
 use mathlib.Core.Path.{_≡_, sym, ap, _∙_}
-use mathlib.Core.List.{List}
+use mathlib.Core.List.{List, _++_}
 use Prim.Native.Nat.{ℕ, _+_, _*_, _≤_, _<_}
 use native.Mathlib.Omega.{arith}
 use lib.ListN.{length, getD}
@@ -14,6 +14,7 @@ use Rattle.amount.proofs.Amounts.{none-above}
 use Rattle.guideline.specs.Sizes.{risks, blockNumbers}
 use Rattle.guideline.specs.Block.{AcceptedBlock, lt, figuresOf}
 use Rattle.guideline.proofs.Figures.{accepted-of}
+use Rattle.block.specs.RootSteps.{stepsOf}
 use Rattle.block.specs.Call.{ltAbove, firstLtAbove, rule9, rule8, blockCall}
 
 module _ (b : List ℕ) {r : ℕ} (long : length b ≡ blockNumbers) (e : r ≡ firstAbove b) where
@@ -48,7 +49,7 @@ module _ (b : List ℕ) {s : ℕ} (f : s ≡ firstLtAbove b) where
       let i : firstLtAbove b < risks = omega arith in
       if-lt _ i ∙ ap (λ (x : ℕ). refused 9 (Position (2 * x + 1))) (sym f)
 
-  pub passed-9 : risks ≤ s → rule9 b ≡ accepted (figuresOf b)
+  pub passed-9 : risks ≤ s → rule9 b ≡ accepted (figuresOf b ++ stepsOf b)
   unfolding rule9
   passed-9 k =
       let i : risks ≤ firstLtAbove b = omega arith in

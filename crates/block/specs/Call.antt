@@ -1,7 +1,8 @@
 -- The block call of document 01, 'What is turned away': 'it tests 7 at the first bad position, then 8, then 9, these two at the
--- position of the first bad LT', and 'Accepted, the block call gives I, D, U, LT and K'. Assumes nothing.
+-- position of the first bad LT', and 'Accepted, the block call gives I, D, U, LT and K'; after them, by document 02, #107, the steps of the
+-- two roots. Assumes nothing.
 use mathlib.Core.Bool.{Bool}
-use mathlib.Core.List.{List}
+use mathlib.Core.List.{List, _++_}
 use Prim.Native.Nat.{ℕ, _+_, _*_}
 use lib.Dec.{ltb, eqb}
 use lib.ListN.{length, getD}
@@ -15,11 +16,12 @@ use Rattle.guideline.specs.Sizes.{risks}
 use Rattle.guideline.specs.Block.{lt, figuresOf}
 use Rattle.block.specs.declared.BlockAnswer.{BlockAnswer}
 use Rattle.block.specs.declared.BlockAnswer.the-variants.{Accepted, Refused}
-use Rattle.block.specs.Parts.{figureList}
+use Rattle.block.specs.Parts.{figureList, stepList}
+use Rattle.block.specs.RootSteps.{stepsOf}
 
--- what the enum's cases say in document 01's numbers: the figures in its order, or the refusal's number and place
+-- what the enum's cases say in document 01's numbers: the figures in its order and the steps, or the refusal's number and place
 abbrev pub stated : BlockAnswer → Outcome
-stated (Accepted f) = accepted (figureList f)
+stated (Accepted f s) = accepted (figureList f ++ stepList s)
 stated (Refused n p) = refused n p
 
 -- rule 9 at the pair i, counted from 0: its LT, at position 2i + 1, is above its IR
@@ -32,7 +34,7 @@ firstLtAbove b = first (ltAbove b) risks
 
 -- rule 9, at the position of the LT
 unfoldable pub rule9 : List ℕ → Outcome
-rule9 b = pick (ltb (firstLtAbove b) risks) (refused 9 (Position (2 * firstLtAbove b + 1))) (accepted (figuresOf b))
+rule9 b = pick (ltb (firstLtAbove b) risks) (refused 9 (Position (2 * firstLtAbove b + 1))) (accepted (figuresOf b ++ stepsOf b))
 
 -- rule 8: LT(7) is not 0
 unfoldable pub rule8 : List ℕ → Outcome

@@ -11,10 +11,15 @@ use Rattle.guideline.specs.Block.{I, D, U, LT, K, figuresOf}
 use Rattle.wide.specs.declared.Sum.{Sum}
 use Rattle.wide.specs.Sum.{held, filled}
 use Rattle.block.specs.declared.Figures.{Figures}
+use Rattle.block.specs.declared.Steps.{Steps}
 
 -- the figures of the struct in document 01's order: I, D, U, LT, K
 abbrev pub figureList : Figures → List ℕ
 figureList f = f .i ∷ f .d ∷ f .u ∷ f .lt ∷ f .k ∷ []
+
+-- the steps of the two roots, I's first
+abbrev pub stepList : Steps → List ℕ
+stepList s = s .i ∷ s .d ∷ []
 
 -- where they are a block's, each is the figure of its name
 pub figures-are : (f : Figures) (b : List ℕ) → figureList f ≡ figuresOf b → (f .i ≡ I b) × (f .d ≡ D b) × (f .u ≡ U b) × (f .lt ≡ LT b) × (f .k ≡ K b)

@@ -9,12 +9,15 @@ ghost use Rattle.guideline.specs.Sizes.{risks, products};
 ghost use Rattle.guideline.specs.Block.{AcceptedBlock, U, LT, ys, largestOf, I, radicand, requirement, figuresOf};
 ghost use Rattle.block.specs.Call.{stated, blockCall, firstLtAbove};
 ghost use Rattle.block.specs.Accepted.{BlockDemand3};
-ghost use Rattle.block.specs.Parts.{figureList, SmallYs, SoFar, Row, FigureBounds};
+ghost use Rattle.block.specs.RootSteps.{radicandI, stepsOf, FewSteps};
+ghost use Rattle.block.specs.Parts.{figureList, stepList, SmallYs, SoFar, Row, FigureBounds};
 ghost use Rattle.wide.specs.Sum.{held};
+ghost use Rattle.root.specs.Steps.{steps};
 use guideline::BLOCK_NUMBERS;
 use guideline::RISKS;
 use guideline::factor_at as f;
 use refusal::Place;
+use root::Root;
 use wide::Sum;
 use wide::division;
 use wide::running;
@@ -29,16 +32,24 @@ pub struct Figures {
     pub k: u64,
 }
 
-// What the block call gives: the figures, or the number and the place of a refusal.
+// The steps of a block's two roots: that of I, and that of D.
+pub struct Steps {
+    pub i: u64,
+    pub d: u64,
+}
+
+// What the block call gives: the figures and the steps, or the number and the place of a refusal.
 pub enum BlockAnswer {
-    Accepted(Figures),
+    Accepted(Figures, Steps),
     Refused(u8, Place),
 }
 
-// A block of any 17 numbers: seven pairs IR, LT, then PC, credit, market. Where it is accepted, the figures meet demand 3.
+// A block of any 17 numbers: seven pairs IR, LT, then PC, credit, market. Where it is accepted, the figures meet demand 3,
+// and no root took more than 52 steps.
 pub fn block_call(b: &[u64; BLOCK_NUMBERS]) -> BlockAnswer
     ensures { λ r. ⌜ stated r ≡ blockCall (now (b .entry)) ⌝ }
     ensures { λ r. ⌜ BlockDemand3 (now (b .entry)) (stated r) ⌝ }
+    ensures { λ r. ⌜ FewSteps (stated r) ⌝ }
 {
     let above = amount::first_above(b);
     if above < BLOCK_NUMBERS {
@@ -51,7 +62,10 @@ pub fn block_call(b: &[u64; BLOCK_NUMBERS]) -> BlockAnswer
     if risk < RISKS {
         return BlockAnswer::Refused(9, Place::Position(2 * risk + 1));
     }
-    BlockAnswer::Accepted(figures_of(b))
+    let worked = worked_out(b);
+    let figures = worked.figures;
+    let steps = worked.steps;
+    BlockAnswer::Accepted(figures, steps)
 }
 
 // The first risk, counted from 0, whose level and trend part is above its component, or the number of risks where there is none.
@@ -68,21 +82,44 @@ fn first_lt_above(b: &[u64; BLOCK_NUMBERS]) -> usize
     i
 }
 
-// The figures of a block that rules 7, 8 and 9 let pass, in the order of sections 11.2.1 to 11.2.4.
+// The figures of a block that rules 7, 8 and 9 let pass.
 pub fn figures_of(b: &[u64; BLOCK_NUMBERS]) -> Figures
     requires { ⌜ AcceptedBlock (now b) ⌝ }
     ensures { λ r. ⌜ figureList r ≡ figuresOf (now (b .entry)) ⌝ }
 {
+    let worked = worked_out(b);
+    worked.figures
+}
+
+// A block's figures, and the steps of its roots.
+struct Worked {
+    figures: Figures,
+    steps: Steps,
+}
+
+// The same with the steps, in the order of sections 11.2.1 to 11.2.4.
+fn worked_out(b: &[u64; BLOCK_NUMBERS]) -> Worked
+    requires { ⌜ AcceptedBlock (now b) ⌝ }
+    ensures { λ r. ⌜ (figureList (r .figures) ≡ figuresOf (now (b .entry))) × (stepList (r .steps) ≡ stepsOf (now (b .entry))) ⌝ }
+{
     // 11.2.1: I
-    let i = insurance(b);
+    let insurance = insurance(b);
+    let i = insurance.root;
     // 11.2.2: D, where 'A est la somme des exigences pour le risque de crédit .. et le risque du marché'
-    let d = diversified(2 * (b[15] + b[16]), i);
+    let joint = diversified(2 * (b[15] + b[16]), i);
+    let d = joint.root;
     // 11.2.3: U
     let u = undiversified(b);
     // 11.2.4: LT = Σ LT_i, and K
     let lt = level_and_trend(b);
     let k = adjusted(u, lt, d);
-    Figures { i, d, u, lt, k }
+    Worked {
+        figures: Figures { i, d, u, lt, k },
+        steps: Steps {
+            i: insurance.steps,
+            d: joint.steps,
+        },
+    }
 }
 
 // ---- 11.2.1 Exigence pour risque d'assurance (I):
@@ -91,19 +128,22 @@ pub fn figures_of(b: &[u64; BLOCK_NUMBERS]) -> Figures
 //
 // The print lost the root sign; its example's figures show it, and document 01 says it. Here I is in half cents and ρ_ij in quarters.
 
-// I, in half cents: the steps of the section, one after the other.
-fn insurance(b: &[u64; BLOCK_NUMBERS]) -> u64
+// I, in half cents, with the steps of its root: what the section does, one thing after the other.
+fn insurance(b: &[u64; BLOCK_NUMBERS]) -> Root
     requires { ⌜ AcceptedBlock (now b) ⌝ }
-    ensures { λ r. ⌜ r ≡ I (now (b .entry)) ⌝ }
+    ensures { λ r. ⌜ (r .root ≡ I (now (b .entry))) × (r .steps ≡ steps (radicandI (now (b .entry)))) ⌝ }
 {
     // 'IR_i − 0,5 × LT_i'
     let y = half_cents(b);
     // 'Σ ρ_ij × (IR_i − 0,5 × LT_i) × (IR_j − 0,5 × LT_j)', which is never negative: in half cents and quarters it is four times Q
     let sum = running::unsigned(correlated(&y));
     // the root, by document 01: 'the least whole number whose square is at least Q'
-    let root = root::root_up(words::quarter_up(sum));
+    let found = root::root_and_steps(words::quarter_up(sum));
     // 'Cependant, I ne peut être inférieur à ..', and '+ PC'
-    floor_then_pc(root, &y, b[14])
+    Root {
+        root: floor_then_pc(found.root, &y, b[14]),
+        steps: found.steps,
+    }
 }
 
 // The seven IR_i − 0,5 × LT_i, in half cents y(i) = 2 × IR(i) − LT(i): an odd LT keeps its half cent.
@@ -232,12 +272,12 @@ fn with_pc(without: u64, pc: u64) -> u64
 
 // ---- 11.2.2 Exigence pour risque diversifié (D): D = √( A² + AI + I² ), as its example has it.
 
-// D, in half cents, for a = 2 × A. a² + a × I + I² is a × (a + I) + I².
-fn diversified(a: u64, i: u64) -> u64
+// D, in half cents, with the steps of its root, for a = 2 × A. a² + a × I + I² is a × (a + I) + I².
+fn diversified(a: u64, i: u64) -> Root
     requires { ⌜ a + i ≤ 20 * limit ⌝ }
-    ensures { λ r. ⌜ r ≡ least (λ d. leb (radicand a i) (d * d)) ⌝ }
+    ensures { λ r. ⌜ (r .root ≡ least (λ d. leb (radicand a i) (d * d))) × (r .steps ≡ steps (radicand a i)) ⌝ }
 {
-    root::root_up(words::add(words::product(a, a + i), words::product(i, i)))
+    root::root_and_steps(words::add(words::product(a, a + i), words::product(i, i)))
 }
 
 // ---- 11.2.3 Exigence pour risque non diversifié (U): U = Σ i=1..7 IR_i + PC + A.

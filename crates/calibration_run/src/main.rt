@@ -1,6 +1,6 @@
 // Runs the block, the operational and the fluctuation call on figures that others printed, and on bad input. What it writes is compared with
 // the file stdout beside src/: document 000's and 003's figures as they stand there, the answers that document 01's table names, and document
-// 02's fluctuation factors.
+// 02's steps and fluctuation factors.
 use amount::LARGEST_AMOUNT;
 use block::BlockAnswer;
 use fluctuation::FluctuationAnswer;
@@ -22,6 +22,7 @@ fn main() {
     bad_blocks();
     printed_volumes();
     bad_volumes();
+    root_steps();
     fluctuations();
     bad_fluctuations();
 }
@@ -59,13 +60,15 @@ fn refused(n: u8, p: Place) {
 fn block_row(b: &[u64; BLOCK_NUMBERS]) {
     let answer = block::block_call(b);
     match answer {
-        BlockAnswer::Accepted(f) => {
-            say(b"I, D, U, LT, K:");
+        BlockAnswer::Accepted(f, s) => {
+            say(b"I, D, U, LT, K, steps:");
             number(f.i);
             number(f.d);
             number(f.u);
             number(f.lt);
             number(f.k);
+            number(s.i);
+            number(s.d);
             say(b"\n");
         }
         BlockAnswer::Refused(n, p) => {
@@ -98,7 +101,7 @@ fn dollars(half_cents: u64) -> u64 {
 fn printed_example() {
     let b = example();
     let answer = block::block_call(&b);
-    let BlockAnswer::Accepted(f) = answer else {
+    let BlockAnswer::Accepted(f, _) = answer else {
         return;
     };
     say(b"document 000\n");
@@ -272,6 +275,37 @@ fn bad_volumes() {
     operational_row(&[MOST; TERRITORY_NUMBERS], &none);
 }
 
+// Document 02's steps: where only PC is there and the radicand is 0, where only credit is, a cent of one risk and of three, where the floor is
+// larger than the root, and the largest amounts.
+fn root_steps() {
+    say(b"document 02, steps\n");
+    let mut b = [0u64; BLOCK_NUMBERS];
+    b[14] = 100;
+    block_row(&b);
+    b[14] = 0;
+    b[15] = 100;
+    block_row(&b);
+    b[15] = 0;
+    b[0] = 1;
+    block_row(&b);
+    b[2] = 1;
+    b[4] = 1;
+    block_row(&b);
+    let mut c = [0u64; BLOCK_NUMBERS];
+    c[0] = 64;
+    c[2] = 16;
+    block_row(&c);
+    let mut d = [LARGEST_AMOUNT; BLOCK_NUMBERS];
+    d[1] = 0;
+    d[3] = 0;
+    d[5] = 0;
+    d[7] = 0;
+    d[9] = 0;
+    d[11] = 0;
+    d[13] = 0;
+    block_row(&d);
+}
+
 // What the fluctuation call gives, on a line.
 fn fluctuation_row(row: u64, requirement: u64, face: u64) {
     let answer = fluctuation::fluctuation_call(row, requirement, face);
@@ -289,7 +323,7 @@ fn fluctuation_row(row: u64, requirement: u64, face: u64) {
 
 // Document 02's two figures, then each row at its threshold, a cent above it and at the largest amount.
 fn fluctuations() {
-    say(b"document 02\n");
+    say(b"document 02, fluctuations\n");
     fluctuation_row(2, 10000000000, 0);
     fluctuation_row(7, 100000000, 40000000000);
     fluctuation_row(1, 4200000000, 0);

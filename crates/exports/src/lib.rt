@@ -5,6 +5,7 @@ ghost use mathlib.Core.Path.{_≡_};
 ghost use Rattle.refusal.specs.Outcome.Outcome.{accepted};
 ghost use Rattle.block.specs.Call.{blockCall};
 ghost use Rattle.block.specs.Accepted.{BlockDemand3};
+ghost use Rattle.block.specs.RootSteps.{FewSteps};
 ghost use Rattle.operational.specs.Call.{operationalCall};
 ghost use Rattle.fluctuation.specs.Call.{fluctuationCall};
 ghost use Rattle.fluctuation.specs.Accepted.{FluctuationDemand};
@@ -33,8 +34,11 @@ const LINE: u64 = 1;
 // A position in the call's numbers.
 const POSITION: u64 = 2;
 
+// What the block call gives: the figures, and the steps of its two roots.
+const BLOCK_VALUES: usize = BLOCK_FIGURES + 2;
+
 // Of the calls as they are declared here.
-const VERSION: u64 = 1;
+const VERSION: u64 = 2;
 
 // The version of these calls.
 #[no_mangle]
@@ -44,20 +48,21 @@ pub extern "C" fn tsav_version() -> u64
     VERSION
 }
 
-// The figures are I and D in half cents, then U, LT and K in cents. Where 0 is given, they meet demand 3 for one block.
+// The figures are I and D in half cents, then U, LT and K in cents, then the steps of the roots of I and of D. Where 0 is given, they meet
+// demand 3 for one block, and no root took more than 52 steps.
 #[no_mangle]
 pub extern "C" fn tsav_block(
     numbers: &[u64; BLOCK_NUMBERS],
-    figures: &mut [u64; BLOCK_FIGURES],
+    figures: &mut [u64; BLOCK_VALUES],
     place: &mut [u64; 2],
 ) -> u64
     ensures { λ r. ⌜ Leaves (blockCall (now (numbers .entry))) r (now (figures .entry)) (now (place .entry)) (now (figures .exit)) (now (place .exit)) ⌝ }
-    ensures { λ r. ⌜ (r ≡ 0 → BlockDemand3 (now (numbers .entry)) (accepted (now (figures .exit)))) ⌝ }
+    ensures { λ r. ⌜ (r ≡ 0 → BlockDemand3 (now (numbers .entry)) (accepted (now (figures .exit))) × FewSteps (accepted (now (figures .exit)))) ⌝ }
 {
     let answer = block::block_call(numbers);
     match answer {
-        BlockAnswer::Accepted(f) => {
-            *figures = [f.i, f.d, f.u, f.lt, f.k];
+        BlockAnswer::Accepted(f, s) => {
+            *figures = [f.i, f.d, f.u, f.lt, f.k, s.i, s.d];
             ACCEPTED
         }
         BlockAnswer::Refused(number, at) => refuse(number, at, place),

@@ -1,3 +1,4 @@
--- The laws behind the root: digits in base 4, and the root by them.
-pub mod Digits
+-- The length of a radicand and its steps; the window that its digits are brought down from; the root found one digit at a time.
+pub mod Lengths
+pub mod Windows
 pub mod Rooted

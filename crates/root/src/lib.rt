@@ -1,28 +1,58 @@
 // The least whole number whose square reaches a number of two words, found one binary digit at a time.
 ghost use mathlib.Core.Path.{_≡_};
-ghost use Prim.Native.Nat.{_+_, _*_, _/_, _%_, _^_, _<_, _≤_};
+ghost use Prim.Native.Nat.{_+_, _-_, _*_, _/_, _^_, _<_, _≤_};
 ghost use lib.Dec.{leb};
 ghost use Rattle.search.specs.Least.{least};
 ghost use Rattle.search.specs.Pick.{pick};
 ghost use Rattle.wide.specs.Value.{value};
-ghost use Rattle.root.specs.BaseFour.{digitCount};
+ghost use Rattle.root.specs.Steps.{steps};
 use wide::Wide;
 
-// The least whole number whose square is at least n. Below 2^124 the root and what its square leaves fit a word at each step.
+// A root and the steps that it took.
+pub struct Root {
+    pub root: u64,
+    pub steps: u64,
+}
+
+// The least whole number whose square is at least n.
 pub fn root_up(n: Wide) -> u64
     requires { ⌜ value n < 2 ^ 124 ⌝ }
     ensures { λ r. ⌜ r ≡ least (λ x. leb (value n) (x * x)) ⌝ }
 {
-    let mut left = count_digits(n);
+    let found = root_and_steps(n);
+    found.root
+}
+
+// The same with its steps: each fixes one binary digit, and after step j the held value is the root, rounded down, of the leading 2j digits
+// of n. Below 2^124 the root and what its square leaves fit a word at each step.
+pub fn root_and_steps(n: Wide) -> Root
+    requires { ⌜ value n < 2 ^ 124 ⌝ }
+    ensures { λ r. ⌜ (r .root ≡ least (λ x. leb (value n) (x * x))) × (r .steps ≡ steps (value n)) ⌝ }
+{
+    let count = count_steps(n);
+    if count == 0 {
+        return Root { root: 0, steps: 0 };
+    }
+    let mut window = aligned(n, count);
     let mut root = 0u64;
     let mut rest = 0u64;
-    while 0 < left {
-        left -= 1;
-        let s = root_step(root, rest, digit_at(n, left));
+    let mut j = 0u32;
+    while j < count {
+        let s = root_step(root, rest, top_digits(window));
         root = s.root;
         rest = s.rest;
+        window = bring_down(window);
+        j += 1;
     }
-    if rest == 0 { root } else { root + 1 }
+    let steps = count as u64;
+    if rest == 0 {
+        Root { root, steps }
+    } else {
+        Root {
+            root: root + 1,
+            steps,
+        }
+    }
 }
 
 // What is held between two steps: the root so far, and what its square leaves.
@@ -35,6 +65,7 @@ struct PartialRoot {
 fn root_step(root: u64, rest: u64, digits: u64) -> PartialRoot
     requires { ⌜ (rest ≤ 2 * root) × (root < 2 ^ 61) × (digits < 4) ⌝ }
     ensures { λ r. ⌜ (r .root * r .root + r .rest ≡ 4 * (root * root + rest) + digits) × (r .rest ≤ 2 * r .root) ⌝ }
+    ensures { λ r. ⌜ (2 * root ≤ r .root) × (r .root ≤ 2 * root + 1) ⌝ }
 {
     let next = 4 * rest + digits;
     let odd = 4 * root + 1;
@@ -52,25 +83,49 @@ fn one_if_within(odd: u64, next: u64) -> u64
     (odd <= next) as u64
 }
 
-// The digit of n in base 4 above its last m: two binary digits, which stand in one word. Its place is the same in both, so that only the
-// word is chosen.
-fn digit_at(n: Wide, m: u32) -> u64
-    requires { ⌜ m < 64 ⌝ }
-    ensures { λ r. ⌜ r ≡ value n / 4 ^ m % 4 ⌝ }
+// The two binary digits at the top of the window, which are brought down next.
+fn top_digits(window: Wide) -> u64
+    ensures { λ r. ⌜ (r ≡ window .high / 2 ^ 62) × (r < 4) ⌝ }
 {
-    let high = n.high;
-    let low = n.low;
-    let place = 2 * m % 64;
-    if 32 <= m {
-        (high >> place) % 4
-    } else {
-        (low >> place) % 4
+    let high = window.high;
+    high >> 62
+}
+
+// The window moved up by two binary digits: two cross from the lower word into the upper one, and two leave at the top.
+fn bring_down(window: Wide) -> Wide
+    ensures { λ r. ⌜ value r + window .high / 2 ^ 62 * 2 ^ 128 ≡ 4 * value window ⌝ }
+{
+    let high = window.high;
+    let low = window.low;
+    Wide {
+        high: (high << 2) + (low >> 62),
+        low: low << 2,
     }
 }
 
-// How many digits n has in base 4: half its binary length, padded to an even number.
-fn count_digits(n: Wide) -> u32
-    ensures { λ r. ⌜ r ≡ digitCount (value n) ⌝ }
+// The starting place: n moved up by its leading zeros, an even number of them, so that its padded length stands at the top.
+fn aligned(n: Wide, count: u32) -> Wide
+    requires { ⌜ (0 < count) × (count ≤ 62) × (value n < 4 ^ count) ⌝ }
+    ensures { λ r. ⌜ value r ≡ value n * 4 ^ (64 - count) ⌝ }
+{
+    let high = n.high;
+    let low = n.low;
+    if count <= 32 {
+        Wide {
+            high: low << (64 - 2 * count),
+            low: 0,
+        }
+    } else {
+        Wide {
+            high: (high << (128 - 2 * count)) + (low >> (2 * count - 64)),
+            low: low << (128 - 2 * count),
+        }
+    }
+}
+
+// Half the binary length of n, padded to an even number: its leading zeros are those of its upper word, or of its lower one where that is 0.
+fn count_steps(n: Wide) -> u32
+    ensures { λ r. ⌜ r ≡ steps (value n) ⌝ }
 {
     let high = n.high;
     let low = n.low;

@@ -173,7 +173,8 @@ fn sheet_case(seed: u64, index: u64) -> Result<Agreed, String> {
 
 fn block_case(seed: u64, index: u64) -> Result<Agreed, String> {
     let numbers = generate::block_numbers(seed, index);
-    let ours = tsav::block(&numbers).map(|tsav::Figures { i, d, u, lt, k }| [i, d, u, lt, k]);
+    let values = |tsav::Figures { i, d, u, lt, k, steps_i, steps_d }| [i, d, u, lt, k, steps_i, steps_d];
+    let ours = tsav::block(&numbers).map(values);
     agree(|| format!("numbers: {numbers:?}\n"), ours, reference::block_call(&numbers))
 }
 

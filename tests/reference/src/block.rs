@@ -1,6 +1,6 @@
-//! "A block": I, D, U, LT and K from 17 amounts.
+//! "A block": I, D, U, LT and K from 17 amounts; and the steps of the two roots, by #107.
 
-use crate::{Refusal, BLOCK_NUMBERS, FIGURES, LARGEST_AMOUNT, RISKS};
+use crate::{Refusal, BLOCK_NUMBERS, BLOCK_VALUES, LARGEST_AMOUNT, RISKS};
 
 /// LT(7), of expenses.
 pub(crate) const EXPENSES_LT: usize = 2 * RISKS - 1;
@@ -68,8 +68,8 @@ pub(crate) fn terms(b: &[u64; BLOCK_NUMBERS]) -> Terms {
     }
 }
 
-/// The block call: I and D in half cents, U, LT and K in cents.
-pub fn block_call(b: &[u64; BLOCK_NUMBERS]) -> Result<[u64; FIGURES], Refusal> {
+/// The block call: I and D in half cents, U, LT and K in cents; then the steps for I and those for D.
+pub fn block_call(b: &[u64; BLOCK_NUMBERS]) -> Result<[u64; BLOCK_VALUES], Refusal> {
     // "What is turned away": 7 at the first bad position,
     if let Some(position) = b.iter().position(|&amount| amount > LARGEST_AMOUNT) {
         return Err(Refusal::at_position(7, position));
@@ -84,11 +84,14 @@ pub fn block_call(b: &[u64; BLOCK_NUMBERS]) -> Result<[u64; FIGURES], Refusal> {
     }
 
     let Terms { quarters, largest, twice_pc, a, u, lt, v } = terms(b);
-    // A whole square is at least Q exactly when it is at least Q rounded up to a whole number.
-    let i = root_up(quarters.div_ceil(4)).max(largest) + twice_pc;
-    let d = root_up(a * a + a * i + i * i);
+    // A whole square is at least Q exactly when it is at least Q rounded up to a whole number, and #107: "the radicand of I is
+    // the least whole number at or above Q".
+    let radicand_of_i = quarters.div_ceil(4);
+    let i = root_up(radicand_of_i).max(largest) + twice_pc;
+    let radicand_of_d = a * a + a * i + i * i;
+    let d = root_up(radicand_of_d);
     let k = if u == 0 { 0 } else { (48 * u * v + 6 * lt * v + m(v, d)).div_ceil(60 * v) };
-    Ok([i, d, u, lt, k].map(|figure| u64::try_from(figure).unwrap()))
+    Ok([i, d, u, lt, k, steps(radicand_of_i), steps(radicand_of_d)].map(|value| u64::try_from(value).unwrap()))
 }
 
 /// M: the larger of 0 and 7V² − 31 × D × V + 30D².
@@ -114,9 +117,69 @@ pub(crate) fn root_up(radicand: u128) -> u128 {
     enough
 }
 
+/// #107: "half that padded length, 0 for radicand 0". The binary digits are counted one by one, and where their number is odd
+/// there is one more, a 0 in front.
+fn steps(mut radicand: u128) -> u128 {
+    let mut length = 0;
+    while radicand > 0 {
+        radicand /= 2;
+        length += 1;
+    }
+    (length + length % 2) / 2
+}
+
 #[cfg(test)]
 mod tests {
     use super::*;
+
+    /// #107, word by word: "after step j the held value is the root, rounded down, of the leading 2j digits of the radicand, its
+    /// length padded in front to an even number", and "one step fixes one binary digit". Gives the value that is held at the
+    /// end, and how many steps there were.
+    fn root_by_steps(radicand: u128) -> (u128, u128) {
+        let mut digits = if radicand == 0 { String::new() } else { format!("{radicand:b}") };
+        if digits.len() % 2 == 1 {
+            digits.insert(0, '0');
+        }
+        let (mut held, mut j) = (0_u128, 0);
+        while 2 * j < digits.len() {
+            j += 1;
+            let leading = u128::from_str_radix(&digits[..2 * j], 2).unwrap();
+            let down = leading.isqrt();
+            assert!(down == 2 * held || down == 2 * held + 1, "step {j} of {radicand} fixes one binary digit");
+            held = down;
+        }
+        (held, j as u128)
+    }
+
+    #[test]
+    fn the_steps_of_a_root() {
+        let powers =
+            (0..62).flat_map(|e| [(1_u128 << (2 * e)) - 1, 1 << (2 * e), (1 << (2 * e)) + 1, 1 << (2 * e + 1)]);
+        for radicand in (0..20_000).chain(powers) {
+            let (held, count) = root_by_steps(radicand);
+            assert_eq!(steps(radicand), count, "{radicand}");
+            assert_eq!(root_up(radicand), held + u128::from(held * held < radicand), "{radicand}");
+        }
+        // The first radicand that takes so many steps, and the last.
+        assert_eq!(steps(0), 0);
+        for count in 1..=62 {
+            assert_eq!((steps(1 << (2 * count - 2)), steps((1 << (2 * count)) - 1)), (count, count));
+        }
+    }
+
+    /// #107: "never above 52 in a block calculation". The largest Q is that of all risks but the sixth, and the largest radicand of
+    /// D that with PC, credit and market beside them.
+    #[test]
+    fn the_most_steps() {
+        let mut b = [LARGEST_AMOUNT; BLOCK_NUMBERS];
+        (0..RISKS).for_each(|risk| b[2 * risk + 1] = 0);
+        b[2 * 5] = 0;
+        let q = terms(&b).quarters.div_ceil(4);
+        let (i, a) = (root_up(q) + terms(&b).twice_pc, terms(&b).a);
+        let d = a * a + a * i + i * i;
+        assert_eq!((q, d), (579_999_999_999_988_400_000_000_000_058, 1_469_261_848_469_085_106_419_441_504_412));
+        assert_eq!((steps(q), steps(d)), (50, 51));
+    }
 
     #[test]
     fn the_root_is_the_least() {

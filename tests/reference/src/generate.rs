@@ -28,7 +28,7 @@ pub fn block_numbers(seed: u64, index: u64) -> [u64; BLOCK_NUMBERS] {
     if random.one_in(16) {
         return std::array::from_fn(|_| any_size(&mut random));
     }
-    let mut numbers = sound_block(&mut random);
+    let mut numbers = if random.one_in(8) { next_to_a_step(&mut random) } else { sound_block(&mut random) };
     for _ in 0..random.pick(&[0, 0, 0, 1, 1, 2]) {
         match random.below(4) {
             // 7
@@ -59,6 +59,25 @@ fn sound_block(random: &mut Random) -> [u64; BLOCK_NUMBERS] {
         if random.below(8) < density && random.one_in(2) {
             numbers[position] = amount(random, style);
         }
+    }
+    numbers
+}
+
+/// #107: a block with a radicand that is a power of 4 or next to one, so that a step more or less is seen. y of one risk, or
+/// twice PC, credit or market, is a power of 2, or it is half a cent beside it; with some longevity beside mortality, Q is lower
+/// than the square of the floor, which has a step more.
+fn next_to_a_step(random: &mut Random) -> [u64; BLOCK_NUMBERS] {
+    let mut numbers = [0; BLOCK_NUMBERS];
+    let y = (1_u64 << random.from(1, 47)) + random.below(3) - 1;
+    let kind = random.below(4);
+    if kind == 0 {
+        numbers[PC + random.at(BLOCK_NUMBERS - PC)] = y.div_ceil(2);
+        return numbers;
+    }
+    let risk = if kind == 1 { 0 } else { random.at(RISKS - 1) };
+    (numbers[2 * risk], numbers[2 * risk + 1]) = (y.div_ceil(2), y % 2);
+    if kind == 1 {
+        numbers[2] = random.from(0, y / 4);
     }
     numbers
 }

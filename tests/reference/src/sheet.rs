@@ -66,7 +66,12 @@ impl Sheet {
             let (s, t) = self.sums(number);
             (number, lower(amounts, mortality_credit(s, t)))
         };
-        self.blocks.iter().map(lowered).map(|(number, amounts)| (number, block_call(&amounts).unwrap())).collect()
+        let reported = |(number, amounts)| {
+            // #107: the report doesn't have the steps.
+            let [i, d, u, lt, k, ..] = block_call(&amounts).unwrap();
+            (number, [i, d, u, lt, k])
+        };
+        self.blocks.iter().map(lowered).map(reported).collect()
     }
     pub fn sum_of_k(&self) -> u64 {
         self.figures().iter().map(|(_, figures)| figures[4]).sum()

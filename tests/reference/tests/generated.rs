@@ -97,6 +97,40 @@ fn numbers_reach_every_row() {
     assert!(positions.len() >= BLOCK_NUMBERS + 200, "{positions:?}");
 }
 
+/// #107: block calls with every number of steps stand, up to the most that there are: a radicand that is a power of 4, and the
+/// last square below one; none for I beside some for D; and fewer for I than the square of its floor takes.
+#[test]
+fn steps_of_every_kind() {
+    let (mut of_i, mut of_d) = (BTreeSet::new(), BTreeSet::new());
+    let mut counts: BTreeMap<&str, u64> = BTreeMap::new();
+    // Half the padded length of a square.
+    let of_square = |n: u64| u64::from((129 - (u128::from(n) * u128::from(n)).leading_zeros()) / 2);
+    for index in 0..40_000 {
+        let numbers = block_numbers(13, index);
+        let Ok([i, d, _, _, _, steps_i, steps_d]) = block_call(&numbers) else { continue };
+        of_i.insert(steps_i);
+        of_d.insert(steps_d);
+        // The radicand of D is at least the square of I's root. D's root is rounded up, to a power of 2 at most.
+        assert!(steps_i <= steps_d && steps_d <= 52, "call {index}");
+        assert!(steps_d == of_square(d) || steps_d + 1 == of_square(d) && d.is_power_of_two(), "call {index}");
+        let without_pc = i - 2 * numbers[2 * RISKS];
+        let floor = (0..RISKS).map(|risk| 2 * numbers[2 * risk] - numbers[2 * risk + 1]).max().unwrap();
+        let of_root = 0 < steps_i && steps_i == of_square(without_pc);
+        for (kind, holds) in [
+            ("a power of 4", of_root && without_pc.is_power_of_two()),
+            ("the last square below it", of_root && (without_pc + 1).is_power_of_two()),
+            ("none for I", steps_i == 0 && steps_d > 0),
+            ("fewer than the floor's square", without_pc == floor && 0 < steps_i && steps_i < of_square(floor)),
+            ("D by two more", steps_i > 0 && steps_d >= steps_i + 2),
+        ] {
+            *counts.entry(kind).or_default() += u64::from(holds);
+        }
+    }
+    println!("steps in 40,000 calls: {counts:?}");
+    assert!(of_i.into_iter().eq(0..=50) && of_d.into_iter().eq(0..=51));
+    assert!(counts.values().all(|&count| count >= 100), "{counts:?}");
+}
+
 /// Fluctuation calls of every kind stand, in each row: at the threshold and next to it, far above it, a base whose root is
 /// whole, the largest; refused at either amount, at both, and for the row beside them.
 #[test]
@@ -308,7 +342,7 @@ fn credits_of_every_kind() {
                 for [_, class, first, _] in of("OTH", block) {
                     numbers[2 * RISKS + (class as usize).clamp(1, 3) - 1] = first;
                 }
-                let k = block_call(&numbers).map_or(u64::MAX, |figures| figures[4]);
+                let k = block_call(&numbers).map_or(u64::MAX, |values| values[4]);
                 kinds.extend([
                     ("no block, 0", !exists && dividend == 0 && refused(17)),
                     ("no block, above 0", !exists && dividend > 0 && refused(17)),

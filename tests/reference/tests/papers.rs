@@ -3,13 +3,25 @@
 use reference::*;
 use std::cmp::Ordering;
 
-/// A block of zeros but for these positions.
-fn block(amounts: &[(usize, u64)]) -> [u64; FIGURES] {
+/// What the block call gives of zeros but for these positions.
+fn values(amounts: &[(usize, u64)]) -> [u64; BLOCK_VALUES] {
     let mut b = [0; BLOCK_NUMBERS];
     for &(position, amount) in amounts {
         b[position] = amount;
     }
     block_call(&b).unwrap()
+}
+
+/// I, D, U, LT and K of such a block.
+fn block(amounts: &[(usize, u64)]) -> [u64; FIGURES] {
+    let [i, d, u, lt, k, ..] = values(amounts);
+    [i, d, u, lt, k]
+}
+
+/// The steps for I and those for D.
+fn steps(amounts: &[(usize, u64)]) -> [u64; 2] {
+    let [.., of_i, of_d] = values(amounts);
+    [of_i, of_d]
 }
 
 /// RO of one territory with one class.
@@ -72,7 +84,7 @@ fn calibration_of_refusals() {
 /// Document 000's printed figures, whole dollars, ours rounded to the nearest.
 #[test]
 fn example_of_document_000() {
-    let [i, d, u, lt, k] = block_call(&example()).unwrap();
+    let [i, d, u, lt, k, ..] = block_call(&example()).unwrap();
     let of_half_cents = |figure: u64| (figure + 100) / 200;
     let of_cents = |figure: u64| (figure + 50) / 100;
     assert_eq!(of_half_cents(i), 789_421);
@@ -494,6 +506,36 @@ fn bases_of_the_rows() {
             assert_eq!(fluctuation_call(row, 7, most), Ok(2));
         }
     }
+}
+
+/// #107: the steps of both roots, where the radicand is a power of 4 and next to one, where it is 0 and where the floor is the
+/// larger; and the most.
+#[test]
+fn steps_of_the_roots() {
+    assert_eq!(steps(&[]), [0, 0]);
+    // Only PC: the radicand of I is 0, and that of D is 200².
+    assert_eq!(steps(&[(14, 100)]), [0, 8]);
+    // Only credit, and only market.
+    assert_eq!(steps(&[(15, 100)]), [0, 8]);
+    assert_eq!(steps(&[(16, 100)]), [0, 8]);
+    // One risk alone: y is 1, 2, 3 and 4, and both radicands are its square.
+    assert_eq!(steps(&[(0, 1), (1, 1)]), [1, 1]);
+    assert_eq!(steps(&[(0, 1)]), [2, 2]);
+    assert_eq!(steps(&[(0, 2), (1, 1)]), [2, 2]);
+    assert_eq!(steps(&[(0, 2)]), [3, 3]);
+    // y is 2^46, and a half cent less: a radicand of 93 binary digits and one of 92.
+    assert_eq!(steps(&[(0, 1 << 45)]), [47, 47]);
+    assert_eq!(steps(&[(0, 1 << 45), (1, 1)]), [46, 46]);
+    // Q is 1 + 1 − 0.5, which isn't whole: 2 is the least whole number at or above it. I is 2, and the radicand of D 4.
+    assert_eq!(values(&[(0, 1), (1, 1), (2, 1), (3, 1)]), [2, 2, 2, 2, 2, 1, 2]);
+    // y is 128 and 32: Q is 15,360, of 14 binary digits, and its root 124. The floor, 128, has a square of 15.
+    assert_eq!(values(&[(0, 64), (2, 16)])[..2], [128, 128]);
+    assert_eq!(steps(&[(0, 64), (2, 16)]), [7, 8]);
+    // The largest amounts give the most steps that there are; 52 are allowed.
+    let most: Vec<(usize, u64)> = (0..7).map(|risk| (2 * risk, LARGEST_AMOUNT)).collect();
+    assert_eq!(steps(&most)[0], 50);
+    let others: Vec<(usize, u64)> = (14..BLOCK_NUMBERS).map(|position| (position, LARGEST_AMOUNT)).collect();
+    assert_eq!(steps(&[most, others].concat()), [50, 51]);
 }
 
 /// #104: the refusals, alone and beside one another.

@@ -1,5 +1,5 @@
 -- The two products come to a² + a × i + i², which a root of two words has room for. Assumes nothing.
-use mathlib.Core.Path.{_≡_, _∙_}
+use mathlib.Core.Path.{_≡_, ap, _∙_}
 use Prim.Native.Nat.{_+_, _*_, _≤_}
 use native.Mathlib.Omega.{arith}
 use borrow.Author.Needs.{needs}
@@ -7,6 +7,7 @@ use lib.Dec.{leb}
 use Rattle.search.specs.Least.{least}
 use Rattle.guideline.specs.Block.{radicand}
 use Rattle.wide.specs.Value.{value}
+use Rattle.root.specs.Steps.{steps}
 use Rattle.block.proofs.Radicands.{largestRadicand, joint, joint-small, in-root, in-words}
 use Rattle.block.proofs.diversified.Statement.{statement}
 use Rattle.block.proofs.diversified.Tie as tie
@@ -25,13 +26,16 @@ small c =
 add-requires : tie.Need-add-requires
 add-requires c κs = in-words _ (small c)
 
-root-up-requires : tie.Need-root-up-requires
-root-up-requires c κs =
+root-and-steps-requires : tie.Need-root-and-steps-requires
+root-and-steps-requires c κs =
     let h : value (c .add .result) ≤ largestRadicand = omega (arith, c .add .ensures, small (c .before)) in
     in-root _ h
 
 returns : tie.Need-returns
-returns c = c .root-up .ensures ∙ (λ i. least (λ d. leb ((c .before .add .ensures ∙ both (c .before .before)) i) (d * d)))
+returns c =
+    let e = c .before .add .ensures ∙ both (c .before .before) in
+    let r = c .root-and-steps .ensures in
+    (r .0 ∙ (λ i. least (λ d. leb (e i) (d * d))), r .1 ∙ ap steps e)
 
 pub diversified-spec : {M : Type 1} → statement M
-diversified-spec = tie.close (tie.spec (λ c. search needs) (λ c κs. search needs) (λ c κs. search needs) add-requires root-up-requires returns)
+diversified-spec = tie.close (tie.spec (λ c. search needs) (λ c κs. search needs) (λ c κs. search needs) add-requires root-and-steps-requires returns)

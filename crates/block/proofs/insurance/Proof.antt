@@ -10,8 +10,10 @@ use Rattle.guideline.specs.Block.{PC, largestOf, largest, root, I}
 use Rattle.guideline.proofs.Figures.{q}
 use Rattle.wide.specs.Value.{value}
 use Rattle.wide.specs.Sum.{held}
+use Rattle.root.specs.Steps.{steps}
 use Rattle.block.specs.Parts.{SmallYs}
 use Rattle.block.proofs.Radicands.{largestRadicand, ys-fit, sum-is, quarter-small, in-root, root-found, floor-found, floor-room}
+use Rattle.block.proofs.RootSteps.{radicand-is}
 use Rattle.block.proofs.insurance.Statement.{statement}
 use Rattle.block.proofs.insurance.Tie as tie
 
@@ -33,20 +35,20 @@ quarter c =
     let e = c .before .unsigned .ensures ∙ summed (c .before .before) in
     c .quarter-up .ensures ∙ ap (λ (n : ℕ). (n + 3) / 4) (ap natAbs e)
 
-root-up-requires : tie.Need-root-up-requires
-root-up-requires c κs =
+root-and-steps-requires : tie.Need-root-and-steps-requires
+root-and-steps-requires c κs =
     let s = c .before .before .before .before .before in
     let h : value (c .quarter-up .result) ≤ largestRadicand = omega (arith, quarter c, quarter-small _ (s .pre)) in
     in-root _ h
 
-abbrev given : tie.After-root-up → tie.After-half-cents
+abbrev given : tie.After-root-and-steps → tie.After-half-cents
 given c = c .before .before .before .before .before
 
-rooted : (c : tie.After-root-up) → c .root-up .result ≡ root (given c .before .args .b .now)
-rooted c = root-found _ (given c .before .pre) _ _ (quarter (c .before)) (c .root-up .ensures)
+rooted : (c : tie.After-root-and-steps) → c .root-and-steps .result .root ≡ root (given c .before .args .b .now)
+rooted c = root-found _ (given c .before .pre) _ _ (quarter (c .before)) (c .root-and-steps .ensures .0)
 
 -- the larger of the root and the largest y(i), as the block has them
-floor : (c : tie.After-root-up) → let b = given c .before .args .b .now in max (c .root-up .result) (largestOf (given c .half-cents .result)) ≡ max (root b) (largest b)
+floor : (c : tie.After-root-and-steps) → let b = given c .before .args .b .now in max (c .root-and-steps .result .root) (largestOf (given c .half-cents .result)) ≡ max (root b) (largest b)
 floor c = floor-found _ (given c .before .pre) _ _ (given c .half-cents .ensures) (rooted c)
 
 floor-then-pc-requires : tie.Need-floor-then-pc-requires
@@ -57,11 +59,13 @@ floor-then-pc-requires c κs =
 returns : tie.Need-returns
 unfolding I
 returns c =
-    let r = c .before .before .before in
-    c .floor-then-pc .ensures ∙ ap (λ (n : ℕ). n + 2 * PC (given r .before .args .b .now)) (floor r)
+    let r = c .before .before .before in (
+      c .floor-then-pc .ensures ∙ ap (λ (n : ℕ). n + 2 * PC (given r .before .args .b .now)) (floor r),
+      r .root-and-steps .ensures .1 ∙ ap steps (quarter (r .before) ∙ sym (radicand-is _)),
+    )
 
 pub insurance-spec : {M : Type 1} → statement M
 insurance-spec =
     tie.close
-    (tie.spec (λ c κs. search needs) correlated-requires unsigned-requires (λ c κs. search needs) root-up-requires (λ c. search needs)
+    (tie.spec (λ c κs. search needs) correlated-requires unsigned-requires (λ c κs. search needs) root-and-steps-requires (λ c. search needs)
     floor-then-pc-requires returns)

@@ -13,4 +13,4 @@ root-step-spec =
     tie.close
     (tie.spec
     (λ c. search needs) (λ c. search needs) (λ c. search needs) (λ c. search needs) (λ c κs. search needs) (λ c. search needs) (λ c. omega (arith, more c .bit))
-    (λ c. omega (arith, more c .within)) (λ c. more c .within) (λ c. (more c .square, more c .small)))
+    (λ c. omega (arith, more c .within)) (λ c. more c .within) (λ c. ((more c .square, more c .small), (omega arith, omega (arith, more c .bit)))))
