@@ -15,7 +15,7 @@ use Rattle.guideline.proofs.Totals.{totals-fit}
 use Rattle.guideline.proofs.Demand.{buffer-demand}
 use Rattle.report_line.specs.Line.{numberAt}
 use Rattle.sheet_line.specs.declared.Entry.{Entry}
-use Rattle.ledger.specs.Entries.{exists}
+use Rattle.order.specs.Entries.{exists}
 use Rattle.report.specs.Rows.{BLK, TOT}
 use Rattle.report.proofs.Reread.{buffer-read, figure-read}
 use Rattle.judgement.specs.Sheet.{afterCredit, sheetOf}

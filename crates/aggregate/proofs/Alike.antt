@@ -6,8 +6,8 @@ use Prim.Native.Nat.{ℕ}
 use Rattle.refusal.specs.Outcome.{Outcome}
 use Rattle.refusal.specs.Outcome.Outcome.{accepted, refused}
 use Rattle.sheet_line.specs.declared.Entry.{Entry}
-use Rattle.ledger.specs.Entries.{SameFigures}
-use Rattle.ledger.specs.Reading.{reading, entriesOf}
+use Rattle.order.specs.Entries.{SameFigures}
+use Rattle.order.specs.Reading.{reading, entriesOf}
 use Rattle.judgement.specs.Judgement.{judgement}
 use Rattle.judgement.specs.Judgement.Judgement.{sound}
 use Rattle.judgement.proofs.Accepted.{sound-passed}

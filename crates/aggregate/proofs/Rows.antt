@@ -16,7 +16,7 @@ use Rattle.guideline.specs.Buffer.{count}
 use Rattle.report_line.specs.Line.{reportLineBytes, Row, printRows}
 use Rattle.report_line.proofs.ReadBack.{rows-append}
 use Rattle.sheet_line.specs.declared.Entry.{Entry}
-use Rattle.ledger.specs.Entries.{exists}
+use Rattle.order.specs.Entries.{exists}
 use Rattle.report.specs.Rows.{BLK, TOT, itemsFrom, blockRows, tableRows, totals, reportLength}
 use Rattle.report.proofs.Items.{items-long}
 use Rattle.judgement.specs.Sheet.{afterCredit, blocksTo, sheetOf, rowsTo}

@@ -18,7 +18,7 @@ use Rattle.guideline.specs.Operational.{RO}
 use Rattle.guideline.specs.Buffer.{count, sumK, buffer}
 use Rattle.report_line.specs.Line.{Row, printRows}
 use Rattle.sheet_line.specs.declared.Entry.{Entry}
-use Rattle.ledger.specs.Entries.{exists}
+use Rattle.order.specs.Entries.{exists}
 use Rattle.report.specs.Rows.{blockRows, totalRows, reportLength, refusalLine}
 use Rattle.judgement.specs.Sheet.{afterCredit, sheetOf}
 use Rattle.judgement.specs.Judgement.{Judgement, judgement}

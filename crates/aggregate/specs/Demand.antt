@@ -14,7 +14,8 @@ use Rattle.guideline.specs.Demand.{BufferDemand}
 use Rattle.field.specs.declared.Field.the-variants.{Value}
 use Rattle.report_line.specs.Line.{numberAt}
 use Rattle.sheet_line.specs.declared.Entry.{Entry}
-use Rattle.ledger.specs.Entries.{exists, blockOf, survivalSum, deathSum}
+use Rattle.order.specs.Entries.{exists}
+use Rattle.ledger.specs.Numbers.{blockOf, survivalSum, deathSum}
 use Rattle.report.specs.Rows.{BLK, TOT}
 use Rattle.mortality.specs.Credit.{CreditDemand}
 use Rattle.judgement.specs.Sheet.{creditOf, sheetOf}

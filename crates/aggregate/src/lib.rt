@@ -7,7 +7,7 @@ ghost use Rattle.aggregate.specs.Call.{stated, Done, sheetCall, printout
 ghost use Rattle.aggregate.specs.Demand.{Demand3};
 use guideline::TABLE_NUMBERS;
 use judgement::Verdict;
-use ledger::PLACES;
+use order::PLACES;
 use refusal::Place;
 use report::LONGEST_REPORT;
 use report_line::REPORT_LINE_BYTES;

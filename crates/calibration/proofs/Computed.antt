@@ -21,7 +21,8 @@ use Rattle.operational.specs.Call.{rule7, operationalCall}
 use Rattle.fluctuation.specs.Rows.{rows, rowOf, baseOf}
 use Rattle.fluctuation.specs.Result.{reaches, result}
 use Rattle.fluctuation.specs.Call.{rule7 as fluctuationRule7, fluctuationCall}
-use Rattle.ledger.specs.Entries.{hasKey, lookup, pairs, volumesBy}
+use Rattle.order.specs.Entries.{hasKey, lookup}
+use Rattle.ledger.specs.Numbers.{pairs, volumesBy}
 use Rattle.calibration.specs.Points.{nothing, gives, allGiven, points}
 use Rattle.calibration.specs.Miscalibrations.{pcInRisk, netted, eachRounded}
 

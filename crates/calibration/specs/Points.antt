@@ -14,7 +14,7 @@ use Rattle.operational.specs.Call.{operationalCall}
 use Rattle.fluctuation.specs.Call.{fluctuationCall}
 use Rattle.sheet_line.specs.declared.Code.the-variants.{Vol, Acq}
 use Rattle.sheet_line.specs.declared.Entry.{Entry}
-use Rattle.ledger.specs.Entries.{volumesOf}
+use Rattle.ledger.specs.Numbers.{volumesOf}
 
 -- a figure and its place among the call's values
 pub record Figure : Type 0 where

@@ -15,9 +15,10 @@ use Rattle.report_line.specs.Line.{key, reportLine, printRows, equalBytes, numb
 use Rattle.sheet_line.specs.Codes.{isCode, codeAmong}
 use Rattle.sheet_line.specs.Line.{spaced, layoutOf, lettered}
 use Rattle.sheet_line.specs.Rules as line
-use Rattle.ledger.specs.Entries.{hasKey, lookup, exists, pairs, blockBy, volumesBy}
-use Rattle.ledger.specs.Order.{keyOf, rule19, rule11}
-use Rattle.ledger.specs.Reading.{onLine, readFrom}
+use Rattle.order.specs.Entries.{hasKey, lookup, exists}
+use Rattle.ledger.specs.Numbers.{pairs, blockBy, volumesBy}
+use Rattle.order.specs.Order.{keyOf, rule19, rule11}
+use Rattle.order.specs.Reading.{onLine, readFrom}
 use Rattle.report.specs.Rows.{itemsFrom}
 use Rattle.judgement.specs.Sheet.{creditOf, afterCredit, blocksTo, sheetOf}
 use Rattle.judgement.specs.Judgement.{creditAbove, rule13, dividendBarred, rule17, rule16, rule12, ruleLines, rule2, judgement}

@@ -25,7 +25,7 @@ use Rattle.guideline.proofs.Totals.{totals-fit}
 use Rattle.report_line.specs.Line.{Row, printRows, equalBytes, numberIn, numberAt}
 use Rattle.report_line.proofs.ReadBack.{rowIs, numberAmong, rows-read}
 use Rattle.sheet_line.specs.declared.Entry.{Entry}
-use Rattle.ledger.specs.Entries.{exists}
+use Rattle.order.specs.Entries.{exists}
 use Rattle.report.specs.Rows.{BLK, TOT, row, itemsFrom, blockRows, reportLength}
 use Rattle.report.proofs.Reread.{all-printable, buffer-read}
 use Rattle.judgement.specs.Sheet.{afterCredit, blocksTo, sheetOf}

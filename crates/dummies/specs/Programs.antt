@@ -15,7 +15,7 @@ use Rattle.guideline.specs.Operational.{RO}
 use Rattle.guideline.specs.Buffer.{count, sumK, free, available, buffer}
 use Rattle.report_line.specs.Line.{Row, printRows}
 use Rattle.sheet_line.specs.declared.Entry.{Entry}
-use Rattle.ledger.specs.Entries.{exists}
+use Rattle.order.specs.Entries.{exists}
 use Rattle.report.specs.Rows.{TOT, itemsFrom, blockRows, reportLength}
 use Rattle.judgement.specs.Sheet.{sheetOf}
 use Rattle.judgement.specs.Judgement.{Judgement, judgement}

@@ -33,12 +33,13 @@ use Rattle.sheet_line.specs.declared.Code.{Code}
 use Rattle.sheet_line.specs.declared.Code.the-variants.{Rsk, Oth, Mor, Vol, Acq, Gen, Crd}
 use Rattle.sheet_line.specs.declared.Entry.{Entry}
 use Rattle.sheet_line.specs.Rules.{AcceptedLine}
-use Rattle.ledger.specs.Entries.{lookup, markOf, ofBlock, exists, hasLine, DistinctKeys, blockOf, survivalSum, deathSum, dividendCredit, adjustableCredit}
-use Rattle.ledger.specs.Reading.{Reading, reading}
-use Rattle.ledger.specs.Reading.Reading.{complete, stopped}
+use Rattle.order.specs.Entries.{lookup, markOf, ofBlock, exists, hasLine, DistinctKeys}
+use Rattle.ledger.specs.Numbers.{blockOf, survivalSum, deathSum, dividendCredit, adjustableCredit}
+use Rattle.order.specs.Reading.{Reading, reading}
+use Rattle.order.specs.Reading.Reading.{complete, stopped}
 use Rattle.ledger.proofs.Bounds.{first-most, second-most, none-outside, none-unmarked, block-ruled, length-volumes, volumes-most, general-most, scalar-within}
-use Rattle.ledger.specs.Tables.{mostLines, longestSheet}
-use Rattle.ledger.proofs.Lines.{all-read, reading-distinct, reading-stopped}
+use Rattle.order.specs.Places.{mostLines, longestSheet}
+use Rattle.order.proofs.Lines.{all-read, reading-distinct, reading-stopped}
 use Rattle.mortality.specs.Credit.{CreditDemand}
 use Rattle.mortality.proofs.Credits.{credit-demand, none-with-0}
 use Rattle.mortality.proofs.Accepted.{lowered-accepted, lowered-sums}

@@ -3,12 +3,12 @@ use mathlib.Core.Path.{_≡_, sym, _∙_}
 use mathlib.Core.List.{List}
 use Prim.Native.Nat.{ℕ}
 use Rattle.sheet_line.specs.declared.Entry.{Entry}
-use Rattle.ledger.specs.Entries.{SameFigures}
-use Rattle.ledger.specs.Order.{Ascending, Ordered}
-use Rattle.ledger.specs.Reading.{printLines}
-use Rattle.ledger.proofs.Ascent.{ascending-ordered}
-use Rattle.ledger.proofs.Lines.{reading-ascending}
-use Rattle.ledger.proofs.Printed.{sheet-printed, sheets-alike}
+use Rattle.order.specs.Entries.{SameFigures}
+use Rattle.order.specs.Order.{Ascending, Ordered}
+use Rattle.order.specs.Reading.{printLines}
+use Rattle.order.proofs.Ascent.{ascending-ordered}
+use Rattle.order.proofs.Lines.{reading-ascending}
+use Rattle.order.proofs.Printed.{sheet-printed, sheets-alike}
 use Rattle.judgement.specs.Judgement.{judgement}
 use Rattle.judgement.specs.Judgement.Judgement.{sound}
 use Rattle.judgement.proofs.Accepted.{sound-passed}

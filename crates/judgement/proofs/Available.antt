@@ -9,7 +9,7 @@ use Rattle.guideline.specs.Sizes.{tenThousandths}
 use Rattle.guideline.specs.Operational.{RO}
 use Rattle.guideline.specs.Buffer.{sumK, free, available, bracket, buffer}
 use Rattle.sheet_line.specs.declared.Entry.{Entry}
-use Rattle.ledger.specs.Entries.{generalAmount}
+use Rattle.ledger.specs.Numbers.{generalAmount}
 use Rattle.judgement.specs.Sheet.{sheetOf}
 
 module _ (es : List Entry) where

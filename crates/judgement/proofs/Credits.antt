@@ -20,8 +20,9 @@ use Rattle.sheet_line.specs.Codes.{Key}
 use Rattle.sheet_line.specs.declared.Code.the-variants.{Rsk, Mor, Crd}
 use Rattle.sheet_line.specs.declared.Entry.{Entry}
 use Rattle.sheet_line.specs.Rules.{AcceptedLine}
-use Rattle.ledger.specs.Entries.{hasLine, dividendCredit, adjustableCredit}
-use Rattle.ledger.specs.Tables.{tabled}
+use Rattle.order.specs.Entries.{hasLine}
+use Rattle.ledger.specs.Numbers.{dividendCredit, adjustableCredit}
+use Rattle.order.specs.Places.{tabled}
 use Rattle.ledger.proofs.Bounds.{first-most, second-most, none-outside, risk-at}
 use Rattle.judgement.specs.Sheet.{creditOf}
 use Rattle.judgement.specs.Judgement.{creditAbove}

@@ -27,7 +27,8 @@ use Rattle.guideline.proofs.Totals.{sum-more, sum-fits}
 use Rattle.sheet_line.specs.declared.Entry.{Entry}
 use Rattle.sheet_line.specs.Rules.{AcceptedLine}
 use Rattle.sheet_line.specs.declared.Code.the-variants.{Crd}
-use Rattle.ledger.specs.Entries.{hasLine, exists, dividendCredit}
+use Rattle.order.specs.Entries.{hasLine, exists}
+use Rattle.ledger.specs.Numbers.{dividendCredit}
 use Rattle.ledger.proofs.Bounds.{first-most}
 use Rattle.judgement.specs.Judgement.{dividendBarred}
 use Rattle.judgement.specs.Sheet.{afterCredit, blocksTo, rowsTo}

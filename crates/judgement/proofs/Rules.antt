@@ -15,14 +15,15 @@ use Rattle.sheet_line.specs.Line.{sheetLineBytes}
 use Rattle.sheet_line.specs.Codes.{scalarClass}
 use Rattle.sheet_line.specs.declared.Code.the-variants.{Gen}
 use Rattle.sheet_line.specs.declared.Entry.{Entry}
-use Rattle.ledger.specs.Entries.{hasLine}
-use Rattle.ledger.specs.Reading.{Reading, reading, entriesOf, outcomeOf}
-use Rattle.ledger.specs.Reading as ledger
-use Rattle.ledger.specs.Reading.Reading.{complete, stopped}
-use Rattle.ledger.specs.Tables.{longestSheet, Filled}
+use Rattle.order.specs.Entries.{hasLine}
+use Rattle.order.specs.Reading.{Reading, reading, entriesOf, outcomeOf}
+use Rattle.ledger.specs.Tables as ledger
+use Rattle.order.specs.Reading.Reading.{complete, stopped}
+use Rattle.order.specs.Places.{longestSheet}
+use Rattle.ledger.specs.Tables.{Filled}
 use Rattle.ledger.specs.declared.Answer.{Answer}
 use Rattle.ledger.specs.declared.Answer.the-variants as answer
-use Rattle.ledger.proofs.Lines.{all-read}
+use Rattle.order.proofs.Lines.{all-read}
 use Rattle.judgement.specs.Sheet.{sheetOf, rowsTo}
 use Rattle.judgement.specs.Judgement.{Judgement, rule13, dividendBarred, rule17, creditAbove, rule16, rule12, ruleLines, rule2, judgement, findings}
 use Rattle.judgement.specs.Judgement.Judgement.{turnedAway, sound}

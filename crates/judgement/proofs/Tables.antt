@@ -1,20 +1,22 @@
 -- What is read off the tables that hold a sheet's lines is what the lines say. Assumes nothing.
-use mathlib.Core.Path.{_≡_, ap}
+use mathlib.Core.Path.{_≡_}
 use mathlib.Core.List.{List}
 use Prim.Native.Nat.{ℕ, _≤_}
 use native.Mathlib.Omega.{arith}
-use lib.Dec.{ltb}
 use Rattle.guideline.specs.Sizes.{blocks}
 use Rattle.sheet_line.specs.Codes.{generalClasses, scalarClass, Key}
 use Rattle.sheet_line.specs.declared.Code.{Code}
 use Rattle.sheet_line.specs.declared.Code.the-variants.{Vol, Acq, Gen}
 use Rattle.sheet_line.specs.declared.Entry.{Entry}
-use Rattle.ledger.specs.Entries.{lookup, firstOf, secondOf, markOf, exists, hasLine, blockBy, joinedBy, blockOf, volumesOf, generalAmount}
-use Rattle.ledger.specs.Tables.{tabled, JoinedFits, hasMark, blockMarked}
+use Rattle.order.specs.Entries.{lookup, firstOf, secondOf, exists, hasLine}
+use Rattle.ledger.specs.Numbers.{blockBy, joinedBy, blockOf, volumesOf, generalAmount}
+use Rattle.order.specs.Places.{tabled}
+use Rattle.ledger.specs.Tables.{JoinedFits}
+use Rattle.order.specs.Marks.{hasMark, blockMarked}
 use Rattle.ledger.proofs.Bounds.{first-most, second-most}
-use Rattle.ledger.proofs.Indexes.{lookup-table}
-use Rattle.ledger.proofs.Marks.{exists-table}
-use Rattle.ledger.proofs.Numbers.{block-table, volumes-table, general-table, scalar-table}
+use Rattle.order.proofs.Indexes.{lookup-table}
+use Rattle.order.proofs.Marks.{mark-table, exists-table}
+use Rattle.ledger.proofs.Numbers.{block-table, volumes-table, general-table}
 use Rattle.judgement.specs.Steps.{Holds}
 
 module _ {es : List Entry} {f s m : List ℕ} (H : Holds es f s m) where
@@ -43,7 +45,7 @@ module _ {es : List Entry} {f s m : List ℕ} (H : Holds es f s m) where
   general-is c h = rw (H .tables .first) (general-table es (H .lines) c h)
 
   pub mark-is : (k : Code) (b c : ℕ) → Key k b c → hasMark m k b c ≡ hasLine es k b c
-  mark-is k b c v = rw (H .tables .mark) (ap (λ (n : ℕ). ltb 0 n) (lookup-table markOf es k b c v (H .lines)))
+  mark-is k b c v = rw (H .tables .mark) (mark-table es (H .lines) k b c v)
 
   pub scalar-is : hasMark m Gen 0 scalarClass ≡ hasLine es Gen 0 scalarClass
-  scalar-is = rw (H .tables .mark) (scalar-table es (H .lines))
+  scalar-is = mark-is Gen 0 scalarClass (record { low = omega arith; high = omega arith; one = omega arith; most = omega arith })

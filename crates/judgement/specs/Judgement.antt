@@ -18,10 +18,11 @@ use Rattle.sheet_line.specs.Line.{sheetLineBytes}
 use Rattle.sheet_line.specs.Codes.{scalarClass}
 use Rattle.sheet_line.specs.declared.Code.the-variants.{Gen, Crd}
 use Rattle.sheet_line.specs.declared.Entry.{Entry}
-use Rattle.ledger.specs.Entries.{hasLine, exists, blockOf, dividendCredit}
-use Rattle.ledger.specs.Reading.{Reading, reading}
-use Rattle.ledger.specs.Reading.Reading.{complete, stopped}
-use Rattle.ledger.specs.Tables.{longestSheet}
+use Rattle.order.specs.Entries.{hasLine, exists}
+use Rattle.ledger.specs.Numbers.{blockOf, dividendCredit}
+use Rattle.order.specs.Reading.{Reading, reading}
+use Rattle.order.specs.Reading.Reading.{complete, stopped}
+use Rattle.order.specs.Places.{longestSheet}
 use Rattle.judgement.specs.Sheet.{creditOf, afterCredit, sheetOf, rowsTo}
 use Rattle.judgement.specs.declared.Verdict.{Verdict}
 use Rattle.judgement.specs.declared.Verdict.the-variants.{Sound, TurnedAway}

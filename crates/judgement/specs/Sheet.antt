@@ -9,7 +9,8 @@ use Rattle.guideline.specs.Block.{figuresOf}
 use Rattle.guideline.specs.Buffer.{Sheet}
 use Rattle.mortality.specs.Credit.{credit, lowered}
 use Rattle.sheet_line.specs.declared.Entry.{Entry}
-use Rattle.ledger.specs.Entries.{exists, blockOf, volumesOf, generalAmount, survivalSum, deathSum, dividendCredit, adjustableCredit}
+use Rattle.order.specs.Entries.{exists}
+use Rattle.ledger.specs.Numbers.{blockOf, volumesOf, generalAmount, survivalSum, deathSum, dividendCredit, adjustableCredit}
 
 -- the reported credit of a block, section 11.1.1; a block without a MOR line has S and T zero, and no credit
 unfoldable pub creditOf : List Entry → ℕ → ℕ

@@ -16,7 +16,8 @@ use Rattle.sheet_line.specs.Codes.{scalarClass}
 use Rattle.sheet_line.specs.declared.Code.the-variants.{Gen}
 use Rattle.sheet_line.specs.declared.Entry.{Entry}
 use Rattle.sheet_line.specs.Rules.{AcceptedLine}
-use Rattle.ledger.specs.Entries.{hasLine, blockOf, dividendCredit}
+use Rattle.order.specs.Entries.{hasLine}
+use Rattle.ledger.specs.Numbers.{blockOf, dividendCredit}
 use Rattle.ledger.specs.Tables.{TablesOf}
 use Rattle.judgement.specs.Sheet.{creditOf, blocksTo, rowsTo}
 use Rattle.judgement.specs.Judgement.{Judgement, dividendBarred}

@@ -10,7 +10,8 @@ ghost use Rattle.guideline.specs.Buffer.{mostAvailable};
 ghost use Rattle.search.specs.First.{anyTo};
 ghost use Rattle.search.specs.Total.{sumTo};
 ghost use Rattle.search.specs.Pick.{pick};
-ghost use Rattle.ledger.specs.Entries.{hasLine, dividendCredit, adjustableCredit};
+ghost use Rattle.order.specs.Entries.{hasLine};
+ghost use Rattle.ledger.specs.Numbers.{dividendCredit, adjustableCredit};
 ghost use Rattle.search.specs.Least.{least};
 ghost use Rattle.guideline.specs.Sizes.{nonParticipating, blocks, adjustableProducts, rowNumbers, tenThousandths, largestScalar, tableNumbers};
 ghost use Rattle.guideline.specs.Operational.{RO};
@@ -28,8 +29,8 @@ use guideline::ROW_NUMBERS;
 use guideline::TABLE_NUMBERS;
 use guideline::TEN_THOUSANDTHS;
 use ledger::Answer;
-use ledger::LONGEST_SHEET;
-use ledger::PLACES;
+use order::LONGEST_SHEET;
+use order::PLACES;
 use refusal::Place;
 use sheet_line::Code;
 use sheet_line::SHEET_LINE_BYTES;
@@ -89,7 +90,7 @@ fn after_lines(
     requires { ⌜ Ledger (now firsts) (now seconds) (now marks) ⌝ }
     ensures { λ r. ⌜ OfLines (now (firsts .entry)) (now (seconds .entry)) (now (marks .entry)) (λ es. stated r (now (rows .exit)) ≡ findings (rule12 es)) ⌝ }
 {
-    if !ledger::has_scalar(marks) {
+    if !order::has_scalar(marks) {
         return Verdict::TurnedAway(12, Place::Nowhere);
     }
     let credits = credits_of(firsts, seconds, marks);
@@ -268,7 +269,7 @@ fn work_block(
     ensures { λ r. ⌜ OfLines (now (firsts .entry)) (now (seconds .entry)) (now (marks .entry)) (λ es. WorkedOut es block r (now (rows .exit))) ⌝ }
 {
     let dividend = dividend_credit(firsts, seconds, marks, block);
-    if !ledger::block_exists(marks, block) {
+    if !order::block_exists(marks, block) {
         let absent = Worked {
             count: 0,
             sum: 0,
@@ -370,7 +371,7 @@ fn has_dividend(
     if block <= NON_PARTICIPATING {
         return false;
     }
-    ledger::has_mark(marks, Code::Crd, block, 1)
+    order::has_mark(marks, Code::Crd, block, 1)
 }
 
 // Whether one of two things is so.

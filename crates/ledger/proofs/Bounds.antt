@@ -18,8 +18,9 @@ use Rattle.sheet_line.specs.declared.Code.{Code}
 use Rattle.sheet_line.specs.declared.Code.the-variants.{Rsk, Oth, Vol, Acq, Gen}
 use Rattle.sheet_line.specs.declared.Entry.{Entry}
 use Rattle.sheet_line.specs.Rules.{AcceptedLine, AcceptedAmounts}
-use Rattle.ledger.specs.Entries.{hasKey, lookup, firstOf, secondOf, markOf, pairs, blockBy, volumesBy, blockOf, volumesOf, generalAmount}
-use Rattle.ledger.proofs.Keys.{same-key}
+use Rattle.order.specs.Entries.{hasKey, lookup, firstOf, secondOf, markOf}
+use Rattle.order.proofs.Keys.{same-key}
+use Rattle.ledger.specs.Numbers.{pairs, blockBy, volumesBy, blockOf, volumesOf, generalAmount}
 
 -- ---- what is looked up is 0, or is in a line with that code and class
 

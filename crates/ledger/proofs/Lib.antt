@@ -1,10 +1,4 @@
--- What holds of a sheet's lines and of the tables that they are read into. Assumes nothing.
-pub mod Keys
-pub mod Admission
-pub mod Indexes
-pub mod Ascent
-pub mod Lines
-pub mod Printed
+-- What holds of the tables that a sheet's lines are read into, and of the numbers taken off them. Assumes nothing.
+pub mod Filling
 pub mod Numbers
-pub mod Marks
 pub mod Bounds

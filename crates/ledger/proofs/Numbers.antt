@@ -1,23 +1,24 @@
 -- The numbers that are taken off the tables: how a list of them is written pair by pair, and that for tables of entries they are the
 -- numbers of those entries. Assumes nothing.
-use mathlib.Core.Path.{_≡_, refl, ap, _∙_}
+use mathlib.Core.Path.{_≡_, refl, _∙_}
 use mathlib.Core.List.{List, append-assoc}
 use Prim.Native.Nat.{ℕ, zero, suc, _+_, _*_, _/_, _%_, _^_, _≤_, _<_}
 use native.Mathlib.Numerals.{add-one}
 use native.Mathlib.Omega.{arith}
-use lib.Dec.{ltb}
 use lib.ListN.{length, getD, set}
 use Rattle.search.specs.Each.{Each}
 use Rattle.search.proofs.Stretches.{Wrote, nothing, next, all-written}
 use Rattle.guideline.specs.Sizes.{blocks, blockNumbers, volumeClasses, volumeNumbers, volumePairs}
-use Rattle.sheet_line.specs.Codes.{riskClasses, otherClasses, generalClasses, scalarClass, rangeOf}
+use Rattle.sheet_line.specs.Codes.{riskClasses, otherClasses, generalClasses, rangeOf}
 use Rattle.sheet_line.specs.Rules.{AcceptedLine}
 use Rattle.sheet_line.specs.declared.Code.{Code}
 use Rattle.sheet_line.specs.declared.Code.the-variants.{Rsk, Oth, Vol, Acq, Gen}
 use Rattle.sheet_line.specs.declared.Entry.{Entry}
-use Rattle.ledger.specs.Entries.{lookup, firstOf, secondOf, markOf, hasLine, pairs, blockBy, volumesBy, joinedBy, blockOf, volumesOf, generalAmount}
-use Rattle.ledger.specs.Tables.{indexOf, table, tabled, JoinedFits, hasMark}
-use Rattle.ledger.proofs.Indexes.{lookup-table}
+use Rattle.order.specs.Entries.{lookup, firstOf, secondOf}
+use Rattle.order.specs.Places.{indexOf, table, tabled}
+use Rattle.order.proofs.Indexes.{lookup-table}
+use Rattle.ledger.specs.Numbers.{pairs, blockBy, volumesBy, joinedBy, blockOf, volumesOf, generalAmount}
+use Rattle.ledger.specs.Tables.{JoinedFits}
 
 -- ---- a list written pair by pair
 
@@ -110,6 +111,3 @@ module _ (es : List Entry) (all : Each AcceptedLine es) where
 
   pub general-table : (c : ℕ) → (1 ≤ c) × (c ≤ generalClasses) → tabled (table firstOf es) Gen 0 c ≡ generalAmount es c
   general-table c h = entry-at Gen 0 c (omega arith, omega arith) h firstOf
-
-  pub scalar-table : hasMark (table markOf es) Gen 0 scalarClass ≡ hasLine es Gen 0 scalarClass
-  scalar-table = ap (λ (m : ℕ). ltb 0 m) (entry-at Gen 0 scalarClass (omega arith, omega arith) (omega arith, omega arith) markOf)

@@ -1,5 +1,3 @@
--- A sheet's lines as entries, how they are read, and the tables that hold them. Assumes nothing.
-pub mod Entries
-pub mod Order
-pub mod Reading
+-- The numbers that are taken off a sheet's lines, and the tables that hold the lines. Assumes nothing.
+pub mod Numbers
 pub mod Tables

@@ -3,9 +3,9 @@
 // with '#' before the call, and written whole after it.
 ghost use Prim.Native.Nat.{_<_};
 use aggregate::SheetAnswer;
-use ledger::LONGEST_SHEET;
 use libc::STDIN_FILENO;
 use libc::STDOUT_FILENO;
+use order::LONGEST_SHEET;
 use refusal::Place;
 use report::LONGEST_REPORT;
 use report_line::REPORT_LINE_BYTES;

@@ -1,9 +1,9 @@
 // tsav-sheet: reads a sheet from standard input and writes its report, or the line of its refusal. A read or a write that fails is
 // said on standard error; a sheet that could not be read gets neither a report nor a refusal.
-use ledger::LONGEST_SHEET;
 use libc::STDERR_FILENO;
 use libc::STDIN_FILENO;
 use libc::STDOUT_FILENO;
+use order::LONGEST_SHEET;
 use report::LONGEST_REPORT;
 
 // One byte more than the longest sheet, so that a sheet that is too long is seen to be.

@@ -3,7 +3,7 @@ use mathlib.Core.Path.{_≡_, refl, sym, ap, _∙_}
 use mathlib.Core.List.{List, []}
 use Prim.Native.Nat.{ℕ}
 use borrow.Author.Needs.{needs}
-use Rattle.ledger.specs.Tables.{table}
+use Rattle.order.specs.Places.{table}
 use Rattle.judgement.specs.Judgement.{judgement, findings, stated}
 use Rattle.judgement.specs.declared.Verdict.{Verdict}
 use Rattle.aggregate.proofs.Rules.{turned, few, too-short, reported}

@@ -9,7 +9,7 @@ use Rattle.guideline.specs.Sizes.{nonParticipating}
 use Rattle.sheet_line.specs.Codes.{scalarClass}
 use Rattle.sheet_line.specs.declared.Code.the-variants.{Gen}
 use Rattle.sheet_line.specs.declared.Entry.{Entry}
-use Rattle.ledger.specs.Entries.{hasLine}
+use Rattle.order.specs.Entries.{hasLine}
 use Rattle.judgement.specs.Judgement.{creditAbove}
 use Rattle.judgement.specs.Steps.{Holds}
 use Rattle.judgement.proofs.Tables.{scalar-is}

@@ -4,7 +4,7 @@ use mathlib.Core.List.{List}
 use borrow.Author.Needs.{needs}
 use Rattle.mortality.specs.Credit.{lowered}
 use Rattle.sheet_line.specs.declared.Entry.{Entry}
-use Rattle.ledger.specs.Entries.{blockOf}
+use Rattle.ledger.specs.Numbers.{blockOf}
 use Rattle.judgement.specs.Sheet.{creditOf, afterCredit}
 use Rattle.judgement.specs.Steps.{Holds}
 use Rattle.judgement.proofs.Tables.{numbers-are}

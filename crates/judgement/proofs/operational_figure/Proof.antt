@@ -5,7 +5,7 @@ use native.Mathlib.Omega.{arith}
 use borrow.Author.Needs.{needs}
 use Rattle.sheet_line.specs.Codes.{grossClass, guaranteeClass, cededClass}
 use Rattle.sheet_line.specs.declared.Entry.{Entry}
-use Rattle.ledger.specs.Entries.{generalAmount}
+use Rattle.ledger.specs.Numbers.{generalAmount}
 use Rattle.judgement.specs.Sheet.{sheetOf}
 use Rattle.judgement.specs.Steps.{Holds}
 use Rattle.judgement.proofs.Tables.{joined-small, volumes-are, general-is}

@@ -11,7 +11,8 @@ use Rattle.guideline.specs.Sizes.{blocks}
 use Rattle.guideline.specs.Block.{K, figuresOf}
 use Rattle.block.specs.Parts.{figureList, figures-are}
 use Rattle.sheet_line.specs.declared.Entry.{Entry}
-use Rattle.ledger.specs.Entries.{exists, dividendCredit}
+use Rattle.order.specs.Entries.{exists}
+use Rattle.ledger.specs.Numbers.{dividendCredit}
 use Rattle.judgement.specs.Sheet.{afterCredit}
 use Rattle.judgement.specs.Steps.{Holds}
 use Rattle.judgement.proofs.Tables.{exists-is}

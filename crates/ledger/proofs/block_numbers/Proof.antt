@@ -5,7 +5,7 @@ use native.Mathlib.Omega.{arith}
 use borrow.Author.Needs.{needs}
 use Rattle.sheet_line.specs.Codes.{riskClasses}
 use Rattle.sheet_line.specs.declared.Code.the-variants.{Rsk}
-use Rattle.ledger.specs.Tables.{tabled}
+use Rattle.order.specs.Places.{tabled}
 use Rattle.ledger.proofs.Numbers.{Copied, no-pair, next-pair, block-written}
 use Rattle.ledger.proofs.block_numbers.Statement.{statement}
 use Rattle.ledger.proofs.block_numbers.Tie as tie

@@ -1,4 +1,4 @@
--- The marks of a block's row: a search for one, and that for marks of entries one is found where the block exists. Assumes nothing.
+-- The marks of entries: one for each line; and a search of a block's row, which finds one where the block exists. Assumes nothing.
 use mathlib.Core.Path.{_≡_, refl, sym, ap, _∙_}
 use mathlib.Core.Logic.{_⊎_, inl, inr}
 use mathlib.Core.List.{List, [], _∷_}
@@ -6,7 +6,7 @@ use mathlib.Core.Bool.{Bool, true, false}
 use Prim.Native.Nat.{ℕ, zero, suc, _+_, _-_, _≤_, _<_}
 use native.Mathlib.Decide.{ℕ-discrete}
 use native.Mathlib.Omega.{arith}
-use lib.Dec.{eqb}
+use lib.Dec.{eqb, ltb}
 use lib.ListN.{length, getD, set, replicate, getD-replicate}
 use lib.Seq.{getD-set-same, getD-set-other}
 use Rattle.search.specs.Pick.{pick}
@@ -18,9 +18,14 @@ use Rattle.sheet_line.specs.Rules.{AcceptedLine}
 use Rattle.sheet_line.specs.declared.Code.{Code}
 use Rattle.sheet_line.specs.declared.Code.the-variants.{Rsk, Oth, Mor, Vol, Acq, Gen, Crd}
 use Rattle.sheet_line.specs.declared.Entry.{Entry}
-use Rattle.ledger.specs.Entries.{markOf, ofBlock, exists}
-use Rattle.ledger.specs.Tables.{places, blockPlaces, columnsBefore, indexOf, indexFor, table, anyMark, blockMarked}
-use Rattle.ledger.proofs.Indexes.{column-most, index-most, length-table}
+use Rattle.order.specs.Entries.{markOf, ofBlock, hasLine, exists}
+use Rattle.order.specs.Places.{places, blockPlaces, columnsBefore, indexOf, indexFor, table}
+use Rattle.order.specs.Marks.{hasMark, anyMark, blockMarked}
+use Rattle.order.proofs.Indexes.{column-most, index-most, length-table, lookup-table}
+
+-- a mark stands where a line does
+pub mark-table : (es : List Entry) → Each AcceptedLine es → (k : Code) (b c : ℕ) → Key k b c → hasMark (table markOf es) k b c ≡ hasLine es k b c
+mark-table es all k b c v = ap (λ (n : ℕ). ltb 0 n) (lookup-table markOf es k b c v all)
 
 -- ---- a search of n places from `at` on, after i of them
 

@@ -12,9 +12,9 @@ use Rattle.sheet_line.specs.Rules.{AcceptedLine}
 use Rattle.sheet_line.specs.declared.Code.{Code}
 use Rattle.sheet_line.specs.declared.Entry.{Entry}
 use Rattle.sheet_line.proofs.Printed.{key-small}
-use Rattle.ledger.specs.Entries.{rank, hasKey, lookup, firstOf, secondOf, markOf, hasLine, SameKey, SameFigures}
-use Rattle.ledger.specs.Order.{keyOf, keyFor, key-above-0, lastKey, Ascending, Ordered, BelowBase, key-precedes}
-use Rattle.ledger.proofs.Keys.{rank-one, same-key, has-key, no-key, own-key}
+use Rattle.order.specs.Entries.{rank, hasKey, lookup, firstOf, secondOf, markOf, hasLine, SameKey, SameFigures}
+use Rattle.order.specs.Order.{keyOf, keyFor, key-above-0, lastKey, Ascending, Ordered, BelowBase, key-precedes}
+use Rattle.order.proofs.Keys.{rank-one, same-key, has-key, no-key, own-key}
 
 -- ---- a key above the last one's
 

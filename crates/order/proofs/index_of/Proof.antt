@@ -3,10 +3,10 @@ use native.Mathlib.Omega.{arith}
 use Prim.Native.Nat.{_+_, _≤_}
 use borrow.Author.Needs.{needs}
 use Rattle.guideline.specs.Sizes.{blocks}
-use Rattle.ledger.specs.Tables.{rowPlaces, columnsBefore, indexOf}
-use Rattle.ledger.proofs.Indexes.{block-most, column-most}
-use Rattle.ledger.proofs.index_of.Statement.{statement}
-use Rattle.ledger.proofs.index_of.Tie as tie
+use Rattle.order.specs.Places.{rowPlaces, columnsBefore, indexOf}
+use Rattle.order.proofs.Indexes.{block-most, column-most}
+use Rattle.order.proofs.index_of.Statement.{statement}
+use Rattle.order.proofs.index_of.Tie as tie
 
 bounded : (s : tie.Start) → (s .args .block ≤ blocks) × (columnsBefore (s .args .code) + s .args .class ≤ rowPlaces)
 bounded s = (omega (arith, block-most (s .args .code) (s .args .block)), omega (arith, column-most (s .args .code) (s .args .block)))

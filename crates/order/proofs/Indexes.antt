@@ -18,9 +18,9 @@ use Rattle.sheet_line.specs.Rules.{AcceptedLine}
 use Rattle.sheet_line.specs.declared.Code.{Code}
 use Rattle.sheet_line.specs.declared.Code.the-variants.{Rsk, Oth, Mor, Vol, Acq, Gen, Crd}
 use Rattle.sheet_line.specs.declared.Entry.{Entry}
-use Rattle.ledger.specs.Entries.{hasKey, lookup, SameKey}
-use Rattle.ledger.specs.Tables.{places, blockPlaces, rowPlaces, columnsBefore, indexOf, indexFor, table, tabled}
-use Rattle.ledger.proofs.Keys.{has-key, no-key}
+use Rattle.order.specs.Entries.{hasKey, lookup, SameKey}
+use Rattle.order.specs.Places.{places, blockPlaces, rowPlaces, columnsBefore, indexOf, indexFor, table, tabled}
+use Rattle.order.proofs.Keys.{has-key, no-key}
 
 -- ---- an index is within a table
 

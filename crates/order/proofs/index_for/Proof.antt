@@ -1,8 +1,8 @@
 -- A size is the number that it was made of, so the index is the entry's. Assumes nothing.
 use mathlib.Core.Path.{_∙_}
 use borrow.Author.Needs.{needs}
-use Rattle.ledger.proofs.index_for.Statement.{statement}
-use Rattle.ledger.proofs.index_for.Tie as tie
+use Rattle.order.proofs.index_for.Statement.{statement}
+use Rattle.order.proofs.index_for.Tie as tie
 
 pub index-for-spec : {M : Type 1} → statement M
 index-for-spec =

@@ -12,7 +12,7 @@ use Rattle.sheet_line.specs.Codes.{codes}
 use Rattle.sheet_line.specs.declared.Code.{Code}
 use Rattle.sheet_line.specs.declared.Code.the-variants.{Rsk, Oth, Mor, Vol, Acq, Gen, Crd}
 use Rattle.sheet_line.specs.declared.Entry.{Entry}
-use Rattle.ledger.specs.Entries.{rank, hasKey, lookup, hasLine, SameKey, DistinctKeys}
+use Rattle.order.specs.Entries.{rank, hasKey, lookup, hasLine, SameKey, DistinctKeys}
 
 -- ---- the test for a code, block and class
 

@@ -1,4 +1,5 @@
--- The lines of a sheet read into the tables: what holds of every reading, and what the tables hold after i lines. Assumes nothing.
+-- The lines of a sheet read one after the other: what holds of every reading, and what the marks and the last key tell after i lines. Assumes
+-- nothing.
 use mathlib.Core.Path.{_≡_, refl, sym, _∙_}
 use mathlib.Core.List.{List, [], _∷_}
 use mathlib.Core.Bool.{false}
@@ -10,7 +11,6 @@ use lib.Seq.{drop-drop, length-take-le}
 use Rattle.search.specs.Each.{Each}
 use Rattle.search.proofs.Picks.{never}
 use Rattle.refusal.specs.Outcome.{Judging}
-use Rattle.refusal.specs.declared.Place.the-variants as place
 use Rattle.sheet_line.specs.Line.{sheetLineBytes}
 use Rattle.sheet_line.specs.Rules.{parseLine, AcceptedLine}
 use Rattle.sheet_line.specs.declared.Entry.{Entry}
@@ -18,15 +18,15 @@ use Rattle.sheet_line.specs.declared.Line.{Line}
 use Rattle.sheet_line.specs.declared.Line.the-variants.{Good, Refused}
 use Rattle.sheet_line.proofs.Accepted.{line-good}
 use Rattle.sheet_line.proofs.Refusals.{line-judging}
-use Rattle.ledger.specs.Entries.{markOf, DistinctKeys}
-use Rattle.ledger.specs.Order.{keyFor, lastKey, Ascending, Keyed, admitted}
-use Rattle.ledger.specs.Reading.{Reading, stoodIn, lineAfter, onLine, readFrom, reading, entriesOf}
-use Rattle.ledger.specs.Reading.Reading.{complete, stopped}
-use Rattle.ledger.specs.Tables.{table, TablesOf, Empty, Filled, Entered, hasMark, Admits}
-use Rattle.ledger.specs.declared.Answer.the-variants as answer
-use Rattle.ledger.proofs.Keys.{New, distinct}
-use Rattle.ledger.proofs.Admission.{good-admitted, refused-admitted}
-use Rattle.ledger.proofs.Indexes.{lookup-table}
+use Rattle.order.specs.Entries.{markOf, DistinctKeys}
+use Rattle.order.specs.Order.{keyFor, lastKey, Ascending, Keyed, admitted}
+use Rattle.order.specs.Reading.{Reading, stoodIn, lineAfter, onLine, readFrom, reading, entriesOf}
+use Rattle.order.specs.Reading.Reading.{complete, stopped}
+use Rattle.order.specs.Places.{table}
+use Rattle.order.specs.Marks.{hasMark, Admits}
+use Rattle.order.proofs.Keys.{New, distinct}
+use Rattle.order.proofs.Admission.{good-admitted, refused-admitted}
+use Rattle.order.proofs.Indexes.{lookup-table}
 
 -- ---- a line more
 
@@ -105,22 +105,21 @@ module _ (es : List Entry) (r j : ℕ) where
 pub reading-stopped : (s : List ℕ) (es : List Entry) (n i : ℕ) → reading s ≡ stopped es n i → Judging n × (i ≤ length s / sheetLineBytes)
 reading-stopped s es n i q = let w = stopped-from es n i (length s / sheetLineBytes) 1 s [] q in (w .0, omega (arith, w .1))
 
--- ---- the loop, after i lines
+-- ---- a loop over the lines, after i of them
 
--- the tables hold the entries of the i lines before, last is the key of the last one, and what is left to read gives what all lines give
-pub record ReadTo (s f g m : List ℕ) (last i : ℕ) : Type 0 where
-  pub seen : List Entry
+-- the marks are those of the i lines seen, last is the key of the last one, and what is left to read gives what all lines give
+pub record ReadTo (s m : List ℕ) (last i : ℕ) (seen : List Entry) : Type 0 where
   pub some : i ≤ length s / sheetLineBytes
   pub count : length seen ≡ i
   pub all : Each AcceptedLine seen
-  pub tables : TablesOf seen f g m
+  pub marks : m ≡ table markOf seen
   pub key : last ≡ lastKey seen
   pub rest : readFrom (length s / sheetLineBytes - i) (i + 1) (drop (sheetLineBytes * i) s) seen ≡ reading s
 
-pub start : {f g m : List ℕ} (s : List ℕ) → Empty f g m → ReadTo s f g m 0 0
+pub start : {m : List ℕ} (s : List ℕ) → m ≡ table markOf [] → ReadTo s m 0 0 []
 start s p =
     let z : length s / sheetLineBytes - 0 ≡ length s / sheetLineBytes = omega arith in
-    record { seen = []; some = omega arith; count = refl; all = tt; tables = p; key = refl; rest = rw z }
+    record { some = omega arith; count = refl; all = tt; marks = p; key = refl; rest = rw z }
 
 -- the bytes of the line after i lines, as the code lends them
 abbrev pub lent : List ℕ → ℕ → List ℕ
@@ -140,12 +139,9 @@ marks-tell seen all m p last q (Refused r) k = refl
 marks-tell seen all m p last q (Good e) k =
     rw (p, q, lookup-table markOf seen (e .code) (e .block) (e .class) k all)
 
-module _ {s f g m : List ℕ} {last i : ℕ} (B : ReadTo s f g m last i) where
-  pub done : length s / sheetLineBytes ≤ i → Filled (reading s) (answer.Accepted (length s / sheetLineBytes)) f g m
-  done h =
-      let e : reading s ≡ complete (B .seen) = sym (B .rest) ∙ read-none s (length s / sheetLineBytes) i (B .seen) h in
-      let n : length s / sheetLineBytes ≡ length (B .seen) = omega (arith, B .count, B .some) in
-      rw e (record { answer = rw n; tables = B .tables })
+module _ {s m : List ℕ} {last i : ℕ} {seen : List Entry} (B : ReadTo s m last i seen) where
+  pub done : length s / sheetLineBytes ≤ i → reading s ≡ complete seen
+  done h = sym (B .rest) ∙ read-none s (length s / sheetLineBytes) i seen h
 
   module _ (h : i < length s / sheetLineBytes) where
     acceptable : (e : Entry) → parseLine (lent s i) ≡ Good e → AcceptedLine e
@@ -159,31 +155,26 @@ module _ {s f g m : List ℕ} {last i : ℕ} (B : ReadTo s f g m last i) where
 
     module _ {r : Line} {m′ : List ℕ} (A : Admits (parseLine (lent s i)) last m r m′) where
       -- what is left to read goes on from the line that was admitted, or stops at it
-      more : reading s ≡ onLine r (i + 1) (B .seen) (λ t. readFrom (length s / sheetLineBytes - (i + 1)) (i + 1 + 1) (drop (sheetLineBytes * (i + 1)) s) t)
+      more : reading s ≡ onLine r (i + 1) seen (λ t. readFrom (length s / sheetLineBytes - (i + 1)) (i + 1 + 1) (drop (sheetLineBytes * (i + 1)) s) t)
       more =
-          let l : r ≡ lineAfter (B .seen) (parseLine (lent s i)) =
-          A .line ∙ marks-tell (B .seen) (B .all) m (B .tables .mark) last (B .key) (parseLine (lent s i)) lent-keyed in
-          sym (B .rest) ∙ read-more s (length s / sheetLineBytes) i (B .seen) h ∙ rw (← lent-is s i, ← l)
+          let l : r ≡ lineAfter seen (parseLine (lent s i)) =
+          A .line ∙ marks-tell seen (B .all) m (B .marks) last (B .key) (parseLine (lent s i)) lent-keyed in
+          sym (B .rest) ∙ read-more s (length s / sheetLineBytes) i seen h ∙ rw (← lent-is s i, ← l)
 
       pub admitted-good : {e : Entry} → r ≡ Good e → AcceptedLine e
       admitted-good {e} q = acceptable e (good-admitted _ last (parseLine (lent s i)) e (sym (A .line) ∙ q) .read)
 
-      pub turned : {n : ℕ} → r ≡ Refused n → Filled (reading s) (answer.Refused n (place.Line (i + 1))) f g m′
-      turned q =
-          let held = B .tables in
-          rw (more ∙ on-refused _ _ _ q)
-          (record { answer = refl; tables = record { first = held .first; second = held .second; mark = A .marks ∙ rw q (held .mark) } })
+      pub turned : {n : ℕ} → r ≡ Refused n → (reading s ≡ stopped seen n (i + 1)) × (m′ ≡ table markOf seen)
+      turned q = (more ∙ on-refused _ _ _ q, A .marks ∙ rw q (B .marks))
 
-      pub again : {e : Entry} → r ≡ Good e → {k : ℕ} → k ≡ keyFor e → {f′ g′ : List ℕ} → Entered e f g f′ g′ → ReadTo s f′ g′ m′ k (i + 1)
+      pub again : {e : Entry} → r ≡ Good e → {k : ℕ} → k ≡ keyFor e → ReadTo s m′ k (i + 1) (e ∷ seen)
       unfolding table
-      again {e} q c E =
-          let held = B .tables in
+      again {e} q c =
           record {
-            seen = e ∷ B .seen;
             some = omega arith;
             count = rw (B .count, add-one);
             all = (admitted-good q, B .all);
-            tables = record { first = E .first ∙ rw (held .first); second = E .second ∙ rw (held .second); mark = A .marks ∙ rw (q, held .mark) };
+            marks = A .marks ∙ rw (q, B .marks);
             key = c;
             rest = sym (more ∙ on-good _ _ _ q);
           }

@@ -13,10 +13,8 @@ use Rattle.sheet_line.specs.Rules.{parseLine}
 use Rattle.sheet_line.specs.declared.Entry.{Entry}
 use Rattle.sheet_line.specs.declared.Line.{Line}
 use Rattle.sheet_line.specs.declared.Line.the-variants.{Good, Refused}
-use Rattle.ledger.specs.Entries.{hasLine}
-use Rattle.ledger.specs.Order.{lastKey, admitted}
-use Rattle.ledger.specs.declared.Answer.{Answer}
-use Rattle.ledger.specs.declared.Answer.the-variants as answer
+use Rattle.order.specs.Entries.{hasLine}
+use Rattle.order.specs.Order.{lastKey, admitted}
 
 -- what reading gives, the entries with the last line first
 pub data Reading : Type 0 where
@@ -61,8 +59,3 @@ entriesOf (stopped es r i) = es
 abbrev pub outcomeOf : Reading → Outcome
 outcomeOf (complete es) = accepted (length es ∷ [])
 outcomeOf (stopped es r i) = refused r (place.Line i)
-
--- what each case of the answer says
-abbrev pub stated : Answer → Outcome
-stated (answer.Accepted n) = accepted (n ∷ [])
-stated (answer.Refused r p) = refused r p

@@ -12,8 +12,9 @@ use Rattle.sheet_line.specs.Codes.{Key}
 use Rattle.sheet_line.specs.declared.Entry.{Entry}
 use Rattle.sheet_line.specs.declared.Line.{Line}
 use Rattle.sheet_line.specs.declared.Line.the-variants.{Good, Refused}
-use Rattle.ledger.specs.Order.{keyFor, Keyed, rule11, rule19, admitted}
-use Rattle.ledger.specs.Tables.{indexFor, Admits}
+use Rattle.order.specs.Order.{keyFor, Keyed, rule11, rule19, admitted}
+use Rattle.order.specs.Places.{indexFor}
+use Rattle.order.specs.Marks.{Admits}
 
 module _ (stood : Entry → Bool) (last : ℕ) where
   -- what an admitted line says of the one that was read: it is that one, did not stand before and comes after the last

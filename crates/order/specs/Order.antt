@@ -15,7 +15,7 @@ use Rattle.sheet_line.specs.declared.Code.{Code}
 use Rattle.sheet_line.specs.declared.Entry.{Entry}
 use Rattle.sheet_line.specs.declared.Line.{Line}
 use Rattle.sheet_line.specs.declared.Line.the-variants.{Good, Refused}
-use Rattle.ledger.specs.Entries.{rank}
+use Rattle.order.specs.Entries.{rank}
 
 -- a power of two above every block and class, which have two columns each
 abbrev pub orderBase : ℕ

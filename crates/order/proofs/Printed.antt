@@ -15,13 +15,13 @@ use Rattle.sheet_line.specs.Rules.{parseLine, AcceptedLine}
 use Rattle.sheet_line.specs.declared.Entry.{Entry}
 use Rattle.sheet_line.specs.declared.Line.the-variants.{Good}
 use Rattle.sheet_line.proofs.Printed.{length-print, parse-print, print-parsed}
-use Rattle.ledger.specs.Entries.{markOf, SameFigures}
-use Rattle.ledger.specs.Order.{Ascending, rule11, rule19}
-use Rattle.ledger.specs.Reading.{lineAfter, readFrom, reading, printLines}
-use Rattle.ledger.specs.Reading.Reading.{complete}
-use Rattle.ledger.proofs.Admission.{good-admitted}
-use Rattle.ledger.proofs.Ascent.{none-above, same-lines}
-use Rattle.ledger.proofs.Lines.{on-good, by-line, all-read, reading-ascending}
+use Rattle.order.specs.Entries.{markOf, SameFigures}
+use Rattle.order.specs.Order.{Ascending, rule11, rule19}
+use Rattle.order.specs.Reading.{lineAfter, readFrom, reading, printLines}
+use Rattle.order.specs.Reading.Reading.{complete}
+use Rattle.order.proofs.Admission.{good-admitted}
+use Rattle.order.proofs.Ascent.{none-above, same-lines}
+use Rattle.order.proofs.Lines.{on-good, by-line, all-read, reading-ascending}
 
 -- ---- what is read is printed
 

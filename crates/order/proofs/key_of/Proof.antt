@@ -1,10 +1,10 @@
 -- A rank, a block and a class are below the base, so no sum or product on the way to the key wraps. Assumes nothing.
 use native.Mathlib.Omega.{arith}
 use borrow.Author.Needs.{needs}
-use Rattle.ledger.specs.Order.{keyOf, BelowBase}
-use Rattle.ledger.proofs.Ascent.{below-base}
-use Rattle.ledger.proofs.key_of.Statement.{statement}
-use Rattle.ledger.proofs.key_of.Tie as tie
+use Rattle.order.specs.Order.{keyOf, BelowBase}
+use Rattle.order.proofs.Ascent.{below-base}
+use Rattle.order.proofs.key_of.Statement.{statement}
+use Rattle.order.proofs.key_of.Tie as tie
 
 small : (s : tie.Start) → BelowBase (s .args .e)
 small s = below-base (s .args .e) (s .pre)

@@ -2,9 +2,9 @@
 use mathlib.Core.Path.{refl}
 use native.Mathlib.Omega.{arith}
 use borrow.Author.Needs.{needs}
-use Rattle.ledger.proofs.Admission.{keyed-good, stands-marked, comes-before, comes-after}
-use Rattle.ledger.proofs.admit.Statement.{statement}
-use Rattle.ledger.proofs.admit.Tie as tie
+use Rattle.order.proofs.Admission.{keyed-good, stands-marked, comes-before, comes-after}
+use Rattle.order.proofs.admit.Statement.{statement}
+use Rattle.order.proofs.admit.Tie as tie
 
 index-for-requires : tie.Need-index-for-requires
 index-for-requires c κs = keyed-good (c .before .before .before .pre) (c .before .line .given .1)

@@ -3,10 +3,11 @@ use native.Mathlib.Omega.{arith}
 use mathlib.Core.Path.{_≡_, sym, _∙_}
 use Prim.Native.Nat.{_+_, _-_, _≤_}
 use borrow.Author.Needs.{needs}
-use Rattle.ledger.specs.Tables.{blockPlaces, anyMark, blockMarked}
-use Rattle.ledger.proofs.Marks.{any-start, row-most, any-found, any-more, any-none}
-use Rattle.ledger.proofs.block_exists.Statement.{statement}
-use Rattle.ledger.proofs.block_exists.Tie as tie
+use Rattle.order.specs.Places.{blockPlaces}
+use Rattle.order.specs.Marks.{anyMark, blockMarked}
+use Rattle.order.proofs.Marks.{any-start, row-most, any-found, any-more, any-none}
+use Rattle.order.proofs.block_exists.Statement.{statement}
+use Rattle.order.proofs.block_exists.Tie as tie
 
 abbrev Inv-loop : tie.InvT-loop
 Inv-loop marks block row i₀ i = (i ≤ blockPlaces) × (anyMark marks (row + i) (blockPlaces - i) ≡ blockMarked marks block)
