@@ -12,7 +12,7 @@ use Rattle.mortality.specs.Credit.{aggregated, credit}
 use Rattle.block.specs.Call.{blockCall}
 use Rattle.operational.specs.Call.{operationalCall}
 use Rattle.fluctuation.specs.Call.{fluctuationCall}
-use Rattle.sheet_line.specs.declared.Code.the-variants.{Vol, Acq}
+use Rattle.codes.specs.declared.Code.the-variants.{Vol, Acq}
 use Rattle.sheet_line.specs.declared.Entry.{Entry}
 use Rattle.ledger.specs.Numbers.{volumesOf}
 

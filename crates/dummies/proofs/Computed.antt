@@ -12,8 +12,8 @@ use Rattle.guideline.specs.Operational.{total, volume, growth, operationalNumer
 use Rattle.guideline.specs.Buffer.{sumK, available, bracket, buffer}
 use Rattle.mortality.specs.Credit.{twiceRadicand, aggregated, credit, lowered}
 use Rattle.report_line.specs.Line.{key, reportLine, printRows, equalBytes, numberIn, numberAt}
-use Rattle.sheet_line.specs.Codes.{isCode, codeAmong}
-use Rattle.sheet_line.specs.Line.{spaced, layoutOf, lettered}
+use Rattle.codes.specs.Codes.{isCode, codeAmong}
+use Rattle.layout.specs.Columns.{spaced, layoutOf, lettered}
 use Rattle.sheet_line.specs.Rules as line
 use Rattle.order.specs.Entries.{hasKey, lookup, exists}
 use Rattle.ledger.specs.Numbers.{pairs, blockBy, volumesBy}

@@ -9,9 +9,9 @@ use Rattle.field.specs.declared.Field.{Field}
 use Rattle.field.specs.declared.Field.the-variants.{Value, Bad}
 use Rattle.guideline.specs.Buffer as Buffer
 use Rattle.report_line.specs.Line.{numberAt}
-use Rattle.sheet_line.specs.Codes.{guaranteeClass, scalarClass}
+use Rattle.codes.specs.Codes.{guaranteeClass, scalarClass}
 use Rattle.sheet_line.specs.Line.{printLine}
-use Rattle.sheet_line.specs.declared.Code.the-variants.{Rsk, Gen}
+use Rattle.codes.specs.declared.Code.the-variants.{Rsk, Gen}
 use Rattle.report.specs.Rows.{BLK, TOT, reportLength}
 use Rattle.judgement.specs.Sheet.{sheetOf}
 use Rattle.judgement.specs.Judgement.{Judgement, judgement}

@@ -27,10 +27,10 @@ use Rattle.guideline.specs.Operational.{OperationalAmounts}
 use Rattle.guideline.specs.Buffer.{sumK, free, available, AcceptedSheet, mostAvailable}
 use Rattle.guideline.proofs.Figures.{accepted-of}
 use Rattle.guideline.proofs.Totals.{sum-more, available-fits}
-use Rattle.sheet_line.specs.Line.{sheetLineBytes}
-use Rattle.sheet_line.specs.Codes.{Key, scalarClass}
-use Rattle.sheet_line.specs.declared.Code.{Code}
-use Rattle.sheet_line.specs.declared.Code.the-variants.{Rsk, Oth, Mor, Vol, Acq, Gen, Crd}
+use Rattle.layout.specs.Columns.{sheetLineBytes}
+use Rattle.codes.specs.Codes.{Key, scalarClass}
+use Rattle.codes.specs.declared.Code.{Code}
+use Rattle.codes.specs.declared.Code.the-variants.{Rsk, Oth, Mor, Vol, Acq, Gen, Crd}
 use Rattle.sheet_line.specs.declared.Entry.{Entry}
 use Rattle.sheet_line.specs.Rules.{AcceptedLine}
 use Rattle.order.specs.Entries.{lookup, markOf, ofBlock, exists, hasLine, DistinctKeys}

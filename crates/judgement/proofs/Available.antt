@@ -3,7 +3,7 @@ use mathlib.Core.Path.{_≡_, _∙_}
 use mathlib.Core.List.{List}
 use Prim.Native.Nat.{ℕ, _+_, _-_, _*_}
 use lib.Dec.{leb}
-use Rattle.sheet_line.specs.Codes.{guaranteeClass, scalarClass}
+use Rattle.codes.specs.Codes.{guaranteeClass, scalarClass}
 use Rattle.search.specs.Least.{least}
 use Rattle.guideline.specs.Sizes.{tenThousandths}
 use Rattle.guideline.specs.Operational.{RO}

@@ -16,8 +16,8 @@ use Rattle.search.specs.Total.{sumTo}
 use Rattle.search.proofs.Totals.{sum-next}
 use Rattle.mortality.specs.Credit.{credit}
 use Rattle.mortality.proofs.Credits.{none-with-0}
-use Rattle.sheet_line.specs.Codes.{Key}
-use Rattle.sheet_line.specs.declared.Code.the-variants.{Rsk, Mor, Crd}
+use Rattle.codes.specs.Codes.{Key}
+use Rattle.codes.specs.declared.Code.the-variants.{Rsk, Mor, Crd}
 use Rattle.sheet_line.specs.declared.Entry.{Entry}
 use Rattle.sheet_line.specs.Rules.{AcceptedLine}
 use Rattle.order.specs.Entries.{hasLine}

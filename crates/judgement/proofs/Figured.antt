@@ -26,7 +26,7 @@ use Rattle.guideline.proofs.Figures.{u-fits, k-high, figures-long}
 use Rattle.guideline.proofs.Totals.{sum-more, sum-fits}
 use Rattle.sheet_line.specs.declared.Entry.{Entry}
 use Rattle.sheet_line.specs.Rules.{AcceptedLine}
-use Rattle.sheet_line.specs.declared.Code.the-variants.{Crd}
+use Rattle.codes.specs.declared.Code.the-variants.{Crd}
 use Rattle.order.specs.Entries.{hasLine, exists}
 use Rattle.ledger.specs.Numbers.{dividendCredit}
 use Rattle.ledger.proofs.Bounds.{first-most}

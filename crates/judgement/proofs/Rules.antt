@@ -11,9 +11,9 @@ use Rattle.refusal.specs.declared.Place.the-variants as place
 use Rattle.guideline.specs.Sizes.{nonParticipating, blocks}
 use Rattle.guideline.specs.Operational.{RO}
 use Rattle.guideline.specs.Buffer.{count, sumK, free, available, buffer}
-use Rattle.sheet_line.specs.Line.{sheetLineBytes}
-use Rattle.sheet_line.specs.Codes.{scalarClass}
-use Rattle.sheet_line.specs.declared.Code.the-variants.{Gen}
+use Rattle.layout.specs.Columns.{sheetLineBytes}
+use Rattle.codes.specs.Codes.{scalarClass}
+use Rattle.codes.specs.declared.Code.the-variants.{Gen}
 use Rattle.sheet_line.specs.declared.Entry.{Entry}
 use Rattle.order.specs.Entries.{hasLine}
 use Rattle.order.specs.Reading.{Reading, reading, entriesOf, outcomeOf}

@@ -4,9 +4,9 @@ use mathlib.Core.List.{List}
 use Prim.Native.Nat.{ℕ, _≤_}
 use native.Mathlib.Omega.{arith}
 use Rattle.guideline.specs.Sizes.{blocks}
-use Rattle.sheet_line.specs.Codes.{generalClasses, scalarClass, Key}
-use Rattle.sheet_line.specs.declared.Code.{Code}
-use Rattle.sheet_line.specs.declared.Code.the-variants.{Vol, Acq, Gen}
+use Rattle.codes.specs.Codes.{generalClasses, scalarClass, Key}
+use Rattle.codes.specs.declared.Code.{Code}
+use Rattle.codes.specs.declared.Code.the-variants.{Vol, Acq, Gen}
 use Rattle.sheet_line.specs.declared.Entry.{Entry}
 use Rattle.order.specs.Entries.{lookup, firstOf, secondOf, exists, hasLine}
 use Rattle.ledger.specs.Numbers.{blockBy, joinedBy, blockOf, volumesOf, generalAmount}

@@ -14,9 +14,9 @@ use Rattle.guideline.specs.Sizes.{nonParticipating, blocks, rowNumbers}
 use Rattle.guideline.specs.Block.{lt, K}
 use Rattle.guideline.specs.Operational.{RO}
 use Rattle.guideline.specs.Buffer.{count, sumK, free, available, buffer}
-use Rattle.sheet_line.specs.Line.{sheetLineBytes}
-use Rattle.sheet_line.specs.Codes.{scalarClass}
-use Rattle.sheet_line.specs.declared.Code.the-variants.{Gen, Crd}
+use Rattle.layout.specs.Columns.{sheetLineBytes}
+use Rattle.codes.specs.Codes.{scalarClass}
+use Rattle.codes.specs.declared.Code.the-variants.{Gen, Crd}
 use Rattle.sheet_line.specs.declared.Entry.{Entry}
 use Rattle.order.specs.Entries.{hasLine, exists}
 use Rattle.ledger.specs.Numbers.{blockOf, dividendCredit}

@@ -1,7 +1,7 @@
 -- A sheet's amounts and its blocks' figures off its lines: 'An absent line means zeros', and 'Blocks ascend'. Assumes nothing.
 use mathlib.Core.List.{List, [], _∷_}
 use Prim.Native.Nat.{ℕ}
-use Rattle.sheet_line.specs.Codes.{grossClass, guaranteeClass, cededClass, scalarClass, creditsClass}
+use Rattle.codes.specs.Codes.{grossClass, guaranteeClass, cededClass, scalarClass, creditsClass}
 use Rattle.search.specs.Ascending.{ascending}
 use Rattle.search.specs.Total.{sumTo}
 use Rattle.guideline.specs.Sizes.{blocks, adjustableProducts}

@@ -12,8 +12,8 @@ use Rattle.search.specs.Total.{sumTo}
 use Rattle.guideline.specs.Sizes.{nonParticipating, rowNumbers, tableNumbers}
 use Rattle.guideline.specs.Block.{lt}
 use Rattle.guideline.specs.Buffer.{sumK}
-use Rattle.sheet_line.specs.Codes.{scalarClass}
-use Rattle.sheet_line.specs.declared.Code.the-variants.{Gen}
+use Rattle.codes.specs.Codes.{scalarClass}
+use Rattle.codes.specs.declared.Code.the-variants.{Gen}
 use Rattle.sheet_line.specs.declared.Entry.{Entry}
 use Rattle.sheet_line.specs.Rules.{AcceptedLine}
 use Rattle.order.specs.Entries.{hasLine}

@@ -21,6 +21,12 @@ ghost use Rattle.judgement.specs.Judgement.{judgement, creditAbove, rule
 ghost use Rattle.judgement.specs.Sheet.{creditOf, afterCredit, sheetOf};
 ghost use Rattle.judgement.specs.Steps.{Ledger, OfLines, LinesOf, Credits, Credited, join, WorkedOut};
 use block::Figures;
+use codes::CEDED_CLASS;
+use codes::CREDITS_CLASS;
+use codes::Code;
+use codes::GROSS_CLASS;
+use codes::GUARANTEE_CLASS;
+use codes::SCALAR_CLASS;
 use guideline::ADJUSTABLE_PRODUCTS;
 use guideline::BLOCK_NUMBERS;
 use guideline::BLOCKS;
@@ -28,17 +34,11 @@ use guideline::NON_PARTICIPATING;
 use guideline::ROW_NUMBERS;
 use guideline::TABLE_NUMBERS;
 use guideline::TEN_THOUSANDTHS;
+use layout::SHEET_LINE_BYTES;
 use ledger::Answer;
 use order::LONGEST_SHEET;
 use order::PLACES;
 use refusal::Place;
-use sheet_line::Code;
-use sheet_line::SHEET_LINE_BYTES;
-use sheet_line::codes::CEDED_CLASS;
-use sheet_line::codes::CREDITS_CLASS;
-use sheet_line::codes::GROSS_CLASS;
-use sheet_line::codes::GUARANTEE_CLASS;
-use sheet_line::codes::SCALAR_CLASS;
 
 // What a sheet comes to: how many blocks exist, the sum of their K, RO and the buffer.
 pub struct Totals {

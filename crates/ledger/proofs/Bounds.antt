@@ -13,9 +13,9 @@ use Rattle.search.specs.Each.{Each}
 use Rattle.search.proofs.Eaches.{each-at}
 use Rattle.guideline.specs.Sizes.{blockNumbers, volumeClasses, volumeNumbers, largestScalar, volumePairs}
 use Rattle.guideline.specs.Operational.{current, prior}
-use Rattle.sheet_line.specs.Codes.{riskClasses, expensesClass, scalarClass, Key}
-use Rattle.sheet_line.specs.declared.Code.{Code}
-use Rattle.sheet_line.specs.declared.Code.the-variants.{Rsk, Oth, Vol, Acq, Gen}
+use Rattle.codes.specs.Codes.{riskClasses, expensesClass, scalarClass, Key}
+use Rattle.codes.specs.declared.Code.{Code}
+use Rattle.codes.specs.declared.Code.the-variants.{Rsk, Oth, Vol, Acq, Gen}
 use Rattle.sheet_line.specs.declared.Entry.{Entry}
 use Rattle.sheet_line.specs.Rules.{AcceptedLine, AcceptedAmounts}
 use Rattle.order.specs.Entries.{hasKey, lookup, firstOf, secondOf, markOf}

@@ -5,7 +5,7 @@ use Prim.Native.Nat.{ℕ, _+_, _/_, _≤_, _<_}
 use native.Mathlib.Omega.{arith}
 use lib.ListN.{length}
 use Rattle.refusal.specs.declared.Place.the-variants as place
-use Rattle.sheet_line.specs.Line.{sheetLineBytes}
+use Rattle.layout.specs.Columns.{sheetLineBytes}
 use Rattle.sheet_line.specs.Rules.{parseLine}
 use Rattle.sheet_line.specs.declared.Entry.{Entry}
 use Rattle.sheet_line.specs.declared.Line.{Line}

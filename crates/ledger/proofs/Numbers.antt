@@ -9,10 +9,10 @@ use lib.ListN.{length, getD, set}
 use Rattle.search.specs.Each.{Each}
 use Rattle.search.proofs.Stretches.{Wrote, nothing, next, all-written}
 use Rattle.guideline.specs.Sizes.{blocks, blockNumbers, volumeClasses, volumeNumbers, volumePairs}
-use Rattle.sheet_line.specs.Codes.{riskClasses, otherClasses, generalClasses, rangeOf}
+use Rattle.codes.specs.Codes.{riskClasses, otherClasses, generalClasses, rangeOf}
 use Rattle.sheet_line.specs.Rules.{AcceptedLine}
-use Rattle.sheet_line.specs.declared.Code.{Code}
-use Rattle.sheet_line.specs.declared.Code.the-variants.{Rsk, Oth, Vol, Acq, Gen}
+use Rattle.codes.specs.declared.Code.{Code}
+use Rattle.codes.specs.declared.Code.the-variants.{Rsk, Oth, Vol, Acq, Gen}
 use Rattle.sheet_line.specs.declared.Entry.{Entry}
 use Rattle.order.specs.Entries.{lookup, firstOf, secondOf}
 use Rattle.order.specs.Places.{indexOf, table, tabled}

@@ -5,8 +5,8 @@ use mathlib.Core.List.{List, [], _∷_}
 use lib.ListN.{set}
 use Rattle.refusal.specs.Outcome.{Outcome}
 use Rattle.refusal.specs.Outcome.Outcome.{accepted, refused}
-use Rattle.sheet_line.specs.Codes.{Key}
-use Rattle.sheet_line.specs.declared.Code.the-variants.{Vol, Acq}
+use Rattle.codes.specs.Codes.{Key}
+use Rattle.codes.specs.declared.Code.the-variants.{Vol, Acq}
 use Rattle.sheet_line.specs.declared.Entry.{Entry}
 use Rattle.order.specs.Entries.{firstOf, secondOf, markOf}
 use Rattle.order.specs.Places.{indexFor, table, tabled}

@@ -3,23 +3,23 @@
 // First amounts, second amounts and marks have a table each, with a place for each code, block and class.
 ghost use mathlib.Core.Path.{_≡_};
 ghost use Prim.Native.Nat.{_+_, _≤_, _<_};
-ghost use Rattle.sheet_line.specs.Codes.{generalClasses, Key};
+ghost use Rattle.codes.specs.Codes.{generalClasses, Key};
 ghost use Rattle.guideline.specs.Sizes.{blocks};
 ghost use Rattle.order.specs.Places.{tabled};
 ghost use Rattle.order.specs.Reading.{reading};
 ghost use Rattle.ledger.specs.Numbers.{blockBy, joinedBy};
 ghost use Rattle.ledger.specs.Tables.{Empty, Filled, Entered, JoinedFits};
+use codes::Code;
+use codes::RISK_CLASSES;
 use guideline::BLOCK_NUMBERS;
 use guideline::VOLUME_CLASSES;
 use guideline::VOLUME_NUMBERS;
 use guideline::VOLUME_PAIRS;
+use layout::SHEET_LINE_BYTES;
 use order::PLACES;
 use refusal::Place;
-use sheet_line::Code;
 use sheet_line::Entry;
 use sheet_line::Line;
-use sheet_line::SHEET_LINE_BYTES;
-use sheet_line::codes::RISK_CLASSES;
 
 // A sheet's lines are all good, and this is how many there are; or the first bad one is refused.
 pub enum Answer {

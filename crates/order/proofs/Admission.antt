@@ -8,7 +8,7 @@ use lib.ListN.{getD, set}
 use borrow.Author.Tests.{ltb-true}
 use Rattle.search.proofs.Picks.{if-lt, if-ge, by-test, never}
 use Rattle.refusal.specs.Outcome.{Judging, judging}
-use Rattle.sheet_line.specs.Codes.{Key}
+use Rattle.codes.specs.Codes.{Key}
 use Rattle.sheet_line.specs.declared.Entry.{Entry}
 use Rattle.sheet_line.specs.declared.Line.{Line}
 use Rattle.sheet_line.specs.declared.Line.the-variants.{Good, Refused}

@@ -7,9 +7,9 @@ use native.Mathlib.Omega.{arith}
 use lib.Dec.{ltb}
 use Rattle.search.specs.Each.{Each}
 use Rattle.search.proofs.Picks.{if-true, if-false, never}
-use Rattle.sheet_line.specs.Codes.{Key}
+use Rattle.codes.specs.Codes.{Key}
 use Rattle.sheet_line.specs.Rules.{AcceptedLine}
-use Rattle.sheet_line.specs.declared.Code.{Code}
+use Rattle.codes.specs.declared.Code.{Code}
 use Rattle.sheet_line.specs.declared.Entry.{Entry}
 use Rattle.sheet_line.proofs.Printed.{key-small}
 use Rattle.order.specs.Entries.{rank, hasKey, lookup, firstOf, secondOf, markOf, hasLine, SameKey, SameFigures}

@@ -13,10 +13,10 @@ use Rattle.search.specs.Each.{Each}
 use Rattle.search.proofs.Picks.{if-true, if-false, if-eq, if-ne, if-lt, if-ge}
 use Rattle.search.proofs.Values.{values, values-same}
 use Rattle.guideline.specs.Sizes.{nonParticipating, blocks, volumeClasses, adjustableProducts}
-use Rattle.sheet_line.specs.Codes.{riskClasses, otherClasses, mortalityClasses, acquiredClasses, dividendClasses, rangeOf, Key}
+use Rattle.codes.specs.Codes.{riskClasses, otherClasses, mortalityClasses, acquiredClasses, dividendClasses, rangeOf, Key}
 use Rattle.sheet_line.specs.Rules.{AcceptedLine}
-use Rattle.sheet_line.specs.declared.Code.{Code}
-use Rattle.sheet_line.specs.declared.Code.the-variants.{Rsk, Oth, Mor, Vol, Acq, Gen, Crd}
+use Rattle.codes.specs.declared.Code.{Code}
+use Rattle.codes.specs.declared.Code.the-variants.{Rsk, Oth, Mor, Vol, Acq, Gen, Crd}
 use Rattle.sheet_line.specs.declared.Entry.{Entry}
 use Rattle.order.specs.Entries.{hasKey, lookup, SameKey}
 use Rattle.order.specs.Places.{places, blockPlaces, rowPlaces, columnsBefore, indexOf, indexFor, table, tabled}

@@ -8,9 +8,9 @@ use lib.Dec.{ltb}
 use lib.ListN.{length, getD}
 use borrow.Author.Tests.{eqb-true, eq-eqb}
 use Rattle.search.proofs.Picks.{if-true, if-false, if-eq, by-test, never}
-use Rattle.sheet_line.specs.Codes.{codes}
-use Rattle.sheet_line.specs.declared.Code.{Code}
-use Rattle.sheet_line.specs.declared.Code.the-variants.{Rsk, Oth, Mor, Vol, Acq, Gen, Crd}
+use Rattle.codes.specs.Codes.{codes}
+use Rattle.codes.specs.declared.Code.{Code}
+use Rattle.codes.specs.declared.Code.the-variants.{Rsk, Oth, Mor, Vol, Acq, Gen, Crd}
 use Rattle.sheet_line.specs.declared.Entry.{Entry}
 use Rattle.order.specs.Entries.{rank, hasKey, lookup, hasLine, SameKey, DistinctKeys}
 

@@ -11,7 +11,7 @@ use lib.Seq.{drop-drop, length-take-le}
 use Rattle.search.specs.Each.{Each}
 use Rattle.search.proofs.Picks.{never}
 use Rattle.refusal.specs.Outcome.{Judging}
-use Rattle.sheet_line.specs.Line.{sheetLineBytes}
+use Rattle.layout.specs.Columns.{sheetLineBytes}
 use Rattle.sheet_line.specs.Rules.{parseLine, AcceptedLine}
 use Rattle.sheet_line.specs.declared.Entry.{Entry}
 use Rattle.sheet_line.specs.declared.Line.{Line}

@@ -13,10 +13,10 @@ use Rattle.search.specs.Pick.{pick}
 use Rattle.search.specs.Each.{Each}
 use Rattle.search.proofs.Picks.{if-true, if-false, if-eq, if-ne, never}
 use Rattle.guideline.specs.Sizes.{blocks}
-use Rattle.sheet_line.specs.Codes.{rangeOf, Key}
+use Rattle.codes.specs.Codes.{rangeOf, Key}
 use Rattle.sheet_line.specs.Rules.{AcceptedLine}
-use Rattle.sheet_line.specs.declared.Code.{Code}
-use Rattle.sheet_line.specs.declared.Code.the-variants.{Rsk, Oth, Mor, Vol, Acq, Gen, Crd}
+use Rattle.codes.specs.declared.Code.{Code}
+use Rattle.codes.specs.declared.Code.the-variants.{Rsk, Oth, Mor, Vol, Acq, Gen, Crd}
 use Rattle.sheet_line.specs.declared.Entry.{Entry}
 use Rattle.order.specs.Entries.{markOf, ofBlock, hasLine, exists}
 use Rattle.order.specs.Places.{places, blockPlaces, columnsBefore, indexOf, indexFor, table}

@@ -10,7 +10,8 @@ use lib.ListN.{length, take, drop, take-append-drop, length-drop, length-append}
 use lib.Seq.{length-take-le, take-at, drop-at}
 use Rattle.search.specs.Each.{Each}
 use Rattle.search.proofs.Picks.{if-false, if-lt, never}
-use Rattle.sheet_line.specs.Line.{sheetLineBytes, printLine}
+use Rattle.layout.specs.Columns.{sheetLineBytes}
+use Rattle.sheet_line.specs.Line.{printLine}
 use Rattle.sheet_line.specs.Rules.{parseLine, AcceptedLine}
 use Rattle.sheet_line.specs.declared.Entry.{Entry}
 use Rattle.sheet_line.specs.declared.Line.the-variants.{Good}

@@ -10,8 +10,8 @@ use native.Mathlib.Decide.{decLe}
 use native.Mathlib.Omega.{arith}
 use lib.Dec.{ltb}
 use Rattle.search.specs.Pick.{pick}
-use Rattle.sheet_line.specs.Codes.{Key}
-use Rattle.sheet_line.specs.declared.Code.{Code}
+use Rattle.codes.specs.Codes.{Key}
+use Rattle.codes.specs.declared.Code.{Code}
 use Rattle.sheet_line.specs.declared.Entry.{Entry}
 use Rattle.sheet_line.specs.declared.Line.{Line}
 use Rattle.sheet_line.specs.declared.Line.the-variants.{Good, Refused}

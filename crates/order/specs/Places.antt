@@ -4,10 +4,10 @@ use Prim.Native.Nat.{ℕ, _+_, _-_, _*_}
 use mathlib.Core.List.{List, [], _∷_}
 use lib.ListN.{getD, set, replicate}
 use Rattle.guideline.specs.Sizes.{nonParticipating, participating, blocks, territories, volumeClasses, volumePairs, adjustableProducts}
-use Rattle.sheet_line.specs.Codes.{riskClasses, otherClasses, mortalityClasses, acquiredClasses, generalClasses, dividendClasses}
-use Rattle.sheet_line.specs.Line.{sheetLineBytes}
-use Rattle.sheet_line.specs.declared.Code.{Code}
-use Rattle.sheet_line.specs.declared.Code.the-variants.{Rsk, Oth, Mor, Vol, Acq, Gen, Crd}
+use Rattle.codes.specs.Codes.{riskClasses, otherClasses, mortalityClasses, acquiredClasses, generalClasses, dividendClasses}
+use Rattle.layout.specs.Columns.{sheetLineBytes}
+use Rattle.codes.specs.declared.Code.{Code}
+use Rattle.codes.specs.declared.Code.the-variants.{Rsk, Oth, Mor, Vol, Acq, Gen, Crd}
 use Rattle.sheet_line.specs.declared.Entry.{Entry}
 
 -- the places of a block's RSK and OTH lines, which begin its row

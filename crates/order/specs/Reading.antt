@@ -8,7 +8,8 @@ use lib.ListN.{length, take, drop}
 use Rattle.refusal.specs.Outcome.{Outcome}
 use Rattle.refusal.specs.Outcome.Outcome.{accepted, refused}
 use Rattle.refusal.specs.declared.Place.the-variants as place
-use Rattle.sheet_line.specs.Line.{sheetLineBytes, printLine}
+use Rattle.layout.specs.Columns.{sheetLineBytes}
+use Rattle.sheet_line.specs.Line.{printLine}
 use Rattle.sheet_line.specs.Rules.{parseLine}
 use Rattle.sheet_line.specs.declared.Entry.{Entry}
 use Rattle.sheet_line.specs.declared.Line.{Line}

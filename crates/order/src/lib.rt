@@ -3,12 +3,20 @@
 // A table of marks has a row for each block, with a column for each class that RSK, OTH, VOL, MOR, ACQ and CRD have, and row 0 for GEN and CRD.
 ghost use mathlib.Core.Path.{_≡_};
 ghost use Prim.Native.Nat.{_≤_, _<_};
-ghost use Rattle.sheet_line.specs.Codes.{scalarClass, Key};
+ghost use Rattle.codes.specs.Codes.{scalarClass, Key};
 ghost use Rattle.guideline.specs.Sizes.{blocks};
 ghost use Rattle.order.specs.Entries.{rank};
 ghost use Rattle.order.specs.Order.{orderBase, keyFor, Keyed};
 ghost use Rattle.order.specs.Places.{places, columnsBefore, indexOf, indexFor};
 ghost use Rattle.order.specs.Marks.{hasMark, Admits, blockMarked};
+use codes::ACQUIRED_CLASSES;
+use codes::Code;
+use codes::DIVIDEND_CLASSES;
+use codes::GENERAL_CLASSES;
+use codes::MORTALITY_CLASSES;
+use codes::OTHER_CLASSES;
+use codes::RISK_CLASSES;
+use codes::SCALAR_CLASS;
 use guideline::ADJUSTABLE_PRODUCTS;
 use guideline::BLOCKS;
 use guideline::NON_PARTICIPATING;
@@ -16,17 +24,9 @@ use guideline::PARTICIPATING;
 use guideline::TERRITORIES;
 use guideline::VOLUME_CLASSES;
 use guideline::VOLUME_PAIRS;
-use sheet_line::Code;
+use layout::SHEET_LINE_BYTES;
 use sheet_line::Entry;
 use sheet_line::Line;
-use sheet_line::SHEET_LINE_BYTES;
-use sheet_line::codes::ACQUIRED_CLASSES;
-use sheet_line::codes::DIVIDEND_CLASSES;
-use sheet_line::codes::GENERAL_CLASSES;
-use sheet_line::codes::MORTALITY_CLASSES;
-use sheet_line::codes::OTHER_CLASSES;
-use sheet_line::codes::RISK_CLASSES;
-use sheet_line::codes::SCALAR_CLASS;
 
 // The places of a block's RSK and OTH lines, which begin its row.
 const BLOCK_PLACES: usize = RISK_CLASSES + OTHER_CLASSES;

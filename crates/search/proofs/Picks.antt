@@ -37,3 +37,7 @@ module _ {ℓ} {A : Type ℓ} where
 -- what follows where two constructors would be equal: `cc` makes the premise of that
 pub never {ℓ} : {A : Type ℓ} → _≡_ {A = ℕ} 0 1 → A
 never e = absurd (let z : ⊥ = omega arith in z)
+
+-- two tests one after the other that both hold
+pub both : (s : Bool) {t : Bool} → pick s t false ≡ true → (s ≡ true) × (t ≡ true)
+both s {t} = by-test (λ x. x ≡ true → (s ≡ true) × (t ≡ true)) s _ _ (λ p q. (p, q)) (λ p q. never (cc))

@@ -3,26 +3,22 @@
 use mathlib.Core.Path.{_≡_, refl, sym, _∙_, subst}
 use mathlib.Core.List.{List}
 use mathlib.Core.Bool.{true, false}
-use Prim.Native.Nat.{ℕ, _+_, _^_, _≤_, _<_}
+use Prim.Native.Nat.{ℕ, _≤_}
 use native.Mathlib.Omega.{arith}
-use lib.ListN.{length, take, drop, length-drop}
-use lib.Seq.{length-take-le}
+use lib.ListN.{length}
 use borrow.Author.Tests.{ltb-false, eqb-true, not-false}
 use Rattle.amount.specs.Amount.{limit}
 use Rattle.search.proofs.Picks.{if-true, by-test, never}
-use Rattle.field.specs.Field.{field}
-use Rattle.field.specs.declared.Field.{Field}
-use Rattle.field.specs.declared.Field.the-variants.{Value, Bad}
-use Rattle.field.proofs.Inverse.{field-bound}
-use Rattle.sheet_line.specs.Codes.{Key, codeOf}
-use Rattle.sheet_line.specs.Line.{sheetLineBytes, columns, separatedOf, fieldsOf, layoutOf}
+use Rattle.codes.specs.Codes.{Key, codeOf}
+use Rattle.layout.specs.Columns.{sheetLineBytes, layoutOf}
+use Rattle.layout.proofs.Laid.{kept-amounts}
+use Rattle.sheet_line.specs.Line.{numbersOf}
 use Rattle.sheet_line.specs.Rules.{outside, blockOutside, classOutside, secondBarred, trendAbove, scalarOutside}
 use Rattle.sheet_line.specs.Rules.{rule3, rule5, rule6, rule8, rule9, rule10, entryOf, parseLine, AcceptedLine}
-use Rattle.sheet_line.specs.declared.codes.Coded.{Coded}
-use Rattle.sheet_line.specs.declared.codes.Coded.the-variants.{Known, Unknown}
-use Rattle.sheet_line.specs.declared.columns.Numbers.{Numbers}
-use Rattle.sheet_line.specs.declared.columns.Layout.{Layout}
-use Rattle.sheet_line.specs.declared.columns.Layout.the-variants.{Kept, Broken}
+use Rattle.codes.specs.declared.Coded.{Coded}
+use Rattle.codes.specs.declared.Coded.the-variants.{Known, Unknown}
+use Rattle.layout.specs.declared.Layout.{Layout}
+use Rattle.layout.specs.declared.Layout.the-variants.{Kept, Broken}
 use Rattle.sheet_line.specs.declared.Entry.{Entry}
 use Rattle.sheet_line.specs.declared.Line.{Line}
 use Rattle.sheet_line.specs.declared.Line.the-variants.{Good}
@@ -67,57 +63,21 @@ module _ (e : Entry) (a : e .first ≤ limit) (b : e .second ≤ limit) (d : Ent
         },
       )
 
--- ---- rule 3
-
-record Read (b c f g : Field) (n : Numbers) : Type 0 where
-  block : b ≡ Value (n .block)
-  class : c ≡ Value (n .class)
-  first : f ≡ Value (n .first)
-  second : g ≡ Value (n .second)
-
-fields-read : (b c f g : Field) (n : Numbers) → fieldsOf b c f g ≡ Kept n → Read b c f g n
-fields-read (Value x) (Value y) (Value z) (Value w) n q = record { block = cc; class = cc; first = cc; second = cc }
-fields-read (Value x) (Value y) (Value z) Bad n q = never (cc)
-fields-read (Value x) (Value y) Bad g n q = never (cc)
-fields-read (Value x) Bad f g n q = never (cc)
-fields-read Bad c f g n q = never (cc)
-
--- an amount has 14 columns
-amount-most : (s : List ℕ) (k r : ℕ) → k + 14 ≤ length s → field (take 14 (drop k s)) ≡ Value r → r ≤ limit
-amount-most s k r h q =
-    let l : length (take 14 (drop k s)) ≡ 14 = length-take-le 14 (drop k s) (rw length-drop (omega arith)) in
-    let b : r < 10 ^ 14 = rw l at (field-bound _ r q) in
-    omega arith
+-- ---- rules 3 and 4
 
 -- a good line: its entry is one that the rules leave, and its columns hold the entry's code and numbers
 pub record GoodLine (s : List ℕ) (e : Entry) : Type 0 where
   pub accepted : AcceptedLine e
-  pub separated : separatedOf s ≡ true
+  pub kept : layoutOf s ≡ Kept (numbersOf e)
   pub coded : codeOf s ≡ Known (e .code)
-  pub block : field (columns 5 6 s) ≡ Value (e .block)
-  pub class : field (columns 8 9 s) ≡ Value (e .class)
-  pub first : field (columns 11 24 s) ≡ Value (e .first)
-  pub second : field (columns 26 39 s) ≡ Value (e .second)
 
 module _ (s : List ℕ) (h : length s ≡ sheetLineBytes) where
-  abbrev Kept-read : Numbers → Type 0
-  Kept-read n = (separatedOf s ≡ true) × Read (field (columns 5 6 s)) (field (columns 8 9 s)) (field (columns 11 24 s)) (field (columns 26 39 s)) n
-
-  kept-read : (n : Numbers) → layoutOf s ≡ Kept n → Kept-read n
-  unfolding layoutOf
-  kept-read n =
-      by-test (λ l. l ≡ Kept n → Kept-read n) _ _ _
-      (λ t q. (t, fields-read (field (columns 5 6 s)) (field (columns 8 9 s)) (field (columns 11 24 s)) (field (columns 26 39 s)) n q))
-      (λ t q. never (cc))
-
   -- rules 3 and 4, then the others
   all-leave : (l : Layout) (c : Coded) (d : Entry) → layoutOf s ≡ l → codeOf s ≡ c → rule3 l c ≡ Good d → GoodLine s d
   all-leave (Kept n) (Known k) d p c q =
-      let r = kept-read n p in
-      let m = r .1 in
-      let a = rules-leave (entryOf k n) (amount-most s 10 _ (omega arith) (m .first)) (amount-most s 25 _ (omega arith) (m .second)) d q in
-      subst (GoodLine s) (a .0)
-      (record { accepted = a .1; separated = r .0; coded = c; block = m .block; class = m .class; first = m .first; second = m .second })
+      let m = kept-amounts s h n p in
+      let a = rules-leave (entryOf k n) (omega arith) (omega arith) d q in
+      subst (GoodLine s) (a .0) (record { accepted = a .1; kept = p; coded = c })
   all-leave (Kept n) Unknown d p c q = never (cc)
   all-leave Broken k d p c q = never (cc)
 

@@ -9,14 +9,15 @@ use lib.ListN.{replicate}
 use Rattle.search.specs.Pick.{pick}
 use Rattle.search.proofs.Picks.{never}
 use Rattle.field.specs.Field.{digits, field, digitOrSpace, leadingDigits, decimal}
-use Rattle.sheet_line.specs.Codes.{isCode, codeAmong, codeOf}
-use Rattle.sheet_line.specs.Line.{sheetLineBytes, spaced, layoutOf, lettered, printLine}
+use Rattle.codes.specs.Codes.{isCode, codeAmong, codeOf}
+use Rattle.layout.specs.Columns.{sheetLineBytes, spaced, layoutOf, lettered}
+use Rattle.sheet_line.specs.Line.{printLine}
 use Rattle.sheet_line.specs.Rules.{outside, blockOutside, classOutside, secondBarred, trendAbove, scalarOutside}
 use Rattle.sheet_line.specs.Rules.{rule5, rule6, rule8, parseLine}
-use Rattle.sheet_line.specs.declared.Code.{Code}
-use Rattle.sheet_line.specs.declared.Code.the-variants.{Rsk, Oth, Mor, Vol, Acq, Gen, Crd}
-use Rattle.sheet_line.specs.declared.codes.Coded.the-variants.{Unknown}
-use Rattle.sheet_line.specs.declared.columns.Layout.the-variants.{Broken}
+use Rattle.codes.specs.declared.Code.{Code}
+use Rattle.codes.specs.declared.Code.the-variants.{Rsk, Oth, Mor, Vol, Acq, Gen, Crd}
+use Rattle.codes.specs.declared.Coded.the-variants.{Unknown}
+use Rattle.layout.specs.declared.Layout.the-variants.{Broken}
 use Rattle.sheet_line.specs.declared.Entry.{Entry}
 use Rattle.sheet_line.specs.declared.Line.the-variants.{Refused}
 

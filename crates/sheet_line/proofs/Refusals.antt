@@ -6,13 +6,13 @@ use Prim.Native.Nat.{ℕ}
 use lib.Dec.{eqb, ltb}
 use Rattle.search.proofs.Picks.{by-test, never}
 use Rattle.refusal.specs.Outcome.{Judging, judging}
-use Rattle.sheet_line.specs.Codes.{codeOf}
-use Rattle.sheet_line.specs.Line.{layoutOf}
+use Rattle.codes.specs.Codes.{codeOf}
+use Rattle.layout.specs.Columns.{layoutOf}
 use Rattle.sheet_line.specs.Rules.{rule3, rule5, rule6, rule8, rule9, rule10, entryOf, parseLine}
-use Rattle.sheet_line.specs.declared.codes.Coded.{Coded}
-use Rattle.sheet_line.specs.declared.codes.Coded.the-variants.{Known, Unknown}
-use Rattle.sheet_line.specs.declared.columns.Layout.{Layout}
-use Rattle.sheet_line.specs.declared.columns.Layout.the-variants.{Kept, Broken}
+use Rattle.codes.specs.declared.Coded.{Coded}
+use Rattle.codes.specs.declared.Coded.the-variants.{Known, Unknown}
+use Rattle.layout.specs.declared.Layout.{Layout}
+use Rattle.layout.specs.declared.Layout.the-variants.{Kept, Broken}
 use Rattle.sheet_line.specs.declared.Entry.{Entry}
 use Rattle.sheet_line.specs.declared.Line.{Line}
 use Rattle.sheet_line.specs.declared.Line.the-variants.{Refused}

@@ -1,4 +1,3 @@
--- A line of the sheet: its codes, its columns, its rules. Assumes nothing.
-pub mod Codes
+-- A line of the sheet: how it is printed, and its rules. Assumes nothing.
 pub mod Line
 pub mod Rules

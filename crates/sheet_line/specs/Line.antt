@@ -1,62 +1,15 @@
--- A line of the sheet: 'A line has 40 bytes: code in columns 1–3, block in 5–6, class in 8–9, first amount in 11–24, second in
--- 26–39, a line feed last, spaces between.' How it is read by its columns, and how it is printed. Bytes are numbers: a space is 32,
--- a line feed 10. Assumes nothing.
-use Prim.Native.Nat.{ℕ, _+_, _-_}
-use mathlib.Core.List.{List, [], _∷_, _++_}
-use mathlib.Core.Bool.{Bool, false}
-use lib.Dec.{eqb}
-use lib.ListN.{getD, take, drop}
-use Rattle.search.specs.Pick.{pick}
-use Rattle.field.specs.Field.{field, decimal}
-use Rattle.field.specs.declared.Field.{Field}
-use Rattle.field.specs.declared.Field.the-variants.{Value, Bad}
-use Rattle.sheet_line.specs.Codes.{lettersOf}
-use Rattle.sheet_line.specs.declared.columns.Layout.{Layout}
-use Rattle.sheet_line.specs.declared.columns.Layout.the-variants.{Kept, Broken}
+-- The line of an entry: its code's letters in columns 1 to 3, and its numbers in their columns. Assumes nothing.
+use Prim.Native.Nat.{ℕ}
+use mathlib.Core.List.{List}
+use Rattle.codes.specs.Codes.{lettersOf}
+use Rattle.layout.specs.Columns.{lettered}
+use Rattle.layout.specs.declared.Numbers.{Numbers}
 use Rattle.sheet_line.specs.declared.Entry.{Entry}
 
--- the bytes of a line, its line feed with them
-abbrev pub sheetLineBytes : ℕ
-sheetLineBytes = 40
-
--- the byte in a column of a line; columns count from 1
-abbrev pub byteAt : ℕ → List ℕ → ℕ
-byteAt k s = getD s (k - 1) 0
-
--- columns a to z of a line
-abbrev pub columns : ℕ → ℕ → List ℕ → List ℕ
-columns a z s = take (z + 1 - a) (drop (a - 1) s)
-
--- whether these columns hold spaces, and the last one a line feed
-unfoldable pub spaced : List ℕ → List ℕ → Bool
-spaced [] s = eqb (byteAt sheetLineBytes s) 10
-spaced (k ∷ ks) s = pick (eqb (byteAt k s) 32) (spaced ks s) false
-
--- 'a line feed last, spaces between'
-abbrev pub separatedOf : List ℕ → Bool
-separatedOf s = spaced (4 ∷ 7 ∷ 10 ∷ 25 ∷ []) s
-
--- the numbers of the four fields, where each field holds one
-abbrev pub fieldsOf : Field → Field → Field → Field → Layout
-fieldsOf (Value b) (Value c) (Value f) (Value g) = Kept (record { block = b; class = c; first = f; second = g })
-fieldsOf (Value b) (Value c) (Value f) Bad = Broken
-fieldsOf (Value b) (Value c) Bad g = Broken
-fieldsOf (Value b) Bad f g = Broken
-fieldsOf Bad c f g = Broken
-
--- columns 4 to 40: the four numbers, or a layout that is broken
-unfoldable pub layoutOf : List ℕ → Layout
-layoutOf s =
-    pick (separatedOf s)
-    (fieldsOf (field (columns 5 6 s)) (field (columns 8 9 s)) (field (columns 11 24 s)) (field (columns 26 39 s)))
-    Broken
-
--- a line with these letters in columns 1 to 3 and the numbers of an entry
-unfoldable pub lettered : List ℕ → Entry → List ℕ
-lettered w e =
-    w ++ (32 ∷ decimal 2 (e .block)) ++ (32 ∷ decimal 2 (e .class))
-    ++ (32 ∷ decimal 14 (e .first)) ++ (32 ∷ decimal 14 (e .second)) ++ (10 ∷ [])
+-- the four numbers of an entry
+abbrev pub numbersOf : Entry → Numbers
+numbersOf e = record { block = e .block; class = e .class; first = e .first; second = e .second }
 
 -- the line of an entry
 abbrev pub printLine : Entry → List ℕ
-printLine e = lettered (lettersOf (e .code)) e
+printLine e = lettered (lettersOf (e .code)) (numbersOf e)

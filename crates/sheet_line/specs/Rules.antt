@@ -9,15 +9,15 @@ use lib.Dec.{ltb, eqb}
 use Rattle.search.specs.Pick.{pick}
 use Rattle.amount.specs.Amount.{limit}
 use Rattle.guideline.specs.Sizes.{largestScalar}
-use Rattle.sheet_line.specs.Codes.{expensesClass, scalarClass, rangeOf, Key, codeOf}
-use Rattle.sheet_line.specs.Line.{layoutOf}
-use Rattle.sheet_line.specs.declared.Code.{Code}
-use Rattle.sheet_line.specs.declared.Code.the-variants.{Rsk, Oth, Mor, Vol, Acq, Gen, Crd}
-use Rattle.sheet_line.specs.declared.codes.Coded.{Coded}
-use Rattle.sheet_line.specs.declared.codes.Coded.the-variants.{Known, Unknown}
-use Rattle.sheet_line.specs.declared.columns.Numbers.{Numbers}
-use Rattle.sheet_line.specs.declared.columns.Layout.{Layout}
-use Rattle.sheet_line.specs.declared.columns.Layout.the-variants.{Kept, Broken}
+use Rattle.codes.specs.Codes.{expensesClass, scalarClass, rangeOf, Key, codeOf}
+use Rattle.layout.specs.Columns.{layoutOf}
+use Rattle.codes.specs.declared.Code.{Code}
+use Rattle.codes.specs.declared.Code.the-variants.{Rsk, Oth, Mor, Vol, Acq, Gen, Crd}
+use Rattle.codes.specs.declared.Coded.{Coded}
+use Rattle.codes.specs.declared.Coded.the-variants.{Known, Unknown}
+use Rattle.layout.specs.declared.Numbers.{Numbers}
+use Rattle.layout.specs.declared.Layout.{Layout}
+use Rattle.layout.specs.declared.Layout.the-variants.{Kept, Broken}
 use Rattle.sheet_line.specs.declared.Entry.{Entry}
 use Rattle.sheet_line.specs.declared.Line.{Line}
 use Rattle.sheet_line.specs.declared.Line.the-variants.{Good, Refused}

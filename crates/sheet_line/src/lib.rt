@@ -1,29 +1,12 @@
 // A line of the sheet: 40 bytes, rules 3, 4, 5, 6, 8, 9 and 10 in this order.
-// The codes and the classes that each has.
-pub mod codes;
-// The layout: columns 4 to 40.
-pub mod columns;
 // The rules, each ending in the next.
 pub mod rules;
 
 ghost use mathlib.Core.Path.{_≡_};
 ghost use lib.ListN.{length};
-ghost use Rattle.sheet_line.specs.Line.{sheetLineBytes};
+ghost use Rattle.layout.specs.Columns.{sheetLineBytes};
 ghost use Rattle.sheet_line.specs.Rules.{parseLine};
-
-// The bytes of a line, its line feed with them.
-pub const SHEET_LINE_BYTES: usize = 40;
-
-// The code of a line.
-pub enum Code {
-    Rsk,
-    Oth,
-    Mor,
-    Vol,
-    Acq,
-    Gen,
-    Crd,
-}
+use codes::Code;
 
 // A line's code and numbers.
 pub struct Entry {
@@ -45,7 +28,7 @@ pub fn read_line(s: &[u8]) -> Line
     requires { ⌜ length (now s) ≡ sheetLineBytes ⌝ }
     ensures { λ r. ⌜ r ≡ parseLine (now (s .entry)) ⌝ }
 {
-    let layout = columns::read_layout(s);
+    let layout = layout::read_layout(s);
     let coded = codes::read_code(s);
     rules::rule_3(layout, coded)
 }

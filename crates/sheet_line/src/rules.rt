@@ -2,15 +2,15 @@
 ghost use mathlib.Core.Path.{_≡_};
 ghost use Rattle.sheet_line.specs.Rules.{outside, singleOf, secondBarred, hasTrend, trendAbove, isScalar, scalarOutside};
 ghost use Rattle.sheet_line.specs.Rules.{rule3, rule4, rule5, rule6, rule8, rule9, rule10};
-use super::Code;
 use super::Entry;
 use super::Line;
-use super::codes::Coded;
-use super::codes::EXPENSES_CLASS;
-use super::codes::SCALAR_CLASS;
-use super::columns::Layout;
-use super::columns::Numbers;
+use codes::Code;
+use codes::Coded;
+use codes::EXPENSES_CLASS;
+use codes::SCALAR_CLASS;
 use guideline::LARGEST_SCALAR;
+use layout::Layout;
+use layout::Numbers;
 
 // Rule 3: columns 4 to 40 break the layout.
 pub(crate) fn rule_3(layout: Layout, coded: Coded) -> Line
@@ -43,7 +43,7 @@ fn rule_5(e: Entry) -> Line
     ensures { λ r. ⌜ r ≡ rule5 e ⌝ }
 {
     let code = e.code;
-    let range = super::codes::range_of(code, e.block);
+    let range = codes::range_of(code, e.block);
     if outside(range.lowest, range.highest, e.block) {
         return Line::Refused(5);
     }
@@ -55,7 +55,7 @@ fn rule_6(e: Entry) -> Line
     ensures { λ r. ⌜ r ≡ rule6 e ⌝ }
 {
     let code = e.code;
-    let range = super::codes::range_of(code, e.block);
+    let range = codes::range_of(code, e.block);
     if outside(1, range.classes, e.class) {
         return Line::Refused(6);
     }

@@ -7,7 +7,7 @@ use Rattle.search.specs.Total.{sumTo}
 use Rattle.search.proofs.Totals.{sum-most}
 use Rattle.amount.specs.Amount.{limit}
 use Rattle.guideline.specs.Sizes.{adjustableProducts}
-use Rattle.sheet_line.specs.declared.Code.the-variants.{Crd}
+use Rattle.codes.specs.declared.Code.the-variants.{Crd}
 use Rattle.ledger.specs.Numbers.{adjustableCredit}
 use Rattle.ledger.proofs.Bounds.{first-most}
 use Rattle.judgement.specs.Steps.{OfLines}

@@ -6,8 +6,8 @@ use borrow.Author.Needs.{needs}
 use borrow.Author.Tests.{not-true, not-false}
 use Rattle.search.specs.First.{anyTo}
 use Rattle.guideline.specs.Sizes.{nonParticipating}
-use Rattle.sheet_line.specs.Codes.{scalarClass}
-use Rattle.sheet_line.specs.declared.Code.the-variants.{Gen}
+use Rattle.codes.specs.Codes.{scalarClass}
+use Rattle.codes.specs.declared.Code.the-variants.{Gen}
 use Rattle.sheet_line.specs.declared.Entry.{Entry}
 use Rattle.order.specs.Entries.{hasLine}
 use Rattle.judgement.specs.Judgement.{creditAbove}

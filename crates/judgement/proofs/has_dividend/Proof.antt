@@ -1,7 +1,7 @@
 -- A block without participation has none; a participating one's mark is at its CRD place. Assumes nothing.
 use mathlib.Core.Path.{sym, _∙_}
 use borrow.Author.Needs.{needs}
-use Rattle.sheet_line.specs.declared.Code.the-variants.{Crd}
+use Rattle.codes.specs.declared.Code.the-variants.{Crd}
 use Rattle.judgement.proofs.Tables.{mark-is}
 use Rattle.judgement.proofs.Credits.{dividend-key, no-dividend}
 use Rattle.judgement.proofs.has_dividend.Statement.{statement}

@@ -3,7 +3,7 @@ use mathlib.Core.Path.{_≡_, _∙_}
 use mathlib.Core.List.{List, [], _∷_}
 use native.Mathlib.Omega.{arith}
 use borrow.Author.Needs.{needs}
-use Rattle.sheet_line.specs.Codes.{grossClass, guaranteeClass, cededClass}
+use Rattle.codes.specs.Codes.{grossClass, guaranteeClass, cededClass}
 use Rattle.sheet_line.specs.declared.Entry.{Entry}
 use Rattle.ledger.specs.Numbers.{generalAmount}
 use Rattle.judgement.specs.Sheet.{sheetOf}

@@ -3,8 +3,8 @@ use mathlib.Core.Path.{refl}
 use Prim.Native.Nat.{_+_, _-_, _≤_}
 use native.Mathlib.Omega.{arith}
 use borrow.Author.Needs.{needs}
-use Rattle.sheet_line.specs.Codes.{riskClasses}
-use Rattle.sheet_line.specs.declared.Code.the-variants.{Rsk}
+use Rattle.codes.specs.Codes.{riskClasses}
+use Rattle.codes.specs.declared.Code.the-variants.{Rsk}
 use Rattle.order.specs.Places.{tabled}
 use Rattle.ledger.proofs.Numbers.{Copied, no-pair, next-pair, block-written}
 use Rattle.ledger.proofs.block_numbers.Statement.{statement}

@@ -1,0 +1,2 @@
+-- What columns 4 to 40 guarantee. Assumes nothing.
+pub mod Laid

@@ -1,0 +1,2 @@
+-- The columns of a sheet's line. Assumes nothing.
+pub mod Columns
