@@ -19,11 +19,11 @@ use Rattle.amount.proofs.Amounts.{none-above, all-within}
 use Rattle.guideline.specs.Sizes.{risks, blockNumbers}
 use Rattle.guideline.specs.Block.{AcceptedBlock, lt, figuresOf}
 use Rattle.guideline.proofs.Demand.{block-demand}
-use Rattle.block.specs.RootSteps.{stepsOf, FewSteps}
+use Rattle.figures.specs.RootSteps.{stepsOf}
+use Rattle.figures.proofs.Joint.{few-steps-both}
 use Rattle.block.specs.Call.{ltAbove, firstLtAbove, rule8, rule9, blockCall}
-use Rattle.block.specs.Accepted.{AcceptsBlock, BlockDemand3}
+use Rattle.block.specs.Accepted.{AcceptsBlock, BlockDemand3, FewSteps}
 use Rattle.block.proofs.Rules.{passed-7, passed-8, passed-9, acceptable}
-use Rattle.block.proofs.RootSteps.{few-steps-i, few-steps-d}
 
 -- what rule 7 lets pass
 abbrev Fits : ℕ → Type 0
@@ -85,5 +85,5 @@ module _ (b : List ℕ) where
 
   pub block-few-steps : (o : Outcome) → o ≡ blockCall b → FewSteps o
   unfolding Promised stepsOf figuresOf
-  block-few-steps (accepted vs) e = let j = subst (Promised b) (sym e) promised in rw (j .0) (few-steps-i b (j .1), few-steps-d b (j .1))
+  block-few-steps (accepted vs) e = let j = subst (Promised b) (sym e) promised in rw (j .0) (few-steps-both b (j .1))
   block-few-steps (refused n p) e = tt

@@ -14,7 +14,7 @@ use Rattle.amount.proofs.Amounts.{none-above}
 use Rattle.guideline.specs.Sizes.{risks, blockNumbers}
 use Rattle.guideline.specs.Block.{AcceptedBlock, lt, figuresOf}
 use Rattle.guideline.proofs.Figures.{accepted-of}
-use Rattle.block.specs.RootSteps.{stepsOf}
+use Rattle.figures.specs.RootSteps.{stepsOf}
 use Rattle.block.specs.Call.{ltAbove, firstLtAbove, rule9, rule8, blockCall}
 
 module _ (b : List ℕ) {r : ℕ} (long : length b ≡ blockNumbers) (e : r ≡ firstAbove b) where

@@ -1,16 +1,16 @@
--- What the block call accepts: just the 17 numbers that rules 7, 8 and 9 leave, `AcceptedBlock`; and demand 3 for one block where it does.
--- proofs/Accepted proves both of every call. Assumes nothing.
+-- What the block call accepts: just the 17 numbers that rules 7, 8 and 9 leave, `AcceptedBlock`; and where it does, demand 3 for one block and
+-- the bound of its roots' steps. proofs/Accepted proves all three of every call. Assumes nothing.
 use mathlib.Core.Path.{_≡_}
 use mathlib.Core.List.{List, _++_}
-use Prim.Native.Nat.{ℕ}
-use lib.ListN.{length}
+use Prim.Native.Nat.{ℕ, _≤_}
+use lib.ListN.{length, getD}
 use Rattle.refusal.specs.Outcome.{Outcome}
 use Rattle.refusal.specs.Outcome.Outcome.{accepted, refused}
 use Rattle.refusal.specs.declared.Place.{Place}
 use Rattle.guideline.specs.Sizes.{blockNumbers}
 use Rattle.guideline.specs.Block.{AcceptedBlock, figuresOf}
 use Rattle.guideline.specs.Demand.{BlockDemand}
-use Rattle.block.specs.RootSteps.{stepsOf}
+use Rattle.figures.specs.RootSteps.{stepsOf}
 use Rattle.block.specs.Call.{blockCall}
 
 -- of any numbers
@@ -26,3 +26,8 @@ pub record AcceptsBlock (b : List ℕ) : Type 0 where
 abbrev pub BlockDemand3 : List ℕ → Outcome → Type 0
 BlockDemand3 b (accepted vs) = (vs ≡ figuresOf b ++ stepsOf b) × BlockDemand b
 BlockDemand3 b (refused n p) = Unit {0}
+
+-- 'never above 52 in a block calculation' (document 02, #107), by the call's outcome: its sixth and its seventh value
+abbrev pub FewSteps : Outcome → Type 0
+FewSteps (accepted vs) = (getD vs 5 0 ≤ 52) × (getD vs 6 0 ≤ 52)
+FewSteps (refused n p) = Unit {0}

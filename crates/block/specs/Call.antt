@@ -14,10 +14,10 @@ use Rattle.refusal.specs.Outcome.Outcome.{accepted, refused}
 use Rattle.refusal.specs.declared.Place.the-variants.{Position}
 use Rattle.guideline.specs.Sizes.{risks}
 use Rattle.guideline.specs.Block.{lt, figuresOf}
+use Rattle.figures.specs.Parts.{figureList, stepList}
+use Rattle.figures.specs.RootSteps.{stepsOf}
 use Rattle.block.specs.declared.BlockAnswer.{BlockAnswer}
 use Rattle.block.specs.declared.BlockAnswer.the-variants.{Accepted, Refused}
-use Rattle.block.specs.Parts.{figureList, stepList}
-use Rattle.block.specs.RootSteps.{stepsOf}
 
 -- what the enum's cases say in document 01's numbers: the figures in its order and the steps, or the refusal's number and place
 abbrev pub stated : BlockAnswer → Outcome

@@ -15,7 +15,8 @@ use Rattle.guideline.specs.Block.{A, U, LT, Vh, y, ys, Q4, largestOf, largest, 
 use Rattle.guideline.specs.Operational.{total, volume, growth, operationalNumerator, RO}
 use Rattle.mortality.specs.Credit.{twiceRadicand, aggregated, credit}
 use Rattle.root.specs.Steps.{binaryLength, steps}
-use Rattle.block.specs.RootSteps.{radicandI, radicandD, stepsOf}
+use Rattle.insurance.specs.Radicand.{radicandI}
+use Rattle.figures.specs.RootSteps.{radicandD, stepsOf}
 use Rattle.block.specs.Call.{firstLtAbove, rule9, rule8, blockCall}
 use Rattle.operational.specs.Call.{rule7, operationalCall}
 use Rattle.fluctuation.specs.Rows.{rows, rowOf, baseOf}

@@ -4,8 +4,7 @@
 ghost use mathlib.Core.Path.{_≡_};
 ghost use Rattle.refusal.specs.Outcome.Outcome.{accepted};
 ghost use Rattle.block.specs.Call.{blockCall};
-ghost use Rattle.block.specs.Accepted.{BlockDemand3};
-ghost use Rattle.block.specs.RootSteps.{FewSteps};
+ghost use Rattle.block.specs.Accepted.{BlockDemand3, FewSteps};
 ghost use Rattle.operational.specs.Call.{operationalCall};
 ghost use Rattle.fluctuation.specs.Call.{fluctuationCall};
 ghost use Rattle.fluctuation.specs.Accepted.{FluctuationDemand};

@@ -16,17 +16,17 @@ ghost use Rattle.search.specs.Least.{least};
 ghost use Rattle.guideline.specs.Sizes.{nonParticipating, blocks, adjustableProducts, rowNumbers, tenThousandths, largestScalar, tableNumbers};
 ghost use Rattle.guideline.specs.Operational.{RO};
 ghost use Rattle.ledger.specs.Tables.{Empty};
-ghost use Rattle.block.specs.Parts.{figureList};
+ghost use Rattle.figures.specs.Parts.{figureList};
 ghost use Rattle.judgement.specs.Judgement.{judgement, creditAbove, rule12, rule17, findings, stated};
 ghost use Rattle.judgement.specs.Sheet.{creditOf, afterCredit, sheetOf};
 ghost use Rattle.judgement.specs.Steps.{Ledger, OfLines, LinesOf, Credits, Credited, join, WorkedOut};
-use block::Figures;
 use codes::CEDED_CLASS;
 use codes::CREDITS_CLASS;
 use codes::Code;
 use codes::GROSS_CLASS;
 use codes::GUARANTEE_CLASS;
 use codes::SCALAR_CLASS;
+use figures::Figures;
 use guideline::ADJUSTABLE_PRODUCTS;
 use guideline::BLOCK_NUMBERS;
 use guideline::BLOCKS;
@@ -279,7 +279,7 @@ fn work_block(
         return joined(w, absent);
     }
     let numbers = numbers_after_credit(firsts, seconds, marks, credits, block);
-    let f = block::figures_of(&numbers);
+    let f = figures::figures_of(&numbers);
     store(rows, ROW_NUMBERS * w.count, block, f);
     let present = Worked {
         count: 1,

@@ -9,7 +9,7 @@ use borrow.Author.Tests.{not-true, not-false}
 use Rattle.amount.specs.Amount.{limit}
 use Rattle.guideline.specs.Sizes.{blocks}
 use Rattle.guideline.specs.Block.{K, figuresOf}
-use Rattle.block.specs.Parts.{figureList, figures-are}
+use Rattle.figures.specs.Parts.{figureList, figures-are}
 use Rattle.sheet_line.specs.declared.Entry.{Entry}
 use Rattle.order.specs.Entries.{exists}
 use Rattle.ledger.specs.Numbers.{dividendCredit}

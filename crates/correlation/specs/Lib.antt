@@ -1,0 +1,2 @@
+-- What the sum over the pairs of risks is said by.
+pub mod Products
