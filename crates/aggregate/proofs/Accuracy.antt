@@ -18,10 +18,12 @@ use Rattle.sheet_line.specs.declared.Entry.{Entry}
 use Rattle.order.specs.Entries.{exists}
 use Rattle.report.specs.Rows.{BLK, TOT}
 use Rattle.report.proofs.Reread.{buffer-read, figure-read}
-use Rattle.judgement.specs.Sheet.{afterCredit, sheetOf}
+use Rattle.credits.specs.Credits.{afterCredit}
+use Rattle.judgement.specs.Sheet.{sheetOf}
 use Rattle.judgement.specs.Judgement.{judgement}
 use Rattle.judgement.specs.Judgement.Judgement.{sound}
-use Rattle.judgement.proofs.Accepted.{credit-accurate, block-accepted, credit-taken, exists-within, sound-passed, sound-accepted}
+use Rattle.credits.proofs.Accepted.{credit-accurate, block-accepted, credit-taken}
+use Rattle.judgement.proofs.Accepted.{exists-within, sound-passed, sound-accepted}
 use Rattle.aggregate.specs.Call.{Done, blockRowsOf, reportOf, sheetCall}
 use Rattle.aggregate.specs.Demand.{ReportedBlock, ReportDemand, Demand3}
 use Rattle.aggregate.proofs.Rules.{by-answer}

@@ -19,7 +19,8 @@ use Rattle.sheet_line.specs.declared.Entry.{Entry}
 use Rattle.order.specs.Entries.{exists}
 use Rattle.report.specs.Rows.{BLK, TOT, itemsFrom, blockRows, tableRows, totals, reportLength}
 use Rattle.report.proofs.Items.{items-long}
-use Rattle.judgement.specs.Sheet.{afterCredit, blocksTo, sheetOf, rowsTo}
+use Rattle.credits.specs.Credits.{afterCredit}
+use Rattle.judgement.specs.Sheet.{blocksTo, sheetOf, rowsTo}
 use Rattle.aggregate.specs.Call.{blockRowsOf, reportOf}
 
 -- only the first rows count

@@ -20,7 +20,8 @@ use Rattle.report_line.specs.Line.{Row, printRows}
 use Rattle.sheet_line.specs.declared.Entry.{Entry}
 use Rattle.order.specs.Entries.{exists}
 use Rattle.report.specs.Rows.{blockRows, totalRows, reportLength, refusalLine}
-use Rattle.judgement.specs.Sheet.{afterCredit, sheetOf}
+use Rattle.credits.specs.Credits.{afterCredit}
+use Rattle.judgement.specs.Sheet.{sheetOf}
 use Rattle.judgement.specs.Judgement.{Judgement, judgement}
 use Rattle.judgement.specs.Judgement.Judgement.{turnedAway, sound}
 use Rattle.aggregate.specs.declared.SheetAnswer.{SheetAnswer}

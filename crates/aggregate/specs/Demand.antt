@@ -18,7 +18,8 @@ use Rattle.order.specs.Entries.{exists}
 use Rattle.ledger.specs.Numbers.{blockOf, survivalSum, deathSum}
 use Rattle.report.specs.Rows.{BLK, TOT}
 use Rattle.mortality.specs.Credit.{CreditDemand}
-use Rattle.judgement.specs.Sheet.{creditOf, sheetOf}
+use Rattle.credits.specs.Credits.{creditOf}
+use Rattle.judgement.specs.Sheet.{sheetOf}
 use Rattle.judgement.specs.Judgement.{judgement}
 use Rattle.judgement.specs.Judgement.Judgement.{sound}
 

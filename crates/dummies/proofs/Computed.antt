@@ -20,8 +20,9 @@ use Rattle.ledger.specs.Numbers.{pairs, blockBy, volumesBy}
 use Rattle.order.specs.Order.{keyOf, rule19, rule11}
 use Rattle.order.specs.Reading.{onLine, readFrom}
 use Rattle.report.specs.Rows.{itemsFrom}
-use Rattle.judgement.specs.Sheet.{creditOf, afterCredit, blocksTo, sheetOf}
-use Rattle.judgement.specs.Judgement.{creditAbove, rule13, dividendBarred, rule17, rule16, rule12, ruleLines, rule2, judgement}
+use Rattle.credits.specs.Credits.{creditOf, afterCredit, creditAbove}
+use Rattle.judgement.specs.Sheet.{blocksTo, sheetOf}
+use Rattle.judgement.specs.Judgement.{rule13, dividendBarred, rule17, rule16, rule12, ruleLines, rule2, judgement}
 use Rattle.aggregate.specs.Call.{blockRowsOf, rule14, afterJudgement, sheetCall}
 use Rattle.dummies.specs.Dummies.{areBytes}
 use Rattle.dummies.specs.Answers.{answers, given, claimed}

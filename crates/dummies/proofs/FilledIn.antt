@@ -28,7 +28,8 @@ use Rattle.sheet_line.specs.declared.Entry.{Entry}
 use Rattle.order.specs.Entries.{exists}
 use Rattle.report.specs.Rows.{BLK, TOT, row, itemsFrom, blockRows, reportLength}
 use Rattle.report.proofs.Reread.{all-printable, buffer-read}
-use Rattle.judgement.specs.Sheet.{afterCredit, blocksTo, sheetOf}
+use Rattle.credits.specs.Credits.{afterCredit}
+use Rattle.judgement.specs.Sheet.{blocksTo, sheetOf}
 use Rattle.aggregate.specs.Call.{Done, untouched}
 use Rattle.aggregate.proofs.Rows.{closed-long}
 use Rattle.dummies.specs.Dummies.{claimedReport, firstForAll, filledIn}

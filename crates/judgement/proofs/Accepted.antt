@@ -4,7 +4,6 @@ use mathlib.Core.Path.{_≡_, refl, sym, _∙_, subst}
 use mathlib.Core.Bool.{true, false}
 use mathlib.Core.List.{List, [], _∷_, _++_, append-nil}
 use Prim.Native.Nat.{ℕ, zero, suc, _+_, _*_, _%_, _≤_}
-use native.Mathlib.Decide.{decLe}
 use native.Mathlib.Omega.{arith}
 use lib.Dec.{eqb, ltb}
 use lib.ListN.{length}
@@ -21,11 +20,10 @@ use Rattle.search.proofs.Anys.{none-before, none-to}
 use Rattle.refusal.specs.Outcome.{printed, Judging, judging}
 use Rattle.refusal.specs.declared.Place.{Place}
 use Rattle.refusal.specs.declared.Place.the-variants.{Line, Nowhere}
-use Rattle.guideline.specs.Sizes.{nonParticipating, blocks, adjustableProducts, largestScalar}
-use Rattle.guideline.specs.Block.{lt, U, LT, K, AcceptedBlock}
+use Rattle.guideline.specs.Sizes.{blocks, adjustableProducts, largestScalar}
+use Rattle.guideline.specs.Block.{K, AcceptedBlock}
 use Rattle.guideline.specs.Operational.{OperationalAmounts}
 use Rattle.guideline.specs.Buffer.{sumK, free, available, AcceptedSheet, mostAvailable}
-use Rattle.guideline.proofs.Figures.{accepted-of}
 use Rattle.guideline.proofs.Totals.{sum-more, available-fits}
 use Rattle.layout.specs.Columns.{sheetLineBytes}
 use Rattle.codes.specs.Codes.{Key, scalarClass}
@@ -34,19 +32,17 @@ use Rattle.codes.specs.declared.Code.the-variants.{Rsk, Oth, Mor, Vol, Acq, Gen
 use Rattle.sheet_line.specs.declared.Entry.{Entry}
 use Rattle.sheet_line.specs.Rules.{AcceptedLine}
 use Rattle.order.specs.Entries.{lookup, markOf, ofBlock, exists, hasLine, DistinctKeys}
-use Rattle.ledger.specs.Numbers.{blockOf, survivalSum, deathSum, dividendCredit, adjustableCredit}
+use Rattle.ledger.specs.Numbers.{dividendCredit, adjustableCredit}
 use Rattle.order.specs.Reading.{Reading, reading}
 use Rattle.order.specs.Reading.Reading.{complete, stopped}
-use Rattle.ledger.proofs.Bounds.{first-most, second-most, none-outside, none-unmarked, block-ruled, length-volumes, volumes-most, general-most, scalar-within}
+use Rattle.ledger.proofs.Bounds.{first-most, none-unmarked, length-volumes, volumes-most, general-most, scalar-within}
 use Rattle.order.specs.Places.{mostLines, longestSheet}
 use Rattle.order.proofs.Lines.{all-read, reading-distinct, reading-stopped}
-use Rattle.mortality.specs.Credit.{CreditDemand}
-use Rattle.mortality.proofs.Credits.{credit-demand, none-with-0}
-use Rattle.mortality.proofs.Accepted.{lowered-accepted, lowered-sums}
-use Rattle.judgement.specs.Sheet.{creditOf, afterCredit, blocksTo, sheetOf}
-use Rattle.judgement.specs.Judgement.{Judgement, rule13, dividendBarred, rule17, creditAbove, rule16, rule12, ruleLines, rule2, judgement}
+use Rattle.credits.specs.Credits.{afterCredit, Covered}
+use Rattle.credits.proofs.Accepted.{all-covered, block-accepted}
+use Rattle.judgement.specs.Sheet.{blocksTo, sheetOf}
+use Rattle.judgement.specs.Judgement.{Judgement, rule13, dividendBarred, rule17, rule16, rule12, ruleLines, rule2, judgement}
 use Rattle.judgement.specs.Judgement.Judgement.{turnedAway, sound}
-use Rattle.judgement.specs.Steps.{Covered}
 
 -- of n blocks at most n exist
 pub few-blocks : (es : List Entry) (n : ℕ) → length (blocksTo es n) ≤ n
@@ -54,27 +50,6 @@ unfolding blocksTo
 few-blocks es n = few (exists es) (afterCredit es) n
 
 module _ (es : List Entry) (all : Each AcceptedLine es) where
-  -- before its credit
-  pub entered-accepted : (b : ℕ) → AcceptedBlock (blockOf es b)
-  entered-accepted b = let s = block-ruled es all b in accepted-of (blockOf es b) (s .amounts) (s .last) (s .trend)
-
-  pub credit-accurate : (b : ℕ) → CreditDemand (survivalSum es b) (deathSum es b) (creditOf es b)
-  unfolding creditOf
-  credit-accurate b = credit-demand _ _ (first-most es all Mor b 1) (second-most es all Mor b 1)
-
-  -- what rule 16 tests is all: other blocks have no MOR line and no credit
-  pub all-covered : anyTo (creditAbove es) nonParticipating ≡ false → Covered es
-  unfolding creditAbove creditOf
-  all-covered e b = go (decLe 1 b) (decLe b nonParticipating)
-    where
-      none : (Key Mor b 1 → ⊥) → creditOf es b ≤ lt (blockOf es b) 1
-      none n = let z = none-outside es all Mor b 1 n in rw (z .0, z .1, none-with-0 0 (omega arith)) (omega arith)
-
-      go : Dec (1 ≤ b) → Dec (b ≤ nonParticipating) → creditOf es b ≤ lt (blockOf es b) 1
-      go (yes l) (yes h) = ltb-false _ _ (none-to (creditAbove es) nonParticipating e b l h)
-      go (yes l) (no h) = none (λ v. omega (arith, v .high))
-      go (no l) h = none (λ v. omega (arith, v .low))
-
   pub amounts-within : OperationalAmounts (sheetOf es .volumes) (sheetOf es .general)
   unfolding sheetOf
   amounts-within =
@@ -117,19 +92,9 @@ dividends-most es all (suc n) h =
 
 -- what holds once no credit is above its block's LT(1)
 module _ (es : List Entry) (all : Each AcceptedLine es) (covered : Covered es) where
-  pub block-accepted : (b : ℕ) → AcceptedBlock (afterCredit es b)
-  unfolding afterCredit
-  block-accepted b =
-      lowered-accepted (creditOf es b) (blockOf es b) (omega (arith, block-ruled es all b .long)) (covered b) (entered-accepted es all b)
-
-  -- what the report shows of a block's U and LT is less than the lines say by the credit
-  pub credit-taken : (b : ℕ) → (U (afterCredit es b) + creditOf es b ≡ U (blockOf es b)) × (LT (afterCredit es b) + creditOf es b ≡ LT (blockOf es b))
-  unfolding afterCredit
-  credit-taken b = lowered-sums (creditOf es b) (blockOf es b) (omega (arith, block-ruled es all b .long)) (covered b) (entered-accepted es all b)
-
   pub blocks-accepted : (n : ℕ) → Each AcceptedBlock (blocksTo es n)
   unfolding blocksTo
-  blocks-accepted n = each-ascending (exists es) (λ b. afterCredit es b ∷ []) AcceptedBlock n (λ b l h t. (block-accepted b, tt))
+  blocks-accepted n = each-ascending (exists es) (λ b. afterCredit es b ∷ []) AcceptedBlock n (λ b l h t. (block-accepted es all covered b, tt))
 
   pub available-small : available (sheetOf es) ≤ mostAvailable
   unfolding sheetOf

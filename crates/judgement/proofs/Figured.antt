@@ -31,10 +31,12 @@ use Rattle.order.specs.Entries.{hasLine, exists}
 use Rattle.ledger.specs.Numbers.{dividendCredit}
 use Rattle.ledger.proofs.Bounds.{first-most}
 use Rattle.judgement.specs.Judgement.{dividendBarred}
-use Rattle.judgement.specs.Sheet.{afterCredit, blocksTo, rowsTo}
-use Rattle.judgement.specs.Steps.{Covered, join, WorkedOut}
+use Rattle.credits.specs.Credits.{afterCredit, Covered}
+use Rattle.judgement.specs.Sheet.{blocksTo, rowsTo}
+use Rattle.judgement.specs.Steps.{join, WorkedOut}
 use Rattle.judgement.specs.declared.Worked.{Worked}
-use Rattle.judgement.proofs.Accepted.{few-blocks, block-accepted, blocks-accepted}
+use Rattle.credits.proofs.Accepted.{block-accepted}
+use Rattle.judgement.proofs.Accepted.{few-blocks, blocks-accepted}
 
 -- a row stored number by number is a row put
 pub row-put : (l : List ℕ) (at b i d u lt k : ℕ) → at + rowNumbers ≤ length l

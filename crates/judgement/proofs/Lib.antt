@@ -1,8 +1,6 @@
 -- The rules of a sheet one after the other, and the figures of a sound one. Assumes nothing.
-pub mod Tables
 pub mod Accepted
 pub mod Alike
-pub mod Credits
 pub mod Figured
 pub mod Available
 pub mod Rules

@@ -20,15 +20,16 @@ use Rattle.order.specs.Reading.{Reading, reading, entriesOf, outcomeOf}
 use Rattle.ledger.specs.Tables as ledger
 use Rattle.order.specs.Reading.Reading.{complete, stopped}
 use Rattle.order.specs.Places.{longestSheet}
-use Rattle.ledger.specs.Tables.{Filled}
+use Rattle.ledger.specs.Tables.{Filled, Holds}
 use Rattle.ledger.specs.declared.Answer.{Answer}
 use Rattle.ledger.specs.declared.Answer.the-variants as answer
 use Rattle.order.proofs.Lines.{all-read}
 use Rattle.judgement.specs.Sheet.{sheetOf, rowsTo}
-use Rattle.judgement.specs.Judgement.{Judgement, rule13, dividendBarred, rule17, creditAbove, rule16, rule12, ruleLines, rule2, judgement, findings}
+use Rattle.credits.specs.Credits.{creditAbove}
+use Rattle.judgement.specs.Judgement.{Judgement, rule13, dividendBarred, rule17, rule16, rule12, ruleLines, rule2, judgement, findings}
 use Rattle.judgement.specs.Judgement.Judgement.{turnedAway, sound}
 use Rattle.judgement.specs.Judgement.Findings.{refusal, figures}
-use Rattle.judgement.specs.Steps.{Holds, LinesOf}
+use Rattle.judgement.specs.Steps.{LinesOf}
 use Rattle.judgement.proofs.Accepted.{sound-passed}
 
 -- ---- rules 1 and 2, and the lines

@@ -11,7 +11,7 @@ use Rattle.search.specs.First.{anyTo}
 use Rattle.refusal.specs.declared.Place.{Place}
 use Rattle.refusal.specs.declared.Place.the-variants as place
 use Rattle.guideline.specs.Sizes.{nonParticipating, blocks, rowNumbers}
-use Rattle.guideline.specs.Block.{lt, K}
+use Rattle.guideline.specs.Block.{K}
 use Rattle.guideline.specs.Operational.{RO}
 use Rattle.guideline.specs.Buffer.{count, sumK, free, available, buffer}
 use Rattle.layout.specs.Columns.{sheetLineBytes}
@@ -19,11 +19,12 @@ use Rattle.codes.specs.Codes.{scalarClass}
 use Rattle.codes.specs.declared.Code.the-variants.{Gen, Crd}
 use Rattle.sheet_line.specs.declared.Entry.{Entry}
 use Rattle.order.specs.Entries.{hasLine, exists}
-use Rattle.ledger.specs.Numbers.{blockOf, dividendCredit}
+use Rattle.ledger.specs.Numbers.{dividendCredit}
 use Rattle.order.specs.Reading.{Reading, reading}
 use Rattle.order.specs.Reading.Reading.{complete, stopped}
 use Rattle.order.specs.Places.{longestSheet}
-use Rattle.judgement.specs.Sheet.{creditOf, afterCredit, sheetOf, rowsTo}
+use Rattle.credits.specs.Credits.{afterCredit, creditAbove}
+use Rattle.judgement.specs.Sheet.{sheetOf, rowsTo}
 use Rattle.judgement.specs.declared.Verdict.{Verdict}
 use Rattle.judgement.specs.declared.Verdict.the-variants.{Sound, TurnedAway}
 
@@ -46,10 +47,6 @@ dividendBarred es b = pick (exists es b) (ltb (K (afterCredit es b)) (dividendCr
 -- rule 17, 'after 16 and before 13'
 unfoldable pub rule17 : List Entry → Judgement
 rule17 es = pick (anyTo (dividendBarred es) blocks) (turnedAway 17 place.Nowhere) (rule13 es)
-
--- a credit above its block's LT(1)
-unfoldable pub creditAbove : List Entry → ℕ → Bool
-creditAbove es b = ltb (lt (blockOf es b) 1) (creditOf es b)
 
 -- rule 16: 'a sheet with a credit above its block's LT(1)', of whichever block has a MOR line
 unfoldable pub rule16 : List Entry → Judgement

@@ -7,18 +7,10 @@ use Rattle.search.specs.Total.{sumTo}
 use Rattle.guideline.specs.Sizes.{blocks, adjustableProducts}
 use Rattle.guideline.specs.Block.{figuresOf}
 use Rattle.guideline.specs.Buffer.{Sheet}
-use Rattle.mortality.specs.Credit.{credit, lowered}
 use Rattle.sheet_line.specs.declared.Entry.{Entry}
 use Rattle.order.specs.Entries.{exists}
-use Rattle.ledger.specs.Numbers.{blockOf, volumesOf, generalAmount, survivalSum, deathSum, dividendCredit, adjustableCredit}
-
--- the reported credit of a block, section 11.1.1; a block without a MOR line has S and T zero, and no credit
-unfoldable pub creditOf : List Entry → ℕ → ℕ
-creditOf es b = credit (survivalSum es b) (deathSum es b)
-
--- the 17 numbers of a block, IR(1) and LT(1) lowered by the credit
-unfoldable pub afterCredit : List Entry → ℕ → List ℕ
-afterCredit es b = lowered (creditOf es b) (blockOf es b)
+use Rattle.ledger.specs.Numbers.{volumesOf, generalAmount, dividendCredit, adjustableCredit}
+use Rattle.credits.specs.Credits.{afterCredit}
 
 -- the numbers of each of the blocks 1 to n that exist, ascending
 unfoldable pub blocksTo : List Entry → ℕ → List (List ℕ)

@@ -7,28 +7,22 @@ ghost use lib.Dec.{leb};
 ghost use lib.ListN.{length};
 ghost use borrow.Rule.Slice.PartMut.{putMid};
 ghost use Rattle.guideline.specs.Buffer.{mostAvailable};
-ghost use Rattle.search.specs.First.{anyTo};
-ghost use Rattle.search.specs.Total.{sumTo};
 ghost use Rattle.search.specs.Pick.{pick};
-ghost use Rattle.order.specs.Entries.{hasLine};
-ghost use Rattle.ledger.specs.Numbers.{dividendCredit, adjustableCredit};
 ghost use Rattle.search.specs.Least.{least};
-ghost use Rattle.guideline.specs.Sizes.{nonParticipating, blocks, adjustableProducts, rowNumbers, tenThousandths, largestScalar, tableNumbers};
+ghost use Rattle.guideline.specs.Sizes.{blocks, rowNumbers, tenThousandths, largestScalar, tableNumbers};
 ghost use Rattle.guideline.specs.Operational.{RO};
-ghost use Rattle.ledger.specs.Tables.{Empty};
+ghost use Rattle.ledger.specs.Tables.{Empty, Ledger, OfLines};
+ghost use Rattle.credits.specs.Credits.{Credited};
 ghost use Rattle.figures.specs.Parts.{figureList};
-ghost use Rattle.judgement.specs.Judgement.{judgement, creditAbove, rule12, rule17, findings, stated};
-ghost use Rattle.judgement.specs.Sheet.{creditOf, afterCredit, sheetOf};
-ghost use Rattle.judgement.specs.Steps.{Ledger, OfLines, LinesOf, Credits, Credited, join, WorkedOut};
+ghost use Rattle.judgement.specs.Judgement.{judgement, rule12, rule17, findings, stated};
+ghost use Rattle.judgement.specs.Sheet.{sheetOf};
+ghost use Rattle.judgement.specs.Steps.{LinesOf, join, WorkedOut};
 use codes::CEDED_CLASS;
 use codes::CREDITS_CLASS;
-use codes::Code;
 use codes::GROSS_CLASS;
 use codes::GUARANTEE_CLASS;
 use codes::SCALAR_CLASS;
 use figures::Figures;
-use guideline::ADJUSTABLE_PRODUCTS;
-use guideline::BLOCK_NUMBERS;
 use guideline::BLOCKS;
 use guideline::NON_PARTICIPATING;
 use guideline::ROW_NUMBERS;
@@ -93,53 +87,11 @@ fn after_lines(
     if !order::has_scalar(marks) {
         return Verdict::TurnedAway(12, Place::Nowhere);
     }
-    let credits = credits_of(firsts, seconds, marks);
-    if any_credit_above(firsts, seconds, marks, &credits) {
+    let credits = credits::credits_of(firsts, seconds, marks);
+    if credits::any_credit_above(firsts, seconds, marks, &credits) {
         return Verdict::TurnedAway(16, Place::Nowhere);
     }
     rule_17(firsts, seconds, marks, &credits, rows)
-}
-
-// The credits of blocks 1 to 16. One can pass the largest amount, and its block's LT(1).
-fn credits_of(
-    firsts: &[u64; PLACES],
-    seconds: &[u64; PLACES],
-    marks: &[u8; PLACES],
-) -> [u64; NON_PARTICIPATING]
-    requires { ⌜ Ledger (now firsts) (now seconds) (now marks) ⌝ }
-    ensures { λ r. ⌜ OfLines (now (firsts .entry)) (now (seconds .entry)) (now (marks .entry)) (λ es. Credits es r) ⌝ }
-{
-    let mut credits = [0u64; NON_PARTICIPATING];
-    let mut i = 0;
-    while i < NON_PARTICIPATING {
-        credits[i] = mortality::credit(
-            ledger::amount_of(firsts, Code::Mor, i + 1, 1),
-            ledger::amount_of(seconds, Code::Mor, i + 1, 1),
-        );
-        i += 1;
-    }
-    credits
-}
-
-// Whether one of blocks 1 to 16 has a credit above its LT(1).
-fn any_credit_above(
-    firsts: &[u64; PLACES],
-    seconds: &[u64; PLACES],
-    marks: &[u8; PLACES],
-    credits: &[u64; NON_PARTICIPATING],
-) -> bool
-    requires { ⌜ Ledger (now firsts) (now seconds) (now marks) ⌝ }
-    requires { ⌜ OfLines (now firsts) (now seconds) (now marks) (λ es. Credits es (now credits)) ⌝ }
-    ensures { λ r. ⌜ OfLines (now (firsts .entry)) (now (seconds .entry)) (now (marks .entry)) (λ es. r ≡ anyTo (creditAbove es) nonParticipating) ⌝ }
-{
-    let mut i = 0;
-    while i < NON_PARTICIPATING {
-        if ledger::amount_of(seconds, Code::Rsk, i + 1, 1) < credits[i] {
-            return true;
-        }
-        i += 1;
-    }
-    false
 }
 
 // Rules 17 and 13, of lines that rule 16 lets pass too, and the totals.
@@ -162,7 +114,7 @@ fn rule_17(
     }
     let ro = operational_figure(firsts, seconds, marks);
     let available = sum - w.dividends + ledger::general_amount(firsts, GUARANTEE_CLASS) + ro;
-    let free = adjustable_credits(firsts, seconds, marks)
+    let free = credits::adjustable_credits(firsts, seconds, marks)
         + ledger::general_amount(firsts, CREDITS_CLASS);
     if available < free {
         return Verdict::TurnedAway(13, Place::Nowhere);
@@ -177,20 +129,6 @@ fn rule_17(
         ro,
         buffer,
     })
-}
-
-// The sum of the credits of adjustable products.
-fn adjustable_credits(firsts: &[u64; PLACES], seconds: &[u64; PLACES], marks: &[u8; PLACES]) -> u64
-    requires { ⌜ Ledger (now firsts) (now seconds) (now marks) ⌝ }
-    ensures { λ r. ⌜ OfLines (now (firsts .entry)) (now (seconds .entry)) (now (marks .entry)) (λ es. r ≡ sumTo (adjustableCredit es) adjustableProducts) ⌝ }
-{
-    let mut sum = 0u64;
-    let mut i = 0;
-    while i < ADJUSTABLE_PRODUCTS {
-        i += 1;
-        sum += ledger::amount_of(firsts, Code::Crd, 0, i);
-    }
-    sum
 }
 
 // g × bracket over 10,000, rounded up. The product can pass a word: the bracket is split by 10,000 first.
@@ -268,17 +206,17 @@ fn work_block(
     requires { ⌜ OfLines (now firsts) (now seconds) (now marks) (λ es. WorkedOut es (block - 1) w (now rows)) ⌝ }
     ensures { λ r. ⌜ OfLines (now (firsts .entry)) (now (seconds .entry)) (now (marks .entry)) (λ es. WorkedOut es block r (now (rows .exit))) ⌝ }
 {
-    let dividend = dividend_credit(firsts, seconds, marks, block);
+    let dividend = credits::dividend_credit(firsts, seconds, marks, block);
     if !order::block_exists(marks, block) {
         let absent = Worked {
             count: 0,
             sum: 0,
             dividends: dividend,
-            barred: has_dividend(firsts, seconds, marks, block),
+            barred: credits::has_dividend(firsts, seconds, marks, block),
         };
         return joined(w, absent);
     }
-    let numbers = numbers_after_credit(firsts, seconds, marks, credits, block);
+    let numbers = credits::numbers_after_credit(firsts, seconds, marks, credits, block);
     let f = figures::figures_of(&numbers);
     store(rows, ROW_NUMBERS * w.count, block, f);
     let present = Worked {
@@ -302,76 +240,6 @@ fn joined(w: Worked, more: Worked) -> Worked
         dividends: w.dividends + more.dividends,
         barred,
     }
-}
-
-// The numbers of a block after its credit.
-fn numbers_after_credit(
-    firsts: &[u64; PLACES],
-    seconds: &[u64; PLACES],
-    marks: &[u8; PLACES],
-    credits: &[u64; NON_PARTICIPATING],
-    block: usize,
-) -> [u64; BLOCK_NUMBERS]
-    requires { ⌜ (1 ≤ block) × (block ≤ blocks) ⌝ }
-    requires { ⌜ Ledger (now firsts) (now seconds) (now marks) ⌝ }
-    requires { ⌜ OfLines (now firsts) (now seconds) (now marks) (λ es. Credited es (now credits)) ⌝ }
-    ensures { λ r. ⌜ OfLines (now (firsts .entry)) (now (seconds .entry)) (now (marks .entry)) (λ es. r ≡ afterCredit es block) ⌝ }
-{
-    let entered = ledger::block_numbers(firsts, seconds, block);
-    mortality::lowered(entered, credit_of(firsts, seconds, marks, credits, block))
-}
-
-// The mortality credit of a block: participating ones have none.
-fn credit_of(
-    firsts: &[u64; PLACES],
-    seconds: &[u64; PLACES],
-    marks: &[u8; PLACES],
-    credits: &[u64; NON_PARTICIPATING],
-    block: usize,
-) -> u64
-    requires { ⌜ 1 ≤ block ⌝ }
-    requires { ⌜ Ledger (now firsts) (now seconds) (now marks) ⌝ }
-    requires { ⌜ OfLines (now firsts) (now seconds) (now marks) (λ es. Credited es (now credits)) ⌝ }
-    ensures { λ r. ⌜ OfLines (now (firsts .entry)) (now (seconds .entry)) (now (marks .entry)) (λ es. r ≡ creditOf es block) ⌝ }
-{
-    if NON_PARTICIPATING < block {
-        return 0;
-    }
-    credits[block - 1]
-}
-
-// The dividend credit of a block: those without participation have none.
-fn dividend_credit(
-    firsts: &[u64; PLACES],
-    seconds: &[u64; PLACES],
-    marks: &[u8; PLACES],
-    block: usize,
-) -> u64
-    requires { ⌜ (1 ≤ block) × (block ≤ blocks) ⌝ }
-    requires { ⌜ Ledger (now firsts) (now seconds) (now marks) ⌝ }
-    ensures { λ r. ⌜ OfLines (now (firsts .entry)) (now (seconds .entry)) (now (marks .entry)) (λ es. r ≡ dividendCredit es block) ⌝ }
-{
-    if block <= NON_PARTICIPATING {
-        return 0;
-    }
-    ledger::amount_of(firsts, Code::Crd, block, 1)
-}
-
-// Whether a block has the line of a dividend credit, of whatever amount.
-fn has_dividend(
-    firsts: &[u64; PLACES],
-    seconds: &[u64; PLACES],
-    marks: &[u8; PLACES],
-    block: usize,
-) -> bool
-    requires { ⌜ (1 ≤ block) × (block ≤ blocks) ⌝ }
-    requires { ⌜ Ledger (now firsts) (now seconds) (now marks) ⌝ }
-    ensures { λ r. ⌜ OfLines (now (firsts .entry)) (now (seconds .entry)) (now (marks .entry)) (λ es. r ≡ hasLine es Code.Crd block 1) ⌝ }
-{
-    if block <= NON_PARTICIPATING {
-        return false;
-    }
-    order::has_mark(marks, Code::Crd, block, 1)
 }
 
 // Whether one of two things is so.

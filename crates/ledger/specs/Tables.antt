@@ -3,9 +3,11 @@ use mathlib.Core.Path.{_≡_}
 use Prim.Native.Nat.{ℕ, _+_, _^_, _<_}
 use mathlib.Core.List.{List, [], _∷_}
 use lib.ListN.{set}
+use Rattle.search.specs.Each.{Each}
 use Rattle.refusal.specs.Outcome.{Outcome}
 use Rattle.refusal.specs.Outcome.Outcome.{accepted, refused}
 use Rattle.codes.specs.Codes.{Key}
+use Rattle.sheet_line.specs.Rules.{AcceptedLine}
 use Rattle.codes.specs.declared.Code.the-variants.{Vol, Acq}
 use Rattle.sheet_line.specs.declared.Entry.{Entry}
 use Rattle.order.specs.Entries.{firstOf, secondOf, markOf}
@@ -28,6 +30,19 @@ Empty firsts seconds marks = TablesOf [] firsts seconds marks
 abbrev pub stated : Answer → Outcome
 stated (answer.Accepted n) = accepted (n ∷ [])
 stated (answer.Refused r p) = refused r p
+
+-- the tables hold these lines, which no rule of a line turns away
+pub record Holds (es : List Entry) (firsts seconds marks : List ℕ) : Type 0 where
+  pub tables : TablesOf es firsts seconds marks
+  pub lines : Each AcceptedLine es
+
+-- the tables hold some lines
+abbrev pub Ledger : List ℕ → List ℕ → List ℕ → Type 0
+Ledger firsts seconds marks = (es : List Entry) × Holds es firsts seconds marks
+
+-- whichever lines the tables hold
+abbrev pub OfLines : List ℕ → List ℕ → List ℕ → (List Entry → Type 0) → Type 0
+OfLines firsts seconds marks P = (es : List Entry) → Holds es firsts seconds marks → P es
 
 -- the answer to a reading, and the tables after it
 pub record Filled (o : Reading) (r : Answer) (firsts seconds marks : List ℕ) : Type 0 where

@@ -8,7 +8,6 @@ use lib.ListN.{getD, set}
 use Rattle.search.specs.Pick.{pick}
 use Rattle.codes.specs.declared.Code.{Code}
 use Rattle.codes.specs.declared.Code.the-variants.{Rsk}
-use Rattle.sheet_line.specs.declared.Entry.{Entry}
 use Rattle.sheet_line.specs.declared.Line.{Line}
 use Rattle.sheet_line.specs.declared.Line.the-variants.{Good, Refused}
 use Rattle.order.specs.Order.{admitted}

@@ -10,10 +10,10 @@ use Rattle.codes.specs.Codes.{scalarClass}
 use Rattle.codes.specs.declared.Code.the-variants.{Gen}
 use Rattle.sheet_line.specs.declared.Entry.{Entry}
 use Rattle.order.specs.Entries.{hasLine}
-use Rattle.judgement.specs.Judgement.{creditAbove}
-use Rattle.judgement.specs.Steps.{Holds}
-use Rattle.judgement.proofs.Tables.{scalar-is}
-use Rattle.judgement.proofs.Accepted.{all-covered}
+use Rattle.credits.specs.Credits.{creditAbove}
+use Rattle.ledger.specs.Tables.{Holds}
+use Rattle.ledger.proofs.Tables.{scalar-is}
+use Rattle.credits.proofs.Accepted.{all-covered}
 use Rattle.judgement.proofs.Rules.{no-scalar, credit-above, credits-pass}
 use Rattle.judgement.proofs.after_lines.Statement.{statement}
 use Rattle.judgement.proofs.after_lines.Tie as tie

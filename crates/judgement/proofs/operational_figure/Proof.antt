@@ -7,8 +7,8 @@ use Rattle.codes.specs.Codes.{grossClass, guaranteeClass, cededClass}
 use Rattle.sheet_line.specs.declared.Entry.{Entry}
 use Rattle.ledger.specs.Numbers.{generalAmount}
 use Rattle.judgement.specs.Sheet.{sheetOf}
-use Rattle.judgement.specs.Steps.{Holds}
-use Rattle.judgement.proofs.Tables.{joined-small, volumes-are, general-is}
+use Rattle.ledger.specs.Tables.{Holds}
+use Rattle.ledger.proofs.Tables.{joined-small, volumes-are, general-is}
 use Rattle.judgement.proofs.Accepted.{amounts-within}
 use Rattle.judgement.proofs.operational_figure.Statement.{statement}
 use Rattle.judgement.proofs.operational_figure.Tie as tie

@@ -11,8 +11,8 @@ use Rattle.guideline.specs.Buffer.{free, available, mostAvailable}
 use Rattle.sheet_line.specs.declared.Entry.{Entry}
 use Rattle.judgement.specs.Sheet.{sheetOf}
 use Rattle.judgement.specs.Judgement.{dividendBarred}
-use Rattle.judgement.specs.Steps.{Holds}
-use Rattle.judgement.proofs.Tables.{general-is}
+use Rattle.ledger.specs.Tables.{Holds}
+use Rattle.ledger.proofs.Tables.{general-is}
 use Rattle.judgement.proofs.Accepted.{dividends-most, available-small, free-small, scalar-ranged}
 use Rattle.judgement.proofs.Available.{available-is, buffer-is}
 use Rattle.judgement.proofs.Rules.{dividend-above, credits-above, passes, figured}

@@ -13,10 +13,10 @@ use Rattle.figures.specs.Parts.{figureList, figures-are}
 use Rattle.sheet_line.specs.declared.Entry.{Entry}
 use Rattle.order.specs.Entries.{exists}
 use Rattle.ledger.specs.Numbers.{dividendCredit}
-use Rattle.judgement.specs.Sheet.{afterCredit}
-use Rattle.judgement.specs.Steps.{Holds}
-use Rattle.judgement.proofs.Tables.{exists-is}
-use Rattle.judgement.proofs.Accepted.{block-accepted}
+use Rattle.credits.specs.Credits.{afterCredit}
+use Rattle.ledger.specs.Tables.{Holds}
+use Rattle.ledger.proofs.Tables.{exists-is}
+use Rattle.credits.proofs.Accepted.{block-accepted}
 use Rattle.judgement.proofs.Figured.{absent, present, fits, dividends-fit}
 use Rattle.judgement.proofs.work_block.Statement.{statement}
 use Rattle.judgement.proofs.work_block.Tie as tie

@@ -4,7 +4,8 @@ use Prim.Native.Nat.{_+_, _-_, _≤_}
 use native.Mathlib.Omega.{arith}
 use borrow.Author.Needs.{needs}
 use Rattle.guideline.specs.Sizes.{blocks}
-use Rattle.judgement.specs.Steps.{OfLines, WorkedOut}
+use Rattle.ledger.specs.Tables.{OfLines}
+use Rattle.judgement.specs.Steps.{WorkedOut}
 use Rattle.judgement.proofs.Figured.{none}
 use Rattle.judgement.proofs.work_out.Statement.{statement}
 use Rattle.judgement.proofs.work_out.Tie as tie

@@ -5,12 +5,12 @@ use borrow.Author.Needs.{needs}
 use Rattle.mortality.specs.Credit.{lowered}
 use Rattle.sheet_line.specs.declared.Entry.{Entry}
 use Rattle.ledger.specs.Numbers.{blockOf}
-use Rattle.judgement.specs.Sheet.{creditOf, afterCredit}
-use Rattle.judgement.specs.Steps.{Holds}
-use Rattle.judgement.proofs.Tables.{numbers-are}
-use Rattle.judgement.proofs.Accepted.{entered-accepted}
-use Rattle.judgement.proofs.numbers_after_credit.Statement.{statement}
-use Rattle.judgement.proofs.numbers_after_credit.Tie as tie
+use Rattle.credits.specs.Credits.{creditOf, afterCredit}
+use Rattle.ledger.specs.Tables.{Holds}
+use Rattle.ledger.proofs.Tables.{numbers-are}
+use Rattle.credits.proofs.Accepted.{entered-accepted}
+use Rattle.credits.proofs.numbers_after_credit.Statement.{statement}
+use Rattle.credits.proofs.numbers_after_credit.Tie as tie
 
 -- the numbers and the credit
 read : (c : tie.After-credit-of) (es : List Entry) →

@@ -9,15 +9,14 @@ use Rattle.codes.specs.declared.Code.{Code}
 use Rattle.codes.specs.declared.Code.the-variants.{Vol, Acq, Gen}
 use Rattle.sheet_line.specs.declared.Entry.{Entry}
 use Rattle.order.specs.Entries.{lookup, firstOf, secondOf, exists, hasLine}
 use Rattle.ledger.specs.Numbers.{blockBy, joinedBy, blockOf, volumesOf, generalAmount}
 use Rattle.order.specs.Places.{tabled}
-use Rattle.ledger.specs.Tables.{JoinedFits}
 use Rattle.order.specs.Marks.{hasMark, blockMarked}
 use Rattle.ledger.proofs.Bounds.{first-most, second-most}
 use Rattle.order.proofs.Indexes.{lookup-table}
 use Rattle.order.proofs.Marks.{mark-table, exists-table}
 use Rattle.ledger.proofs.Numbers.{block-table, volumes-table, general-table}
-use Rattle.judgement.specs.Steps.{Holds}
+use Rattle.ledger.specs.Tables.{Holds, JoinedFits}
 
 module _ {es : List Entry} {f s m : List ℕ} (H : Holds es f s m) where
   pub exists-is : (b : ℕ) → 1 ≤ b → b ≤ blocks → blockMarked m b ≡ exists es b

@@ -4,10 +4,10 @@ use Prim.Native.Nat.{_-_, _≤_}
 use native.Mathlib.Omega.{arith}
 use borrow.Author.Needs.{needs}
 use Rattle.guideline.specs.Sizes.{nonParticipating}
-use Rattle.judgement.specs.Steps.{OfLines}
-use Rattle.judgement.proofs.Credits.{CreditsTo, mortality-key, sums-most, next-credit}
-use Rattle.judgement.proofs.credits_of.Statement.{statement}
-use Rattle.judgement.proofs.credits_of.Tie as tie
+use Rattle.ledger.specs.Tables.{OfLines}
+use Rattle.credits.proofs.Credits.{CreditsTo, mortality-key, sums-most, next-credit}
+use Rattle.credits.proofs.credits_of.Statement.{statement}
+use Rattle.credits.proofs.credits_of.Tie as tie
 
 abbrev Inv-loop : tie.InvT-loop
 Inv-loop firsts seconds marks credits₀ i₀ credits i = (i ≤ nonParticipating) × OfLines firsts seconds marks (λ es. CreditsTo es i credits)

@@ -1,7 +1,7 @@
 -- Whenever the loop's test is reached, no credit of blocks 1 to i is above its block's LT(1). Assumes nothing.
 use mathlib.Core.Path.{_≡_, sym, _∙_}
 use mathlib.Core.Bool.{false}
-use Prim.Native.Nat.{suc, _+_, _-_, _≤_}
+use Prim.Native.Nat.{suc, _-_, _≤_}
 use native.Mathlib.Numerals.{add-one}
 use native.Mathlib.Omega.{arith}
 use borrow.Author.Needs.{needs}
@@ -9,11 +9,11 @@ use borrow.Author.Tests.{lt-ltb, le-ltb}
 use Rattle.search.specs.First.{anyTo}
 use Rattle.search.proofs.Anys.{none-yet, next-decides, goes-on}
 use Rattle.guideline.specs.Sizes.{nonParticipating}
-use Rattle.judgement.specs.Judgement.{creditAbove}
-use Rattle.judgement.specs.Steps.{OfLines}
-use Rattle.judgement.proofs.Credits.{trend-key, above-is}
-use Rattle.judgement.proofs.any_credit_above.Statement.{statement}
-use Rattle.judgement.proofs.any_credit_above.Tie as tie
+use Rattle.credits.specs.Credits.{creditAbove}
+use Rattle.ledger.specs.Tables.{OfLines}
+use Rattle.credits.proofs.Credits.{trend-key, above-is}
+use Rattle.credits.proofs.any_credit_above.Statement.{statement}
+use Rattle.credits.proofs.any_credit_above.Tie as tie
 
 abbrev Inv-loop : tie.InvT-loop
 Inv-loop firsts seconds marks credits i₀ i = (i ≤ nonParticipating) × OfLines firsts seconds marks (λ es. anyTo (creditAbove es) i ≡ false)

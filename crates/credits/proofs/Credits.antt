@@ -24,10 +24,11 @@ use Rattle.order.specs.Entries.{hasLine}
 use Rattle.ledger.specs.Numbers.{dividendCredit, adjustableCredit}
 use Rattle.order.specs.Places.{tabled}
 use Rattle.ledger.proofs.Bounds.{first-most, second-most, none-outside, risk-at}
-use Rattle.judgement.specs.Sheet.{creditOf}
-use Rattle.judgement.specs.Judgement.{creditAbove}
-use Rattle.judgement.specs.Steps.{Holds, Credits}
-use Rattle.judgement.proofs.Tables.{amount-is}
+use Rattle.credits.specs.Credits.{creditOf}
+use Rattle.credits.specs.Credits.{creditAbove}
+use Rattle.ledger.specs.Tables.{Holds}
+use Rattle.credits.specs.Credits.{Credits}
+use Rattle.ledger.proofs.Tables.{amount-is}
 
 -- the first i of them
 pub record CreditsTo (es : List Entry) (i : ℕ) (credits : List ℕ) : Type 0 where

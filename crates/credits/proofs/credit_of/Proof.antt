@@ -1,10 +1,9 @@
 -- A participating block has no credit; another's is at its place. Assumes nothing.
 use mathlib.Core.Path.{sym}
-use native.Mathlib.Omega.{arith}
 use borrow.Author.Needs.{needs}
-use Rattle.judgement.proofs.Credits.{participating-none, credit-at}
-use Rattle.judgement.proofs.credit_of.Statement.{statement}
-use Rattle.judgement.proofs.credit_of.Tie as tie
+use Rattle.credits.proofs.Credits.{participating-none, credit-at}
+use Rattle.credits.proofs.credit_of.Statement.{statement}
+use Rattle.credits.proofs.credit_of.Tie as tie
 
 returns : tie.Need-returns
 returns c es H = sym (participating-none es (H .lines) _ (c .if1 .taken))

@@ -1,6 +1,6 @@
 -- Whenever the loop's test is reached, the sum is that of the first i credits. Assumes nothing.
 use mathlib.Core.Path.{_≡_, refl}
-use Prim.Native.Nat.{_+_, _-_, _*_, _≤_}
+use Prim.Native.Nat.{_+_, _-_, _≤_}
 use native.Mathlib.Omega.{arith}
 use borrow.Author.Needs.{needs}
 use Rattle.search.specs.Total.{sumTo}
@@ -10,10 +10,10 @@ use Rattle.guideline.specs.Sizes.{adjustableProducts}
 use Rattle.codes.specs.declared.Code.the-variants.{Crd}
 use Rattle.ledger.specs.Numbers.{adjustableCredit}
 use Rattle.ledger.proofs.Bounds.{first-most}
-use Rattle.judgement.specs.Steps.{OfLines}
-use Rattle.judgement.proofs.Credits.{adjustable-key, next-adjustable}
-use Rattle.judgement.proofs.adjustable_credits.Statement.{statement}
-use Rattle.judgement.proofs.adjustable_credits.Tie as tie
+use Rattle.ledger.specs.Tables.{OfLines}
+use Rattle.credits.proofs.Credits.{adjustable-key, next-adjustable}
+use Rattle.credits.proofs.adjustable_credits.Statement.{statement}
+use Rattle.credits.proofs.adjustable_credits.Tie as tie
 
 abbrev Inv-loop : tie.InvT-loop
 Inv-loop firsts seconds marks sum₀ i₀ sum i = (i ≤ adjustableProducts) × OfLines firsts seconds marks (λ es. sum ≡ sumTo (adjustableCredit es) i)

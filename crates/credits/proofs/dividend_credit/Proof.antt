@@ -1,11 +1,10 @@
 -- A block without participation has none; a participating one's is at its CRD place. Assumes nothing.
 use mathlib.Core.Path.{sym, _∙_}
-use borrow.Author.Needs.{needs}
 use Rattle.codes.specs.declared.Code.the-variants.{Crd}
-use Rattle.judgement.proofs.Tables.{amount-is}
-use Rattle.judgement.proofs.Credits.{dividend-key, no-dividend}
-use Rattle.judgement.proofs.dividend_credit.Statement.{statement}
-use Rattle.judgement.proofs.dividend_credit.Tie as tie
+use Rattle.ledger.proofs.Tables.{amount-is}
+use Rattle.credits.proofs.Credits.{dividend-key, no-dividend}
+use Rattle.credits.proofs.dividend_credit.Statement.{statement}
+use Rattle.credits.proofs.dividend_credit.Tie as tie
 
 returns : tie.Need-returns
 returns c es H = sym (no-dividend es (H .lines) _ (c .if1 .taken) (c .before .pre .0 .0) .0)
