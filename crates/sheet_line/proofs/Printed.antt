@@ -10,7 +10,7 @@ use lib.Dec.{eqb}
 use lib.ListN.{length, getD}
 use borrow.Author.Tests.{eqb-true, eq-eqb, le-ltb}
 use Rattle.search.specs.Pick.{pick}
-use Rattle.search.proofs.Picks.{if-true, if-false, by-test, never, both}
+use Rattle.search.proofs.Picks.{if-false, by-test, never, both}
 use Rattle.search.proofs.Values.{values, is-values}
 use Rattle.field.specs.Field.{leadingDigits, decimal}
 use Rattle.codes.specs.Codes.{codes, lettersOf, Key, isCode, codeAmong, codeOf}

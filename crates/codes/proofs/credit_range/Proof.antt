@@ -1,7 +1,6 @@
 -- Block 0 has the one range, every other block the other. Assumes nothing.
-use mathlib.Core.Path.{_≡_, refl, sym}
+use mathlib.Core.Path.{_≡_, refl}
 use Prim.Native.Nat.{ℕ, zero, suc, _+_}
-use native.Mathlib.Omega.{arith}
 use borrow.Author.Needs.{needs}
 use Rattle.guideline.specs.Sizes.{nonParticipating, blocks}
 use Rattle.codes.specs.Codes.{dividendClasses, rangeOf}
