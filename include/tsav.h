@@ -23,8 +23,8 @@
    The refusals:
 
       1  nowhere             the sheet is longer than TSAV_LONGEST_SHEET
-      2  nowhere             its length isn't a multiple of 40
-      3  line                columns 4 to 40 break the layout
+      2  nowhere             its length isn't a multiple of 40, and no whole line breaks the layout
+      3  line                columns 4 to 40 of a whole line break the layout; tested before 2
       4  line                the code isn't RSK, OTH, MOR, VOL, ACQ, GEN or CRD
       5  line                the block is outside the code's range
       6  line                the class is outside the range of the code, for CRD also of the block
@@ -150,8 +150,10 @@ uint64_t tsav_fluctuation(uint64_t row, uint64_t requirement, uint64_t face, uin
    Accepted, written holds the report's length, 29 * (5 * n + 3) for n blocks; so many bytes of report, from its start, are
    the report, and those behind them are untouched.
 
-   Refusals, tested in this order: 1, 2; then the first bad line, in it 3, 4, 5, 6, 8, 9, 10, 11, 19; then 12, 16, 17,
-   13, 14. */
+   Refusals, tested in this order: 1; where the length isn't a multiple of TSAV_SHEET_LINE, 3 at the first whole line that
+   breaks the layout, or else 2, and no other; then the first bad line, in it 3, 4, 5, 6, 8, 9, 10, 11, 19; then 12, 16, 17,
+   13, 14. The bytes behind the last whole line are not looked at. A sheet with carriage returns, of 41 bytes a line, is
+   refused by 3 at line 1 unless it is too long. */
 uint64_t tsav_sheet(const uint8_t *sheet, size_t bytes, uint8_t *report, size_t room, uint64_t written[1],
                     uint64_t place[2]);
 

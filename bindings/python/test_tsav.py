@@ -90,6 +90,10 @@ class Calls(unittest.TestCase):
         self.refused(1, None, None, tsav.sheet, bytes(tsav.LONGEST_SHEET + 1))
         self.refused(2, None, None, tsav.sheet, b"x")
         self.refused(3, 1, None, tsav.sheet, bytes(tsav.SHEET_LINE))
+        # Carriage returns; and whole lines before bytes that are none.
+        self.refused(3, 1, None, tsav.sheet, SHEET.replace(b"\n", b"\r\n"))
+        self.refused(3, 14, None, tsav.sheet, SHEET + bytes(tsav.SHEET_LINE + 1))
+        self.refused(2, None, None, tsav.sheet, SHEET + bytes(tsav.SHEET_LINE - 1))
         self.refused(11, 14, None, tsav.sheet, SHEET + SHEET[: tsav.SHEET_LINE])
         self.refused(12, None, None, tsav.sheet, b"")
         # Behind the RSK and OTH lines a MOR line is in order, and behind all lines it isn't.

@@ -1,4 +1,4 @@
-//! The calculator of document 01, with requests #101, #102 and #104 to #107 of document 02, as a good programmer writes it with
+//! The calculator of document 01, with requests #101, #102 and #104 to #108 of document 02, as a good programmer writes it with
 //! u128: no allocation, every figure worked out once, and everything tested that the papers have tested. It is here for its
 //! speed; tests/reference, written to be plain, is the independent calculation.
 //!
@@ -202,7 +202,8 @@ pub fn sheet(bytes: &[u8], report: &mut [u8], root: Root) -> Result<usize, Refus
         return Err(Refusal::nowhere(1));
     }
     if !bytes.len().is_multiple_of(LINE_BYTES) {
-        return Err(Refusal::nowhere(2));
+        let broken = bytes.chunks_exact(LINE_BYTES).position(|line| fields(line.try_into().unwrap()).is_none());
+        return Err(broken.map_or(Refusal::nowhere(2), |at| Refusal::at_line(3, at + 1)));
     }
     let mut sheet = Sheet {
         blocks: [[0; BLOCK_NUMBERS]; MOST_BLOCKS],
@@ -234,12 +235,7 @@ const CREDITS_FROM: usize = VOLUMES_FROM;
 impl Sheet {
     /// A line: the number of the rule that turns it away, if there is one.
     fn enter(&mut self, line: &[u8; LINE_BYTES]) -> Option<u8> {
-        if line[3] != b' ' || line[6] != b' ' || line[9] != b' ' || line[24] != b' ' || line[39] != b'\n' {
-            return Some(3);
-        }
-        let (Some(block), Some(class), Some(first), Some(second)) =
-            (number(&line[4..6]), number(&line[7..9]), number(&line[10..24]), number(&line[25..39]))
-        else {
+        let Some([block, class, first, second]) = fields(line) else {
             return Some(3);
         };
         let (block, class) = (block as usize, class as usize);
@@ -363,6 +359,14 @@ fn amounts_refused(code: u8, class: usize, first: u64, second: u64) -> Option<u8
         b'G' if class == 4 && !(1..=LARGEST_SCALAR).contains(&first) => Some(10),
         _ => None,
     }
+}
+
+/// Block, class and amounts of a line whose columns 4–40 keep the layout.
+fn fields(line: &[u8; LINE_BYTES]) -> Option<[u64; 4]> {
+    if line[3] != b' ' || line[6] != b' ' || line[9] != b' ' || line[24] != b' ' || line[39] != b'\n' {
+        return None;
+    }
+    Some([number(&line[4..6])?, number(&line[7..9])?, number(&line[10..24])?, number(&line[25..39])?])
 }
 
 /// A number: decimal, right-justified, spaces before, at least one digit, no leading zero except 0 itself.

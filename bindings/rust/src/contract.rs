@@ -213,8 +213,12 @@ mod tests {
         }
         assert_eq!(operational(7, [POSITION, 35], VOLUMES), broken(7, [POSITION, 35]));
         assert_eq!(fluctuation(7, [POSITION, 2]), broken(7, [POSITION, 2]));
-        for line in [0, 3, u64::MAX] {
-            assert_eq!(sheet(3, [LINE, line], 2 * SHEET_LINE), broken(3, [LINE, line]));
+        // Whole lines alone: of 119 bytes there are two.
+        for bytes in [2 * SHEET_LINE, 3 * SHEET_LINE - 1] {
+            assert_eq!(sheet(3, [LINE, 2], bytes), refused(3, Place::Line(2)));
+            for line in [0, 3, u64::MAX] {
+                assert_eq!(sheet(3, [LINE, line], bytes), broken(3, [LINE, line]));
+            }
         }
     }
 

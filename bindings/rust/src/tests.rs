@@ -103,6 +103,21 @@ fn refusals_of_the_sheet_call() {
     assert_eq!(sheet(WHOLE_RUN, &mut []), refused(14, Place::Nowhere));
 }
 
+/// Carriage returns, with which the papers' whole run is refused by 3 at line 1; a length that isn't a multiple of 40 beside a line
+/// that breaks the layout, beside one that stood before, and beside what isn't a whole line.
+#[test]
+fn length_against_layout() {
+    let sheet_of = |bytes: &[u8]| sheet(bytes, &mut [0; LONGEST_REPORT]);
+    let saved: Vec<u8> =
+        WHOLE_RUN.chunks(SHEET_LINE).flat_map(|line| [&line[..SHEET_LINE - 1], b"\r\n"].concat()).collect();
+    assert_eq!(sheet_of(&saved), refused(3, Place::Line(1)));
+    let (broken, first) = ([b' '; SHEET_LINE], &WHOLE_RUN[..SHEET_LINE]);
+    assert_eq!(sheet_of(&[WHOLE_RUN, &broken, b"x"].concat()), refused(3, Place::Line(14)));
+    assert_eq!(sheet_of(&[WHOLE_RUN, first, &broken, b"x"].concat()), refused(3, Place::Line(15)));
+    assert_eq!(sheet_of(&[WHOLE_RUN, first, b"x"].concat()), refused(2, Place::Nowhere));
+    assert_eq!(sheet_of(&[WHOLE_RUN, &broken[1..]].concat()), refused(2, Place::Nowhere));
+}
+
 /// Document 003's acquisition example in cents: RO 675 of a prior of 10,000 and 5,000; two of the largest amounts together.
 #[test]
 fn bought_business() {

@@ -26,6 +26,8 @@ use Rattle.guideline.specs.Operational.{OperationalAmounts}
 use Rattle.guideline.specs.Buffer.{sumK, free, available, AcceptedSheet, mostAvailable}
 use Rattle.guideline.proofs.Totals.{sum-more, available-fits}
 use Rattle.layout.specs.Columns.{sheetLineBytes}
+use Rattle.sheet_length.specs.Measured.{mostLines, longestSheet, afterLength}
+use Rattle.sheet_length.proofs.Measures.{by-length}
 use Rattle.codes.specs.Codes.{Key, scalarClass}
 use Rattle.codes.specs.declared.Code.{Code}
 use Rattle.codes.specs.declared.Code.the-variants.{Rsk, Oth, Mor, Vol, Acq, Gen, Crd}
@@ -36,12 +38,11 @@ use Rattle.ledger.specs.Numbers.{dividendCredit, adjustableCredit}
 use Rattle.order.specs.Reading.{Reading, reading}
 use Rattle.order.specs.Reading.Reading.{complete, stopped}
 use Rattle.ledger.proofs.Bounds.{first-most, none-unmarked, length-volumes, volumes-most, general-most, scalar-within}
-use Rattle.order.specs.Places.{mostLines, longestSheet}
 use Rattle.order.proofs.Lines.{all-read, reading-distinct, reading-stopped}
 use Rattle.credits.specs.Credits.{afterCredit, Covered}
 use Rattle.credits.proofs.Accepted.{all-covered, block-accepted}
 use Rattle.judgement.specs.Sheet.{blocksTo, sheetOf}
-use Rattle.judgement.specs.Judgement.{Judgement, rule13, dividendBarred, rule17, rule16, rule12, ruleLines, rule2, judgement}
+use Rattle.judgement.specs.Judgement.{Judgement, rule13, dividendBarred, rule17, rule16, rule12, ruleLines, judgement}
 use Rattle.judgement.specs.Judgement.Judgement.{turnedAway, sound}
 
 -- of n blocks at most n exist
@@ -159,10 +160,8 @@ module _ (s : List ℕ) (P : Judgement → Type 0) (refused : (n : ℕ) (p : Pla
 
   -- what holds of each refusal by a rule and of each sheet that every rule lets pass holds of the judgement
   pub by-rules : P (judgement s)
-  unfolding judgement rule2
-  by-rules =
-      by-test P _ _ _ (λ t. nowhere 1 refl refl refl) λ t.
-      by-test P _ _ _ (λ u. after-lines (ltb-false _ _ t) (eqb-true _ _ u) (reading s) refl) (λ u. nowhere 2 refl refl refl)
+  unfolding judgement
+  by-rules = by-length s (λ l. P (afterLength l turnedAway (ruleLines (reading s)))) refused (λ h m. after-lines h m (reading s) refl)
 
 module _ (s : List ℕ) where
   unfoldable Gives : Judgement → Type 0

@@ -4,3 +4,4 @@ pub mod Alike
 pub mod Figured
 pub mod Available
 pub mod Rules
+pub mod Lengths

@@ -2,16 +2,16 @@
 use mathlib.Core.Path.{_≡_, refl, sym, ap, _∙_, subst}
 use mathlib.Core.Bool.{true, false}
 use mathlib.Core.List.{List}
-use Prim.Native.Nat.{ℕ, _%_, _≤_, _<_}
-use lib.ListN.{length}
+use Prim.Native.Nat.{ℕ, _≤_, _<_}
 use Rattle.search.specs.First.{anyTo}
-use Rattle.search.proofs.Picks.{if-true, if-false, if-lt, if-ge, if-eq, if-ne, never}
+use Rattle.search.proofs.Picks.{if-true, if-false, if-lt, if-ge, never}
 use Rattle.refusal.specs.declared.Place.{Place}
 use Rattle.refusal.specs.declared.Place.the-variants as place
 use Rattle.guideline.specs.Sizes.{nonParticipating, blocks}
 use Rattle.guideline.specs.Operational.{RO}
 use Rattle.guideline.specs.Buffer.{count, sumK, free, available, buffer}
-use Rattle.layout.specs.Columns.{sheetLineBytes}
+use Rattle.sheet_length.specs.Measured.{measured}
+use Rattle.sheet_length.specs.declared.Length.the-variants as length
 use Rattle.codes.specs.Codes.{scalarClass}
 use Rattle.codes.specs.declared.Code.the-variants.{Gen}
 use Rattle.sheet_line.specs.declared.Entry.{Entry}
@@ -19,60 +19,55 @@ use Rattle.order.specs.Entries.{hasLine}
 use Rattle.order.specs.Reading.{Reading, reading, entriesOf, outcomeOf}
 use Rattle.ledger.specs.Tables as ledger
 use Rattle.order.specs.Reading.Reading.{complete, stopped}
-use Rattle.order.specs.Places.{longestSheet}
 use Rattle.ledger.specs.Tables.{Filled, Holds}
 use Rattle.ledger.specs.declared.Answer.{Answer}
 use Rattle.ledger.specs.declared.Answer.the-variants as answer
 use Rattle.order.proofs.Lines.{all-read}
 use Rattle.judgement.specs.Sheet.{sheetOf, rowsTo}
 use Rattle.credits.specs.Credits.{creditAbove}
-use Rattle.judgement.specs.Judgement.{Judgement, rule13, dividendBarred, rule17, rule16, rule12, ruleLines, rule2, judgement, findings}
+use Rattle.judgement.specs.Judgement.{Judgement, rule13, dividendBarred, rule17, rule16, rule12, ruleLines, judgement, findings}
 use Rattle.judgement.specs.Judgement.Judgement.{turnedAway, sound}
 use Rattle.judgement.specs.Judgement.Findings.{refusal, figures}
 use Rattle.judgement.specs.Steps.{LinesOf}
 use Rattle.judgement.proofs.Accepted.{sound-passed}
 
--- ---- rules 1 and 2, and the lines
+-- ---- the length, and the lines
 
 module _ (s : List ℕ) where
-  pub too-long : longestSheet < length s → refusal 1 place.Nowhere ≡ findings (judgement s)
+  -- what a sheet's length turns away
+  pub length-refused : (n : ℕ) (p : Place) → measured s ≡ length.Refused n p → refusal n p ≡ findings (judgement s)
   unfolding judgement findings
-  too-long h = sym (ap findings (if-lt _ h))
+  length-refused n p e = rw e
 
-  module _ (h : length s ≤ longestSheet) where
-    pub no-multiple : (length s % sheetLineBytes ≡ 0 → ⊥) → refusal 2 place.Nowhere ≡ findings (judgement s)
-    unfolding judgement rule2 findings
-    no-multiple n = sym (ap findings (if-ge _ h ∙ if-ne _ n))
+  module _ (w : measured s ≡ length.Whole) where
+    pub lined : judgement s ≡ ruleLines (reading s)
+    unfolding judgement
+    lined = rw w
 
-    module _ (z : length s % sheetLineBytes ≡ 0) where
-      lined : judgement s ≡ ruleLines (reading s)
-      unfolding judgement rule2
-      lined = if-ge _ h ∙ if-eq _ z
+    module _ (a : Answer) (f g m : List ℕ) (F : Filled (reading s) a f g m) where
+      pub bad-line : (n : ℕ) (p : Place) → a ≡ answer.Refused n p → refusal n p ≡ findings (judgement s)
+      unfolding ruleLines findings
+      bad-line n p e = go (reading s) (sym (F .answer) ∙ ap ledger.stated e) ∙ sym (ap findings lined)
+        where
+          go : (o : Reading) → outcomeOf o ≡ ledger.stated (answer.Refused n p) → refusal n p ≡ findings (ruleLines o)
+          go (complete es) c = never (cc)
+          go (stopped es k i) c = cc
 
-      module _ (a : Answer) (f g m : List ℕ) (F : Filled (reading s) a f g m) where
-        pub bad-line : (n : ℕ) (p : Place) → a ≡ answer.Refused n p → refusal n p ≡ findings (judgement s)
-        unfolding ruleLines findings
-        bad-line n p e = go (reading s) (sym (F .answer) ∙ ap ledger.stated e) ∙ sym (ap findings lined)
+      -- all lines are good
+      module _ (k : ℕ) (e : a ≡ answer.Accepted k) where
+        read : reading s ≡ complete (entriesOf (reading s))
+        read = go (reading s) (sym (F .answer) ∙ ap ledger.stated e)
           where
-            go : (o : Reading) → outcomeOf o ≡ ledger.stated (answer.Refused n p) → refusal n p ≡ findings (ruleLines o)
-            go (complete es) c = never (cc)
-            go (stopped es k i) c = cc
+            go : (o : Reading) → outcomeOf o ≡ ledger.stated (answer.Accepted k) → o ≡ complete (entriesOf o)
+            go (complete es) c = refl
+            go (stopped es n i) c = never (cc)
 
-        -- all lines are good
-        module _ (k : ℕ) (e : a ≡ answer.Accepted k) where
-          read : reading s ≡ complete (entriesOf (reading s))
-          read = go (reading s) (sym (F .answer) ∙ ap ledger.stated e)
-            where
-              go : (o : Reading) → outcomeOf o ≡ ledger.stated (answer.Accepted k) → o ≡ complete (entriesOf o)
-              go (complete es) c = refl
-              go (stopped es n i) c = never (cc)
+        pub holds : Holds (entriesOf (reading s)) f g m
+        holds = record { tables = F .tables; lines = all-read s }
 
-          pub holds : Holds (entriesOf (reading s)) f g m
-          holds = record { tables = F .tables; lines = all-read s }
-
-          pub good-lines : findings (rule12 (entriesOf (reading s))) ≡ findings (judgement s)
-          unfolding ruleLines
-          good-lines = ap findings (sym (lined ∙ ap ruleLines read))
+        pub good-lines : findings (rule12 (entriesOf (reading s))) ≡ findings (judgement s)
+        unfolding ruleLines
+        good-lines = ap findings (sym (lined ∙ ap ruleLines read))
 
 -- ---- rules 12, 16, 17 and 13
 

@@ -1,11 +1,11 @@
 -- A sheet judged by every rule but 14, after document 01, 'What is turned away': 'Order: 1, 2; then the first bad line, in it 3, 4, 5, 6, 8, 9,
--- 10, 11; then 12, 13', and document 02's 19 in a line, 'tested after 11', 16, 'after 12 and before 13', and 17, 'after 16 and before 13'. Each rule
--- ends in the next one. Assumes nothing.
+-- 10, 11; then 12, 13', and document 02's 3 of a whole line before 2, 19 in a line, 'tested after 11', 16, 'after 12 and before 13', and 17, 'after
+-- 16 and before 13'. Each rule ends in the next one. Assumes nothing.
 use mathlib.Core.Bool.{Bool}
 use mathlib.Core.List.{List}
-use Prim.Native.Nat.{ℕ, _*_, _%_}
-use lib.Dec.{ltb, eqb}
-use lib.ListN.{length, take}
+use Prim.Native.Nat.{ℕ, _*_}
+use lib.Dec.{ltb}
+use lib.ListN.{take}
 use Rattle.search.specs.Pick.{pick}
 use Rattle.search.specs.First.{anyTo}
 use Rattle.refusal.specs.declared.Place.{Place}
@@ -14,7 +14,7 @@ use Rattle.guideline.specs.Sizes.{nonParticipating, blocks, rowNumbers}
 use Rattle.guideline.specs.Block.{K}
 use Rattle.guideline.specs.Operational.{RO}
 use Rattle.guideline.specs.Buffer.{count, sumK, free, available, buffer}
-use Rattle.layout.specs.Columns.{sheetLineBytes}
+use Rattle.sheet_length.specs.Measured.{measured, afterLength}
 use Rattle.codes.specs.Codes.{scalarClass}
 use Rattle.codes.specs.declared.Code.the-variants.{Gen, Crd}
 use Rattle.sheet_line.specs.declared.Entry.{Entry}
@@ -22,7 +22,6 @@ use Rattle.order.specs.Entries.{hasLine, exists}
 use Rattle.ledger.specs.Numbers.{dividendCredit}
 use Rattle.order.specs.Reading.{Reading, reading}
 use Rattle.order.specs.Reading.Reading.{complete, stopped}
-use Rattle.order.specs.Places.{longestSheet}
 use Rattle.credits.specs.Credits.{afterCredit, creditAbove}
 use Rattle.judgement.specs.Sheet.{sheetOf, rowsTo}
 use Rattle.judgement.specs.declared.Verdict.{Verdict}
@@ -61,13 +60,9 @@ unfoldable pub ruleLines : Reading → Judgement
 ruleLines (stopped es n i) = turnedAway n (place.Line i)
 ruleLines (complete es) = rule12 es
 
--- rule 2: 'length isn't a multiple of 40'
-unfoldable pub rule2 : List ℕ → Judgement
-rule2 s = pick (eqb (length s % sheetLineBytes) 0) (ruleLines (reading s)) (turnedAway 2 place.Nowhere)
-
--- rule 1, 'sheet above 11,720 bytes' (25,160 with MOR, ACQ and CRD), and then the others
+-- rules 1 and 2, with rule 3 of the whole lines where rule 2 applies (document 02, #108), and then the lines
 unfoldable pub judgement : List ℕ → Judgement
-judgement s = pick (ltb longestSheet (length s)) (turnedAway 1 place.Nowhere) (rule2 s)
+judgement s = afterLength (measured s) turnedAway (ruleLines (reading s))
 
 -- ---- what a judgement has to tell
 

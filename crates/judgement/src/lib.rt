@@ -28,11 +28,10 @@ use guideline::NON_PARTICIPATING;
 use guideline::ROW_NUMBERS;
 use guideline::TABLE_NUMBERS;
 use guideline::TEN_THOUSANDTHS;
-use layout::SHEET_LINE_BYTES;
 use ledger::Answer;
-use order::LONGEST_SHEET;
 use order::PLACES;
 use refusal::Place;
+use sheet_length::Length;
 
 // What a sheet comes to: how many blocks exist, the sum of their K, RO and the buffer.
 pub struct Totals {
@@ -61,11 +60,9 @@ pub fn judge(
     ensures { λ r. ⌜ stated r (now (rows .exit)) ≡ findings (judgement (now (sheet .entry))) ⌝ }
     ensures { λ _. ⌜ LinesOf (judgement (now (sheet .entry))) (now (firsts .exit)) (now (seconds .exit)) (now (marks .exit)) ⌝ }
 {
-    if LONGEST_SHEET < sheet.len() {
-        return Verdict::TurnedAway(1, Place::Nowhere);
-    }
-    if sheet.len() % SHEET_LINE_BYTES != 0 {
-        return Verdict::TurnedAway(2, Place::Nowhere);
+    let length = sheet_length::measure(sheet);
+    if let Length::Refused(rule, place) = length {
+        return Verdict::TurnedAway(rule, place);
     }
     let read = ledger::read_lines(sheet, firsts, seconds, marks);
     match read {

@@ -1,2 +1,3 @@
--- The columns of a sheet's line. Assumes nothing.
+-- The columns of a sheet's line, and the whole lines of a sheet. Assumes nothing.
 pub mod Columns
+pub mod Whole

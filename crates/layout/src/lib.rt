@@ -1,7 +1,8 @@
-// The layout of a sheet's line, columns 4 to 40: the four numbers, and what stands between them.
+// The layout of a sheet's line, columns 4 to 40: the four numbers, and what stands between them; and which whole lines of a sheet keep it.
 ghost use mathlib.Core.Path.{_≡_};
 ghost use lib.ListN.{length};
 ghost use Rattle.layout.specs.Columns.{sheetLineBytes, separatedOf, fieldsOf, layoutOf};
+ghost use Rattle.layout.specs.Whole.{isBroken, linesKept};
 use field::Field;
 
 // The bytes of a line, its line feed with them.
@@ -78,4 +79,33 @@ fn fields_of(block: Field, class: Field, first: Field, second: Field) -> Layout
         first: f,
         second: g,
     })
+}
+
+// How many whole lines of a sheet stand before the first whose layout is broken; all of them where none is. What stands behind the last whole
+// line is not looked at.
+pub fn lines_kept(sheet: &[u8]) -> usize
+    ensures { λ r. ⌜ r ≡ linesKept (now (sheet .entry)) ⌝ }
+{
+    let n = sheet.len() / SHEET_LINE_BYTES;
+    let mut i = 0;
+    while i < n {
+        let from = SHEET_LINE_BYTES * i;
+        if broken(&sheet[from..from + SHEET_LINE_BYTES]) {
+            return i;
+        }
+        i += 1;
+    }
+    i
+}
+
+// Whether the layout of a line is broken.
+fn broken(s: &[u8]) -> bool
+    requires { ⌜ length (now s) ≡ sheetLineBytes ⌝ }
+    ensures { λ r. ⌜ r ≡ isBroken (layoutOf (now (s .entry))) ⌝ }
+{
+    let layout = read_layout(s);
+    match layout {
+        Layout::Broken => true,
+        Layout::Kept(_) => false,
+    }
 }

@@ -1,11 +1,11 @@
 -- The tables after i lines hold the amounts of those lines, as the marks tell of them. Assumes nothing.
 use mathlib.Core.Path.{_≡_, refl, _∙_}
 use mathlib.Core.List.{List, [], _∷_}
-use Prim.Native.Nat.{ℕ, _+_, _/_, _≤_, _<_}
+use Prim.Native.Nat.{ℕ, _+_, _≤_, _<_}
 use native.Mathlib.Omega.{arith}
 use lib.ListN.{length}
 use Rattle.refusal.specs.declared.Place.the-variants as place
-use Rattle.layout.specs.Columns.{sheetLineBytes}
+use Rattle.layout.specs.Whole.{wholeLines}
 use Rattle.sheet_line.specs.Rules.{parseLine}
 use Rattle.sheet_line.specs.declared.Entry.{Entry}
 use Rattle.sheet_line.specs.declared.Line.{Line}
@@ -16,7 +16,8 @@ use Rattle.order.specs.Order.{keyFor}
 use Rattle.order.specs.Places.{table}
 use Rattle.order.specs.Reading.{reading}
 use Rattle.order.proofs.Lines as lines
-use Rattle.order.proofs.Lines.{ReadTo, lent}
+use Rattle.layout.proofs.Lent.{lent}
+use Rattle.order.proofs.Lines.{ReadTo}
 use Rattle.ledger.specs.Tables.{Empty, Filled, Entered}
 use Rattle.ledger.specs.declared.Answer.the-variants as answer
 
@@ -31,12 +32,12 @@ pub start : {f g m : List ℕ} (s : List ℕ) → Empty f g m → FilledTo s f g
 start s p = record { seen = []; read = lines.start s (p .mark); first = p .first; second = p .second }
 
 module _ {s f g m : List ℕ} {last i : ℕ} (B : FilledTo s f g m last i) where
-  pub done : length s / sheetLineBytes ≤ i → Filled (reading s) (answer.Accepted (length s / sheetLineBytes)) f g m
+  pub done : wholeLines s ≤ i → Filled (reading s) (answer.Accepted (wholeLines s)) f g m
   done h =
-      let n : length s / sheetLineBytes ≡ length (B .seen) = omega (arith, B .read .count, B .read .some) in
+      let n : wholeLines s ≡ length (B .seen) = omega (arith, B .read .count, B .read .some) in
       rw (lines.done (B .read) h) (record { answer = rw n; tables = record { first = B .first; second = B .second; mark = B .read .marks } })
 
-  module _ (h : i < length s / sheetLineBytes) {r : Line} {m′ : List ℕ} (A : Admits (parseLine (lent s i)) last m r m′) where
+  module _ (h : i < wholeLines s) {r : Line} {m′ : List ℕ} (A : Admits (parseLine (lent s i)) last m r m′) where
     pub turned : {n : ℕ} → r ≡ Refused n → Filled (reading s) (answer.Refused n (place.Line (i + 1))) f g m′
     turned q =
         let t = lines.turned (B .read) h A q in

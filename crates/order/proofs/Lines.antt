@@ -3,7 +3,7 @@
 use mathlib.Core.Path.{_≡_, refl, sym, _∙_}
 use mathlib.Core.List.{List, [], _∷_}
 use mathlib.Core.Bool.{false}
-use Prim.Native.Nat.{ℕ, zero, suc, _+_, _-_, _*_, _/_, _≤_, _<_}
+use Prim.Native.Nat.{ℕ, zero, suc, _+_, _-_, _*_, _≤_, _<_}
 use native.Mathlib.Numerals.{add-one}
 use native.Mathlib.Omega.{arith}
 use lib.ListN.{length, take, drop, length-drop}
@@ -12,6 +12,8 @@ use Rattle.search.specs.Each.{Each}
 use Rattle.search.proofs.Picks.{never}
 use Rattle.refusal.specs.Outcome.{Judging}
 use Rattle.layout.specs.Columns.{sheetLineBytes}
+use Rattle.layout.specs.Whole.{wholeLines, lineAt}
+use Rattle.layout.proofs.Lent.{lent, lent-is}
 use Rattle.sheet_line.specs.Rules.{parseLine, AcceptedLine}
 use Rattle.sheet_line.specs.declared.Entry.{Entry}
 use Rattle.sheet_line.specs.declared.Line.{Line}
@@ -33,7 +35,7 @@ use Rattle.order.proofs.Indexes.{lookup-table}
 module _ (s : List ℕ) (n i : ℕ) (seen : List Entry) where
   read-more : i < n
       → readFrom (n - i) (i + 1) (drop (sheetLineBytes * i) s) seen
-      ≡ onLine (lineAfter seen (parseLine (take sheetLineBytes (drop (sheetLineBytes * i) s)))) (i + 1) seen
+      ≡ onLine (lineAfter seen (parseLine (lineAt s i))) (i + 1) seen
       (λ t. readFrom (n - (i + 1)) (i + 1 + 1) (drop (sheetLineBytes * (i + 1)) s) t)
   unfolding readFrom
   read-more h =
@@ -78,15 +80,15 @@ module _ (P : List Entry → Type 0)
 
 -- every entry is one that a line can give
 pub all-read : (s : List ℕ) → Each AcceptedLine (entriesOf (reading s))
-all-read s = read-from (Each AcceptedLine) (λ e seen a n k p. (a, p)) (length s / sheetLineBytes) 1 s [] (omega arith) tt
+all-read s = read-from (Each AcceptedLine) (λ e seen a n k p. (a, p)) (wholeLines s) 1 s [] (omega arith) tt
 
 -- no two have the same code, block and class
 pub reading-distinct : (s : List ℕ) → DistinctKeys (entriesOf (reading s))
-reading-distinct s = distinct _ (read-from New (λ e seen a n k p. (n, p)) (length s / sheetLineBytes) 1 s [] (omega arith) tt)
+reading-distinct s = distinct _ (read-from New (λ e seen a n k p. (n, p)) (wholeLines s) 1 s [] (omega arith) tt)
 
 -- each comes after the one before it
 pub reading-ascending : (s : List ℕ) → Ascending (entriesOf (reading s))
-reading-ascending s = read-from Ascending (λ e seen a n k p. (k, p)) (length s / sheetLineBytes) 1 s [] (omega arith) tt
+reading-ascending s = read-from Ascending (λ e seen a n k p. (k, p)) (wholeLines s) 1 s [] (omega arith) tt
 
 -- ---- a reading is stopped by the number of a rule, at a line of the sheet
 
@@ -102,31 +104,24 @@ module _ (es : List Entry) (r j : ℕ) where
       (refused-admitted _ _ (parseLine (take sheetLineBytes s)) (line-judging (take sheetLineBytes s)) r (rw e at p), omega arith))
       (λ e p q. let w = stopped-from n (i + 1) (drop sheetLineBytes s) (e ∷ seen) q in (w .0, omega (arith, w .1)))
 
-pub reading-stopped : (s : List ℕ) (es : List Entry) (n i : ℕ) → reading s ≡ stopped es n i → Judging n × (i ≤ length s / sheetLineBytes)
-reading-stopped s es n i q = let w = stopped-from es n i (length s / sheetLineBytes) 1 s [] q in (w .0, omega (arith, w .1))
+pub reading-stopped : (s : List ℕ) (es : List Entry) (n i : ℕ) → reading s ≡ stopped es n i → Judging n × (i ≤ wholeLines s)
+reading-stopped s es n i q = let w = stopped-from es n i (wholeLines s) 1 s [] q in (w .0, omega (arith, w .1))
 
 -- ---- a loop over the lines, after i of them
 
 -- the marks are those of the i lines seen, last is the key of the last one, and what is left to read gives what all lines give
 pub record ReadTo (s m : List ℕ) (last i : ℕ) (seen : List Entry) : Type 0 where
-  pub some : i ≤ length s / sheetLineBytes
+  pub some : i ≤ wholeLines s
   pub count : length seen ≡ i
   pub all : Each AcceptedLine seen
   pub marks : m ≡ table markOf seen
   pub key : last ≡ lastKey seen
-  pub rest : readFrom (length s / sheetLineBytes - i) (i + 1) (drop (sheetLineBytes * i) s) seen ≡ reading s
+  pub rest : readFrom (wholeLines s - i) (i + 1) (drop (sheetLineBytes * i) s) seen ≡ reading s
 
 pub start : {m : List ℕ} (s : List ℕ) → m ≡ table markOf [] → ReadTo s m 0 0 []
 start s p =
-    let z : length s / sheetLineBytes - 0 ≡ length s / sheetLineBytes = omega arith in
+    let z : wholeLines s - 0 ≡ wholeLines s = omega arith in
     record { some = omega arith; count = refl; all = tt; marks = p; key = refl; rest = rw z }
-
--- the bytes of the line after i lines, as the code lends them
-abbrev pub lent : List ℕ → ℕ → List ℕ
-lent s i = take (sheetLineBytes * i + sheetLineBytes - sheetLineBytes * i) (drop (sheetLineBytes * i) s)
-
-lent-is : (s : List ℕ) (i : ℕ) → lent s i ≡ take sheetLineBytes (drop (sheetLineBytes * i) s)
-lent-is s i = let e : sheetLineBytes * i + sheetLineBytes - sheetLineBytes * i ≡ sheetLineBytes = omega arith in rw e
 
 keyed : (l : Line) → ((e : Entry) → l ≡ Good e → AcceptedLine e) → Keyed l
 keyed (Refused r) a = tt
@@ -140,10 +135,10 @@ marks-tell seen all m p last q (Good e) k =
     rw (p, q, lookup-table markOf seen (e .code) (e .block) (e .class) k all)
 
 module _ {s m : List ℕ} {last i : ℕ} {seen : List Entry} (B : ReadTo s m last i seen) where
-  pub done : length s / sheetLineBytes ≤ i → reading s ≡ complete seen
-  done h = sym (B .rest) ∙ read-none s (length s / sheetLineBytes) i seen h
+  pub done : wholeLines s ≤ i → reading s ≡ complete seen
+  done h = sym (B .rest) ∙ read-none s (wholeLines s) i seen h
 
-  module _ (h : i < length s / sheetLineBytes) where
+  module _ (h : i < wholeLines s) where
     acceptable : (e : Entry) → parseLine (lent s i) ≡ Good e → AcceptedLine e
     acceptable e q =
         let rest = drop (sheetLineBytes * i) s in
@@ -155,11 +150,11 @@ module _ {s m : List ℕ} {last i : ℕ} {seen : List Entry} (B : ReadTo s m las
 
     module _ {r : Line} {m′ : List ℕ} (A : Admits (parseLine (lent s i)) last m r m′) where
       -- what is left to read goes on from the line that was admitted, or stops at it
-      more : reading s ≡ onLine r (i + 1) seen (λ t. readFrom (length s / sheetLineBytes - (i + 1)) (i + 1 + 1) (drop (sheetLineBytes * (i + 1)) s) t)
+      more : reading s ≡ onLine r (i + 1) seen (λ t. readFrom (wholeLines s - (i + 1)) (i + 1 + 1) (drop (sheetLineBytes * (i + 1)) s) t)
       more =
           let l : r ≡ lineAfter seen (parseLine (lent s i)) =
           A .line ∙ marks-tell seen (B .all) m (B .marks) last (B .key) (parseLine (lent s i)) lent-keyed in
-          sym (B .rest) ∙ read-more s (length s / sheetLineBytes) i seen h ∙ rw (← lent-is s i, ← l)
+          sym (B .rest) ∙ read-more s (wholeLines s) i seen h ∙ rw (← lent-is s i, ← l)
 
       pub admitted-good : {e : Entry} → r ≡ Good e → AcceptedLine e
       admitted-good {e} q = acceptable e (good-admitted _ last (parseLine (lent s i)) e (sym (A .line) ∙ q) .read)

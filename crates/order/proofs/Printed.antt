@@ -11,6 +11,7 @@ use lib.Seq.{length-take-le, take-at, drop-at}
 use Rattle.search.specs.Each.{Each}
 use Rattle.search.proofs.Picks.{if-false, if-lt, never}
 use Rattle.layout.specs.Columns.{sheetLineBytes}
+use Rattle.layout.specs.Whole.{wholeLines}
 use Rattle.sheet_line.specs.Line.{printLine}
 use Rattle.sheet_line.specs.Rules.{parseLine, AcceptedLine}
 use Rattle.sheet_line.specs.declared.Entry.{Entry}
@@ -45,7 +46,7 @@ module _ (es : List Entry) where
 
 pub sheet-printed : (s : List ℕ) (es : List Entry) → length s % sheetLineBytes ≡ 0 → reading s ≡ complete es → s ≡ printLines es
 unfolding printLines
-sheet-printed s es h q = lines-printed es (length s / sheetLineBytes) 1 s [] (omega arith) q
+sheet-printed s es h q = lines-printed es (wholeLines s) 1 s [] (omega arith) q
 
 -- ---- what is printed is read
 

@@ -3,9 +3,8 @@
 use Prim.Native.Nat.{ℕ, _+_, _-_, _*_}
 use mathlib.Core.List.{List, [], _∷_}
 use lib.ListN.{getD, set, replicate}
-use Rattle.guideline.specs.Sizes.{nonParticipating, participating, blocks, territories, volumeClasses, volumePairs, adjustableProducts}
-use Rattle.codes.specs.Codes.{riskClasses, otherClasses, mortalityClasses, acquiredClasses, generalClasses, dividendClasses}
-use Rattle.layout.specs.Columns.{sheetLineBytes}
+use Rattle.guideline.specs.Sizes.{blocks, volumeClasses}
+use Rattle.codes.specs.Codes.{riskClasses, otherClasses, mortalityClasses, acquiredClasses}
 use Rattle.codes.specs.declared.Code.{Code}
 use Rattle.codes.specs.declared.Code.the-variants.{Rsk, Oth, Mor, Vol, Acq, Gen, Crd}
 use Rattle.sheet_line.specs.declared.Entry.{Entry}
@@ -22,16 +21,6 @@ rowPlaces = blockPlaces + volumeClasses + mortalityClasses + acquiredClasses
 -- the places of a table: a row for each block, and row 0
 abbrev pub places : ℕ
 places = rowPlaces * (blocks + 1)
-
--- the lines that a sheet can have, one for each code, block and class: 629
-abbrev pub mostLines : ℕ
-mostLines =
-    blocks * blockPlaces + nonParticipating * mortalityClasses + volumePairs + territories * acquiredClasses + generalClasses
-    + participating * dividendClasses + adjustableProducts
-
--- the bytes of that many lines
-abbrev pub longestSheet : ℕ
-longestSheet = sheetLineBytes * mostLines
 
 -- the columns of a row before those of a code
 abbrev pub columnsBefore : Code → ℕ

@@ -1,7 +1,7 @@
 -- The lines of a sheet read one after the other, each completely: 'the first bad line, in it 3, 4, 5, 6, 8, 9, 10, 11', and 19 after 11 (document
 -- 02, #105). Lines count from 1. A sheet has as many lines as a line's bytes go into its length; rules 1 and 2 are not tested here. Assumes
 -- nothing.
-use Prim.Native.Nat.{ℕ, zero, suc, _+_, _/_}
+use Prim.Native.Nat.{ℕ, zero, suc, _+_}
 use mathlib.Core.Bool.{Bool}
 use mathlib.Core.List.{List, [], _∷_, _++_}
 use lib.ListN.{length, take, drop}
@@ -9,6 +9,7 @@ use Rattle.refusal.specs.Outcome.{Outcome}
 use Rattle.refusal.specs.Outcome.Outcome.{accepted, refused}
 use Rattle.refusal.specs.declared.Place.the-variants as place
 use Rattle.layout.specs.Columns.{sheetLineBytes}
+use Rattle.layout.specs.Whole.{wholeLines}
 use Rattle.sheet_line.specs.Line.{printLine}
 use Rattle.sheet_line.specs.Rules.{parseLine}
 use Rattle.sheet_line.specs.declared.Entry.{Entry}
@@ -44,7 +45,7 @@ readFrom (suc n) i s seen = onLine (lineAfter seen (parseLine (take sheetLineByt
 
 -- all lines of a sheet
 abbrev pub reading : List ℕ → Reading
-reading s = readFrom (length s / sheetLineBytes) 1 s []
+reading s = readFrom (wholeLines s) 1 s []
 
 -- the bytes of lines, the last line first in the list
 unfoldable pub printLines : List Entry → List ℕ

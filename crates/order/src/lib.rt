@@ -11,37 +11,17 @@ ghost use Rattle.order.specs.Places.{places, columnsBefore, indexOf, ind
 ghost use Rattle.order.specs.Marks.{hasMark, Admits, blockMarked};
 use codes::ACQUIRED_CLASSES;
 use codes::Code;
-use codes::DIVIDEND_CLASSES;
-use codes::GENERAL_CLASSES;
 use codes::MORTALITY_CLASSES;
 use codes::OTHER_CLASSES;
 use codes::RISK_CLASSES;
 use codes::SCALAR_CLASS;
-use guideline::ADJUSTABLE_PRODUCTS;
 use guideline::BLOCKS;
-use guideline::NON_PARTICIPATING;
-use guideline::PARTICIPATING;
-use guideline::TERRITORIES;
 use guideline::VOLUME_CLASSES;
-use guideline::VOLUME_PAIRS;
-use layout::SHEET_LINE_BYTES;
 use sheet_line::Entry;
 use sheet_line::Line;
 
 // The places of a block's RSK and OTH lines, which begin its row.
 const BLOCK_PLACES: usize = RISK_CLASSES + OTHER_CLASSES;
-
-// The lines that a sheet can have, one for each code, block and class.
-pub const MOST_LINES: usize = BLOCKS * BLOCK_PLACES
-    + NON_PARTICIPATING * MORTALITY_CLASSES
-    + VOLUME_PAIRS
-    + TERRITORIES * ACQUIRED_CLASSES
-    + GENERAL_CLASSES
-    + PARTICIPATING * DIVIDEND_CLASSES
-    + ADJUSTABLE_PRODUCTS;
-
-// The bytes of that many lines.
-pub const LONGEST_SHEET: usize = SHEET_LINE_BYTES * MOST_LINES;
 
 // The places of a row. The columns behind RSK and OTH are VOL's, MOR's and ACQ's in the rows of blocks 1 to 16, and CRD's in the others.
 const ROW_PLACES: usize = BLOCK_PLACES + VOLUME_CLASSES + MORTALITY_CLASSES + ACQUIRED_CLASSES;

@@ -5,10 +5,10 @@ ghost use Prim.Native.Nat.{_<_};
 use aggregate::SheetAnswer;
 use libc::STDIN_FILENO;
 use libc::STDOUT_FILENO;
-use order::LONGEST_SHEET;
 use refusal::Place;
 use report::LONGEST_REPORT;
 use report_line::REPORT_LINE_BYTES;
+use sheet_length::LONGEST_SHEET;
 
 // The bytes of a case's header.
 const HEADER: usize = 12;

@@ -3,8 +3,8 @@
 use libc::STDERR_FILENO;
 use libc::STDIN_FILENO;
 use libc::STDOUT_FILENO;
-use order::LONGEST_SHEET;
 use report::LONGEST_REPORT;
+use sheet_length::LONGEST_SHEET;
 
 // One byte more than the longest sheet, so that a sheet that is too long is seen to be.
 const SHEET_ROOM: usize = LONGEST_SHEET + 1;

@@ -561,7 +561,7 @@ fn room(random: &mut Random, lines: &[Line]) -> usize {
 // Damaged sheets
 
 /// The kinds of faults, and how many of them are of lines; the others are of bytes.
-const KINDS: u64 = 22;
+const KINDS: u64 = 23;
 const OF_LINES: u64 = 13;
 
 /// A sound sheet with one fault, or two or three of any kinds together.
@@ -828,7 +828,7 @@ fn damage_bytes(random: &mut Random, sheet: &mut Vec<u8>, kind: u64) {
         16 => line[CODE].copy_from_slice(&random.pick(&WRONG_CODES)),
         // 4: a wrong byte in the code
         17 => line[random.at(CODE.len())] = random.pick(&STRANGE),
-        // 2
+        // 2, or by #108 the 3 of a whole line
         18 => cut_or_lengthen(random, sheet),
         // 1: too long, by a byte, a line, or more
         19 => {
@@ -836,9 +836,11 @@ fn damage_bytes(random: &mut Random, sheet: &mut Vec<u8>, kind: u64) {
             let length = LONGEST_SHEET + random.pick(&[1, 1, LINE_BYTES, any]);
             *sheet = sheet.iter().copied().cycle().take(length).collect();
         }
-        // 2 or 3
+        // 3, or 2 where it is a line feed right before the last one
         20 => longer_line(random, sheet, at),
-        _ => *sheet = any_bytes(random),
+        21 => *sheet = any_bytes(random),
+        // 3 at line 1, or 1
+        _ => *sheet = with_carriage_returns(sheet),
     }
 }
 
@@ -853,14 +855,21 @@ fn move_number(random: &mut Random, field: &mut [u8]) {
     }
 }
 
-/// By less than a line.
+/// The last line is cut, or behind it there is the beginning of another, sound or strange; or there is no whole line at all.
 fn cut_or_lengthen(random: &mut Random, sheet: &mut Vec<u8>) {
     let rest = 1 + random.at(LINE_BYTES - 1);
-    if random.one_in(2) {
-        sheet.truncate(sheet.len() - rest);
-    } else {
-        sheet.extend_from_within(..rest);
+    match random.below(8) {
+        0..=2 => sheet.truncate(sheet.len() - rest),
+        3 | 4 => sheet.extend_from_within(..rest),
+        5 => sheet.truncate(rest),
+        _ => sheet.extend((0..rest).map(|_| random.pick(&STRANGE))),
     }
+}
+
+/// #108: "A sheet saved with carriage returns".
+fn with_carriage_returns(sheet: &[u8]) -> Vec<u8> {
+    let saved = |&byte: &u8| if byte == b'\n' { vec![b'\r', b'\n'] } else { vec![byte] };
+    sheet.iter().flat_map(saved).collect()
 }
 
 /// The line from this byte on gets a byte more, and the sheet too or not.

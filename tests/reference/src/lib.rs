@@ -1,4 +1,4 @@
-//! The calculator of document 01, with requests #101, #102 and #104 to #107 of document 02, in plain Rust with u128: no
+//! The calculator of document 01, with requests #101, #102 and #104 to #108 of document 02, in plain Rust with u128: no
 //! dependency, nothing clever, and no code shared with the calculator itself. It is a test oracle: what it answers is
 //! compared with what the calculator answers.
 //!

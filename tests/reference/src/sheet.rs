@@ -187,7 +187,8 @@ pub(crate) fn read_sheet(bytes: &[u8]) -> Result<Sheet, Refusal> {
         return Err(Refusal::nowhere(1));
     }
     if !bytes.len().is_multiple_of(LINE_BYTES) {
-        return Err(Refusal::nowhere(2));
+        // #108: "3 with the first bad whole line, and 2 if all are sound".
+        return Err(first_broken_line(bytes).map_or(Refusal::nowhere(2), |line| Refusal::at_line(3, line)));
     }
     let mut sheet = Sheet {
         blocks: BTreeMap::new(),
@@ -222,6 +223,13 @@ pub(crate) fn read_sheet(bytes: &[u8]) -> Result<Sheet, Refusal> {
         return Err(Refusal::nowhere(16));
     }
     Ok(sheet)
+}
+
+/// #108: the first of the whole lines, counted from 1, whose columns 4–40 break the layout. The bytes behind the last whole line
+/// are no line, and no other rule is tested.
+fn first_broken_line(bytes: &[u8]) -> Option<usize> {
+    let whole_lines = bytes.len() / LINE_BYTES;
+    (1..=whole_lines).find(|line| read_layout(&bytes[LINE_BYTES * (line - 1)..LINE_BYTES * line]).is_none())
 }
 
 struct Line<'a> {

@@ -263,6 +263,68 @@ fn orders_of_every_kind() {
     assert!(counts.values().all(|&count| count >= 10), "{counts:?}");
 }
 
+/// #108: where the length isn't a multiple of 40, the answer is 3 with the first whole line that can't be printed back from its
+/// numbers, and else 2, whatever else is wrong. Of each there is every kind: no whole line, the first, the last and another; a
+/// rest that is no beginning of a line; a fault of another rule in the lines before the broken one, and in sound lines; and
+/// sheets with carriage returns.
+#[test]
+fn lengths_of_every_kind() {
+    let sound = |line: &[u8]| {
+        let text = [b"XXX", &line[3..]].concat();
+        let Some((_, [block, class, first, second])) = line_of(&text) else { return false };
+        format!("XXX {block:>2} {class:>2} {first:>14} {second:>14}\n").into_bytes() == text
+    };
+    let mut counts: BTreeMap<&str, u64> = BTreeMap::new();
+    for index in 0..20_000 {
+        let (sheet, room) = case(14, index);
+        let returns = sheet.windows(2).filter(|bytes| bytes == b"\r\n").count();
+        let all_returns = returns > 0 && returns == sheet.iter().filter(|&&byte| byte == b'\n').count();
+        let answer = sheet_call(&sheet, &mut vec![0; room]);
+        if sheet.len() > LONGEST_SHEET {
+            assert_eq!(answer, Err(Refusal::nowhere(1)), "case {index}");
+            *counts.entry("1 beside carriage returns").or_default() += u64::from(all_returns);
+            continue;
+        }
+        let (whole, rest) = sheet.split_at(LINE_BYTES * (sheet.len() / LINE_BYTES));
+        let broken = whole.chunks(LINE_BYTES).position(|line| !sound(line)).map(|at| at + 1);
+        if rest.is_empty() {
+            *counts.entry("40 carriage returns, or 80, ..").or_default() += u64::from(all_returns);
+            continue;
+        }
+        let expected = broken.map_or(Refusal::nowhere(2), |line| Refusal::at_line(3, line));
+        assert_eq!(answer, Err(expected), "case {index}");
+        // What the whole lines alone are answered.
+        let alone = sheet_call(whole, &mut vec![0; room]);
+        let in_line = |numbers: &[u8]| matches!(alone, Err(Refusal { number, .. }) if numbers.contains(&number));
+        let strange = rest.iter().any(|byte| !b"RSKOTHMVLACQGEND 0123456789".contains(byte));
+        let kinds = match broken {
+            None => vec![
+                ("2, no whole line", whole.is_empty()),
+                ("2, the lines accepted", alone.is_ok()),
+                ("2 beside 4", in_line(&[4])),
+                ("2 beside 5 to 10", in_line(&[5, 6, 8, 9, 10])),
+                ("2 beside 11", in_line(&[11])),
+                ("2 beside 19", in_line(&[19])),
+                ("2 beside 12 or later", in_line(&[12, 13, 14, 16, 17])),
+                ("2, a strange rest", strange),
+            ],
+            Some(line) => vec![
+                ("3, line 1", line == 1),
+                ("3, the last whole line", line > 1 && LINE_BYTES * line == whole.len()),
+                ("3, another", 1 < line && LINE_BYTES * line < whole.len()),
+                ("3 behind another rule's line", alone != answer),
+                ("3, carriage returns", all_returns),
+            ],
+        };
+        for (kind, holds) in kinds {
+            *counts.entry(kind).or_default() += u64::from(holds);
+        }
+    }
+    println!("lengths in 20,000 cases: {counts:?}");
+    assert_eq!(counts.len(), 15);
+    assert!(counts.values().all(|&count| count >= 10), "{counts:?}");
+}
+
 /// S and T of every kind stand: none, alike, far apart, the credit LT(1) itself and a cent above it, and a block that
 /// doesn't exist.
 #[test]

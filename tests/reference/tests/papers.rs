@@ -441,6 +441,111 @@ fn one_sheet_of_the_same_figures() {
     assert_eq!(accepted.len(), 1);
 }
 
+/// Three lines, of which the first two are a sheet that is accepted.
+fn three_lines() -> Vec<u8> {
+    let lines = [("RSK", 1, 1, 100, 40), ("GEN", 0, SCALAR, 10_000, 0), ("CRD", 0, 1, 0, 0)];
+    lines.iter().flat_map(|&(code, block, class, one, two)| sheet_line(code, block, class, one, two)).collect()
+}
+
+/// #108: "when rule 1 passes and rule 2 applies, the whole lines are tested for rule 3 first. It gives 3 with the first bad whole
+/// line, and 2 if all are sound": about a line and about two, sound, and with each line broken.
+#[test]
+fn length_against_layout() {
+    let lengths = [1, 39, 40, 41, 79, 80, 81, 119];
+    let answers = |sheet: &[u8]| lengths.map(|length| run(&sheet[..length]).map(|report| report.len()));
+    let sheet = three_lines();
+    let two = Err(Refusal::nowhere(2));
+    let (twelve, accepted) = (Err(Refusal::nowhere(12)), Ok(report_length(1)));
+    assert_eq!(answers(&sheet), [two, two, twelve, two, two, accepted, two, two]);
+    for column in [4, 5, 6, 7, 24, 25, 39, 40] {
+        let broken = |lines: &[usize]| {
+            let mut sheet = sheet.clone();
+            lines.iter().for_each(|line| sheet[LINE_BYTES * (line - 1) + column - 1] = b'x');
+            answers(&sheet)
+        };
+        let at = |line: usize| Err(Refusal::at_line(3, line));
+        let (one, other) = (at(1), at(2));
+        assert_eq!(broken(&[1]), [two, two, one, one, one, one, one, one], "column {column}");
+        assert_eq!(broken(&[2]), [two, two, twelve, two, two, other, other, other], "column {column}");
+        assert_eq!(broken(&[1, 2]), broken(&[1]), "column {column}");
+        // The bytes behind the last whole line aren't looked at.
+        assert_eq!(broken(&[3]), answers(&sheet), "column {column}");
+    }
+}
+
+/// #108: every byte in every column of a line: with a byte behind the lines it is 3 just where it is 3 without, and else 2.
+#[test]
+fn the_same_rule_3() {
+    for line in [1, 2] {
+        for column in 1..=LINE_BYTES {
+            for byte in 0..=255 {
+                let mut sheet = three_lines();
+                sheet[LINE_BYTES * (line - 1) + column - 1] = byte;
+                let (without, with) = (run(&sheet[..2 * LINE_BYTES]), run(&sheet[..2 * LINE_BYTES + 1]));
+                let three = Err(Refusal::at_line(3, line));
+                let expected = if without == three { three } else { Err(Refusal::nowhere(2)) };
+                assert_eq!(with, expected, "line {line}, column {column}, byte {byte}");
+            }
+        }
+    }
+}
+
+/// #108: "A sheet saved with carriage returns has 41 bytes a line". Also where 41 bytes a line are a multiple of 40, and rule 2
+/// doesn't apply, it is 3 with line 1; above 613 lines it is 1.
+#[test]
+fn carriage_returns() {
+    let saved: Vec<u8> = all_lines(MOST_BLOCKS)
+        .into_iter()
+        .flat_map(|(code, block, class)| {
+            let line = sheet_line(code, block, class, 1, 0);
+            [&line[..LINE_BYTES - 1], b"\r\n"].concat()
+        })
+        .collect();
+    for lines in 1..=MOST_LINES {
+        let length = 41 * lines;
+        let expected = if length > 25_160 { Refusal::nowhere(1) } else { Refusal::at_line(3, 1) };
+        assert_eq!(run(&saved[..length]), Err(expected), "{lines} lines");
+    }
+    assert_eq!([1, 2, 39, 40, 41].map(|lines: usize| (41 * lines) % 40), [1, 2, 39, 0, 1]);
+}
+
+/// #108: beside rule 1, which comes before it, and beside rules 4 to 19 and 12, which aren't tested where rule 2 applies: in lines
+/// before the broken one, in it, and where none is broken.
+#[test]
+fn length_and_layout_beside_other_rules() {
+    let (sound, mut broken) = (three_lines(), three_lines());
+    broken[3] = b'x';
+    let long: Vec<u8> = broken.iter().copied().cycle().take(25_161).collect();
+    assert_eq!(run(&long), Err(Refusal::nowhere(1)));
+    assert_eq!(run(&long[..25_159]), Err(Refusal::at_line(3, 1)));
+    assert_eq!(run(&long[..25_160]), Err(Refusal::at_line(3, 1)));
+    let (first, scalar) = sound[..2 * LINE_BYTES].split_at(LINE_BYTES);
+    let lines = [
+        (4, sheet_line("XXX", 1, 1, 0, 0)),
+        (5, sheet_line("RSK", 33, 1, 0, 0)),
+        (6, sheet_line("RSK", 1, 8, 0, 0)),
+        (8, sheet_line("OTH", 1, 1, 0, 1)),
+        (9, sheet_line("RSK", 1, 2, 0, 1)),
+        (10, sheet_line("GEN", 0, SCALAR, 0, 0)),
+        (11, first.to_vec()),
+    ];
+    for (number, bad) in lines {
+        let sheet = [first, &bad, scalar].concat();
+        assert_eq!(run(&sheet), Err(Refusal::at_line(number, 2)));
+        assert_eq!(run(&[&sheet[..], b"\n"].concat()), Err(Refusal::nowhere(2)), "{number}");
+        // The third line is broken too: it comes after the bad one, and where rule 2 applies before it.
+        let sheet = [first, &bad, &broken[..LINE_BYTES]].concat();
+        assert_eq!(run(&sheet), Err(Refusal::at_line(number, 2)));
+        assert_eq!(run(&[&sheet[..], b"\n"].concat()), Err(Refusal::at_line(3, 3)), "{number}");
+    }
+    // 19, and 12.
+    let turned = [scalar, first].concat();
+    assert_eq!(run(&turned), Err(Refusal::at_line(19, 2)));
+    assert_eq!(run(&[&turned[..], b" "].concat()), Err(Refusal::nowhere(2)));
+    assert_eq!(run(first), Err(Refusal::nowhere(12)));
+    assert_eq!(run(&[first, b" "].concat()), Err(Refusal::nowhere(2)));
+}
+
 /// #104: the figures that it prints, in dollars there.
 #[test]
 fn fluctuation_factors() {

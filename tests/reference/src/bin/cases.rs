@@ -118,6 +118,8 @@ fn cases() -> Vec<Case> {
         largest_amounts,
         blocks_of_zeros,
         lengths,
+        lengths_and_layout,
+        carriage_returns,
         strange_bytes,
         numbers_out_of_layout,
         credits,
@@ -141,8 +143,6 @@ fn rows_1_to_4(c: &mut Cases) {
     c.room(0, Err(nowhere(1)), [sheet(&full(0)), b"\n".to_vec()].concat());
     // 2 alone: the last line feed is missing.
     c.refused(nowhere(2), sheet(&[RISK, G])[..79].to_vec());
-    // 2 beside 3: line 1 breaks the layout too.
-    c.refused(nowhere(2), put(4, b"x")[..79].to_vec());
     // 3 alone.
     c.refused(at(3, 1), put(40, b" "));
     // 3 beside 4 in the same line.
@@ -533,6 +533,44 @@ fn lengths(c: &mut Cases) {
     c.room(0, Err(nowhere(1)), vec![b' '; LONGEST_SHEET + 1]);
 }
 
+/// #108: the length isn't a multiple of 40. 3 with the first whole line that breaks the layout, and 2 where none does.
+fn lengths_and_layout(c: &mut Cases) {
+    let longer = |sheet: Vec<u8>| [sheet, b"\n".to_vec()].concat();
+    // Line 1 of two, whose last line feed is missing, and with a byte behind it alone.
+    c.refused(at(3, 1), put(4, b"x")[..79].to_vec());
+    c.refused(at(3, 1), longer(broken()));
+    // Line 2 of two and a byte; both, of which the first answers.
+    c.refused(at(3, 2), longer([sheet(&[RISK]), broken()].concat()));
+    c.refused(at(3, 1), longer([broken(), broken()].concat()));
+    // What is behind the last whole line isn't looked at: 39 bytes that no layout allows.
+    c.refused(nowhere(2), [sheet(&[G]), broken()[..39].to_vec()].concat());
+    c.refused(nowhere(2), broken()[..39].to_vec());
+    // 81 bytes.
+    c.refused(nowhere(2), longer(sheet(&[RISK, G])));
+    // Beside 4, 9, 11 and 12, which aren't tested: 2 where the lines keep the layout, and 3 where one behind them doesn't.
+    let (no_code, above) = (("RIS", 1, 2, 100, 0), ("RSK", 1, 2, 0, 1));
+    c.refused(nowhere(2), longer(sheet(&[no_code, G])));
+    c.refused(nowhere(2), longer(sheet(&[RISK, RISK, G])));
+    c.refused(at(3, 3), longer([sheet(&[above, RISK]), broken()].concat()));
+    // A line that breaks the layout and has no code, and one that has no code alone.
+    c.refused(at(3, 1), longer(put(1, b"XXXX")));
+    c.refused(nowhere(2), longer(put(1, b"\n\r\0")));
+    // As long as 1 lets pass, less a byte: the last whole line of 628.
+    let mut most = sheet(&full(0));
+    most[LINE_BYTES * 628 - 1] = b'\r';
+    c.room(0, Err(at(3, 628)), most[..LONGEST_SHEET - 1].to_vec());
+}
+
+/// #108: "A sheet saved with carriage returns has 41 bytes a line": line 1 has one in column 40. Of 40 such lines the length is
+/// a multiple of 40, and the first bad line answers as ever.
+fn carriage_returns(c: &mut Cases) {
+    let lines = full(0);
+    for count in [1, 2, 39, 40, 41] {
+        let saved = |line: &Line| [&sheet(&[*line])[..LINE_BYTES - 1], b"\r\n"].concat();
+        c.refused(at(3, 1), lines[..count].iter().flat_map(saved).collect());
+    }
+}
+
 /// NUL, carriage return, tab, line feed and bytes above 127, in numbers, between the columns and in the code.
 fn strange_bytes(c: &mut Cases) {
     // NUL in a number.
@@ -842,7 +880,7 @@ mod tests {
     #[test]
     fn the_reference_answers_as_written() {
         let cases = cases();
-        assert!(cases.len() <= 290, "{} cases", cases.len());
+        assert!(cases.len() <= 300, "{} cases", cases.len());
         for (at, case) in cases.iter().enumerate() {
             assert!(case.sheet.len() <= LONGEST_SHEET + 1 && case.room <= LONGEST_REPORT + 93);
             assert_eq!(input(case).len(), 12 + case.sheet.len());

@@ -1,0 +1,2 @@
+-- A sheet by its length. Assumes nothing.
+pub mod Measured
