@@ -98,9 +98,12 @@ uint64_t tsav_version(void);
    Accepted, figures holds TSAV_BLOCK_FIGURES numbers, in this order: I and D in half cents; U, LT and K in cents; the steps of
    the root of I, and those of the root of D.
 
+   I and D are worked out in hundredths of the half cent, and K is taken at this finer D. The I and D that are given are the
+   least half cents at or above these.
+
    A root's steps are half the binary length of its radicand, padded to an even number, and 0 where the radicand is 0; they are
-   never above 52. With all amounts in half cents, the radicand of I is the least whole number at or above the sum under the
-   root, whether the floor is larger or not, and that of D is A * A + A * I + I * I, where A is credit and market.
+   never above 58. With all amounts in hundredths of the half cent, the radicand of I is the sum under the root, whether the
+   floor is larger or not, and that of D is A * A + A * I + I * I, where A is credit and market.
 
    Refusals, tested in this order: 7 at the first amount that is too large; 8 at position 13, where level and trend of
    expenses isn't 0; 9 at the first level and trend part above its component. */

@@ -23,7 +23,7 @@ class Calls(unittest.TestCase):
 
     def test_block(self):
         figures = tsav.block(BLOCK)
-        self.assertEqual(figures, (157884172, 191405437, 176550000, 90400000, 151765333, 28, 28))
+        self.assertEqual(figures, (157884172, 191405437, 176550000, 90400000, 151765333, 34, 35))
         self.assertEqual((figures.i, figures.d, figures.u, figures.lt, figures.k), tuple(figures)[:5])
         self.assertEqual((figures.steps_i, figures.steps_d), tuple(figures)[5:])
         self.assertEqual(tsav.block(tuple(BLOCK)), figures)
@@ -41,8 +41,12 @@ class Calls(unittest.TestCase):
     def test_steps(self):
         """Zeros; PC alone, whose radicand of I is 0; the largest amounts, which have the most steps."""
         self.assertEqual(tsav.block([0] * tsav.BLOCK_NUMBERS), (0,) * tsav.BLOCK_FIGURES)
-        self.assertEqual(tsav.block([0] * 14 + [100, 0, 0])[5:], (0, 8))
-        self.assertEqual(tsav.block([tsav.LARGEST_AMOUNT, 0] * 7 + [tsav.LARGEST_AMOUNT] * 3)[5:], (50, 51))
+        self.assertEqual(tsav.block([0] * 14 + [100, 0, 0])[5:], (0, 15))
+        self.assertEqual(tsav.block([tsav.LARGEST_AMOUNT, 0] * 7 + [tsav.LARGEST_AMOUNT] * 3)[5:], (57, 57))
+
+    def test_finer_roots(self):
+        """D is 19.94 half cents and given as 20, and K is taken before that; in whole half cents D would be 21 and K 12."""
+        self.assertEqual(tsav.block([2, 0, 3, 0] + [0] * 11 + [8, 0]), (7, 20, 13, 0, 11, 10, 11))
 
     def test_block_refused(self):
         def with_number(position, number):

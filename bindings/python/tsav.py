@@ -48,7 +48,8 @@ POSITION = 2
 
 
 class Figures(NamedTuple):
-    """A block's figures: I and D in half cents, U, LT and K in cents; and the steps that the roots of I and of D take."""
+    """A block's figures: I and D in half cents, U, LT and K in cents; and the steps that the roots of I and of D take, at
+    most 58 each. The roots are of hundredths of the half cent, and so is the D that K is taken at."""
 
     i: int
     d: int

@@ -1,4 +1,4 @@
-//! The calculator of document 01, with requests #101, #102 and #104 to #108 of document 02, as a good programmer writes it with
+//! The calculator of document 01, with requests #101, #102 and #104 to #109 of document 02, as a good programmer writes it with
 //! u128: no allocation, every figure worked out once, and everything tested that the papers have tested. It is here for its
 //! speed; tests/reference, written to be plain, is the independent calculation.
 //!
@@ -106,22 +106,26 @@ fn figures(b: &[u64; BLOCK_NUMBERS], root: Root) -> ([u64; FIGURES], [u128; 2]) 
             sum += FACTORS[i][j] * (i128::from(y[i]) * i128::from(y[j]));
         }
     }
-    let radicand_of_i = (sum as u128).div_ceil(4);
-    let i = root(radicand_of_i).max(largest) + 2 * pc;
-    let (a, wide_i) = (u128::from(2 * (credit + market)), u128::from(i));
+    // 10,000 × Q, of the sum in quarters: I and D are in hundredths of the half cent.
+    let radicand_of_i = 2_500 * sum as u128;
+    let i = root(radicand_of_i).max(100 * largest) + 200 * pc;
+    let (a, wide_i) = (u128::from(200 * (credit + market)), u128::from(i));
     let radicand_of_d = a * a + a * wide_i + wide_i * wide_i;
     let d = root(radicand_of_d);
-    ([i, d, u, lt, requirement(u.into(), lt.into(), d.into())], [radicand_of_i, radicand_of_d])
+    let k = requirement(u.into(), lt.into(), d.into());
+    ([i.div_ceil(100), d.div_ceil(100), u, lt, k], [radicand_of_i, radicand_of_d])
 }
 
-/// K.
+/// K, at D in hundredths of the half cent.
 fn requirement(u: u128, lt: u128, d: u128) -> u64 {
     if u == 0 {
         return 0;
     }
+    // V in hundredths too, so that what is over 60 × V has ten-thousandths.
     let v = 2 * u - lt;
-    let m = (7 * v * v + 30 * d * d).saturating_sub(31 * d * v);
-    (48 * u * v + 6 * lt * v + m).div_ceil(60 * v) as u64
+    let fine_v = 100 * v;
+    let m = (7 * fine_v * fine_v + 30 * d * d).saturating_sub(31 * d * fine_v);
+    (10_000 * (48 * u + 6 * lt) * v + m).div_ceil(600_000 * v) as u64
 }
 
 /// The credit of survival and death business: S + T less the root of S² + T² − 1.5 × S × T.

@@ -55,7 +55,8 @@ pub const fn report_length(blocks: usize) -> usize {
 /// The refusals are numbered from 1 to this.
 pub const LAST_REFUSAL: usize = 19;
 
-/// A block's figures: I and D in half cents, U, LT and K in cents; and the steps that the roots of I and of D take.
+/// A block's figures: I and D in half cents, U, LT and K in cents; and the steps that the roots of I and of D take, at most
+/// 58 each. The roots are of hundredths of the half cent, and so is the D that K is taken at.
 #[derive(Clone, Copy, Debug, PartialEq, Eq)]
 pub struct Figures {
     pub i: u64,

@@ -32,10 +32,18 @@ fn the_steps_of_the_roots() {
     let mut numbers = [0; BLOCK_NUMBERS];
     assert_eq!(steps(&numbers), Ok((0, 0)));
     numbers[14] = 100;
-    assert_eq!(steps(&numbers), Ok((0, 8)));
+    assert_eq!(steps(&numbers), Ok((0, 15)));
     let mut numbers = [LARGEST_AMOUNT; BLOCK_NUMBERS];
     (1..14).step_by(2).for_each(|position| numbers[position] = 0);
-    assert_eq!(steps(&numbers), Ok((50, 51)));
+    assert_eq!(steps(&numbers), Ok((57, 57)));
+}
+
+/// D is 19.94 half cents and given as 20, and K is taken before that; in whole half cents D would be 21 and K 12.
+#[test]
+fn finer_roots() {
+    let mut numbers = [0; BLOCK_NUMBERS];
+    (numbers[0], numbers[2], numbers[15]) = (2, 3, 8);
+    assert_eq!(block(&numbers), Ok(Figures { i: 7, d: 20, u: 13, lt: 0, k: 11, steps_i: 10, steps_d: 11 }));
 }
 
 #[test]

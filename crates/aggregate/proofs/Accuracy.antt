@@ -12,7 +12,7 @@ use Rattle.guideline.specs.Block.{D, U, LT, K, figuresOf}
 use Rattle.guideline.specs.Buffer.{buffer}
 use Rattle.guideline.proofs.Figures.{k-high, k-twice, figures-fit, figures-long}
 use Rattle.guideline.proofs.Totals.{totals-fit}
-use Rattle.guideline.proofs.Demand.{buffer-demand}
+use Rattle.guideline.proofs.Demand.{block-demand, buffer-demand}
 use Rattle.report_line.specs.Line.{numberAt}
 use Rattle.sheet_line.specs.declared.Entry.{Entry}
 use Rattle.order.specs.Entries.{exists}
@@ -50,6 +50,7 @@ module _ (s : List ℕ) (es : List Entry) (j : judgement s ≡ sound es) where
     reported-block b e =
         let v = block-accepted es (sound-passed s es j .lines) (sound-passed s es j .covered) b in
         let c = credit-taken es (sound-passed s es j .lines) (sound-passed s es j .covered) b in
+        let n = block-demand (afterCredit es b) v in
         record {
           d = D (afterCredit es b);
           u = U (afterCredit es b);
@@ -61,6 +62,8 @@ module _ (s : List ℕ) (es : List Entry) (j : judgement s ≡ sound es) where
           reads-k = reads-figure b 5 e (omega arith) (omega arith);
           twice = k-twice (afterCredit es b) v;
           within = k-high (afterCredit es b) v;
+          k-at = n .k-at;
+          k-near = n .k-near;
           credited-u = c .0;
           credited-lt = c .1;
         }

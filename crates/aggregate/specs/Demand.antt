@@ -9,7 +9,10 @@ use mathlib.Core.List.{List}
 use Prim.Native.Nat.{ℕ, _+_, _*_, _≤_}
 use Rattle.refusal.specs.Outcome.{Outcome}
 use Rattle.refusal.specs.Outcome.Outcome.{accepted, refused}
+use Rattle.guideline.specs.Sizes.{fineness, blockAllowance}
 use Rattle.guideline.specs.Block.{U, LT}
+use Rattle.guideline.specs.Fraction.{whole, hundredths}
+use Rattle.guideline.specs.Exact.{StrictlyBelowK}
 use Rattle.guideline.specs.Demand.{BufferDemand}
 use Rattle.field.specs.declared.Field.the-variants.{Value}
 use Rattle.report_line.specs.Line.{numberAt}
@@ -18,13 +21,13 @@ use Rattle.order.specs.Entries.{exists}
 use Rattle.ledger.specs.Numbers.{blockOf, survivalSum, deathSum}
 use Rattle.report.specs.Rows.{BLK, TOT}
 use Rattle.mortality.specs.Credit.{CreditDemand}
-use Rattle.credits.specs.Credits.{creditOf}
+use Rattle.credits.specs.Credits.{creditOf, afterCredit}
 use Rattle.judgement.specs.Sheet.{sheetOf}
 use Rattle.judgement.specs.Judgement.{judgement}
 use Rattle.judgement.specs.Judgement.Judgement.{sound}
 
--- 'For every block 2 × K is at least LT + D, and K is at most U', of the numbers read back off the report; and the credit is what U and LT are
--- below those of the lines (document 02, #101)
+-- 'For every block 2 × K is at least LT + D, and K is at most U', of the numbers read back off the report; K is not strictly below the exact K and
+-- 'less than 1.01 cents above' it (document 02, #109); and the credit is what U and LT are below those of the lines (document 02, #101)
 pub record ReportedBlock (es : List Entry) (report : List ℕ) (b : ℕ) : Type 0 where
   pub d : ℕ
   pub u : ℕ
@@ -36,6 +39,8 @@ pub record ReportedBlock (es : List Entry) (report : List ℕ) (b : ℕ) : Type 
   pub reads-k : numberAt report BLK b 5 ≡ Value k
   pub twice : lt + d ≤ 2 * k
   pub within : k ≤ u
+  pub k-at : ¬ StrictlyBelowK (afterCredit es b) (whole k 0)
+  pub k-near : StrictlyBelowK (afterCredit es b) (hundredths (fineness * k) blockAllowance)
   pub credited-u : u + creditOf es b ≡ U (blockOf es b)
   pub credited-lt : lt + creditOf es b ≡ LT (blockOf es b)
 

@@ -85,5 +85,5 @@ module _ (b : List ℕ) where
 
   pub block-few-steps : (o : Outcome) → o ≡ blockCall b → FewSteps o
   unfolding Promised stepsOf figuresOf
-  block-few-steps (accepted vs) e = let j = subst (Promised b) (sym e) promised in rw (j .0) (few-steps-both b (j .1))
+  block-few-steps (accepted vs) e = let j = subst (Promised b) (sym e) promised in rw (j .0) (omega (arith, few-steps-both b (j .1)))
   block-few-steps (refused n p) e = tt

@@ -7,7 +7,7 @@ use lib.ListN.{length, getD}
 use Rattle.refusal.specs.Outcome.{Outcome}
 use Rattle.refusal.specs.Outcome.Outcome.{accepted, refused}
 use Rattle.refusal.specs.declared.Place.{Place}
-use Rattle.guideline.specs.Sizes.{blockNumbers}
+use Rattle.guideline.specs.Sizes.{blockNumbers, mostSteps}
 use Rattle.guideline.specs.Block.{AcceptedBlock, figuresOf}
 use Rattle.guideline.specs.Demand.{BlockDemand}
 use Rattle.figures.specs.RootSteps.{stepsOf}
@@ -27,7 +27,7 @@ abbrev pub BlockDemand3 : List ℕ → Outcome → Type 0
 BlockDemand3 b (accepted vs) = (vs ≡ figuresOf b ++ stepsOf b) × BlockDemand b
 BlockDemand3 b (refused n p) = Unit {0}
 
--- 'never above 52 in a block calculation' (document 02, #107), by the call's outcome: its sixth and its seventh value
+-- 'These roots take at most 58 steps' (document 02, #109), by the call's outcome: its sixth and its seventh value
 abbrev pub FewSteps : Outcome → Type 0
-FewSteps (accepted vs) = (getD vs 5 0 ≤ 52) × (getD vs 6 0 ≤ 52)
+FewSteps (accepted vs) = (getD vs 5 0 ≤ mostSteps) × (getD vs 6 0 ≤ mostSteps)
 FewSteps (refused n p) = Unit {0}

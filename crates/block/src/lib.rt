@@ -15,7 +15,7 @@ pub enum BlockAnswer {
 }
 
 // A block of any 17 numbers: seven pairs IR, LT, then PC, credit, market. Where it is accepted, the figures meet demand 3,
-// and no root took more than 52 steps.
+// and no root took more than 58 steps.
 pub fn block_call(b: &[u64; BLOCK_NUMBERS]) -> BlockAnswer
     ensures { λ r. ⌜ stated r ≡ blockCall (now (b .entry)) ⌝ }
     ensures { λ r. ⌜ BlockDemand3 (now (b .entry)) (stated r) ⌝ }

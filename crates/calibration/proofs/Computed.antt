@@ -11,7 +11,7 @@ use Rattle.refusal.specs.Outcome.Outcome.{accepted}
 use Rattle.amount.specs.Amount.{firstAbove}
 use Rattle.guideline.specs.Sizes.{risks}
 use Rattle.guideline.specs.Factors.{factors, sumℤ}
-use Rattle.guideline.specs.Block.{A, U, LT, Vh, y, ys, Q4, largestOf, largest, root, I, a, D, requirement, K, figuresOf}
+use Rattle.guideline.specs.Block.{A, U, LT, Vh, y, ys, Q4, largestOf, largest, root, fineI, a, fineD, reported, I, D, requirement, K, figuresOf}
 use Rattle.guideline.specs.Operational.{total, volume, growth, operationalNumerator, RO}
 use Rattle.mortality.specs.Credit.{twiceRadicand, aggregated, credit}
 use Rattle.root.specs.Steps.{binaryLength, steps}
@@ -50,7 +50,7 @@ oneClass = 22 ∷ 3 ∷ 0 ∷ 0 ∷ 0 ∷ 0 ∷ 0 ∷ 0 ∷ 0 ∷ 0 ∷ 0 ∷ 0 
 -- what is computed: every row holds; at each input, what the call gives and the figure in its place under the miscalibration
 pub record Table : Type 0 where
   pub rows : T (allGiven points)
-  pub pc : blockCall pcBlock ≡ accepted (445 ∷ 445 ∷ 300 ∷ 0 ∷ 246 ∷ 8 ∷ 9 ∷ [])
+  pub pc : blockCall pcBlock ≡ accepted (445 ∷ 445 ∷ 300 ∷ 0 ∷ 246 ∷ 15 ∷ 16 ∷ [])
   pub pc-in-risk : first (λ k. eqb (pcInRisk k pcBlock) 445) (suc risks) ≡ suc risks
   pub growth : operationalCall oneShrinks nothing ≡ accepted (575 ∷ [])
   pub growth-netted : netted oneShrinks nothing ≡ 500
@@ -61,7 +61,7 @@ pub record Table : Type 0 where
 
 pub computed : Table
 unfolding
-    pick leastFrom firstFrom firstAbove factors sumℤ A U LT Vh y ys Q4 largestOf largest root I a D requirement K figuresOf
+    pick leastFrom firstFrom firstAbove factors sumℤ A U LT Vh y ys Q4 largestOf largest root fineI a fineD reported I D requirement K figuresOf
     total volume growth operationalNumerator RO binaryLength steps radicandI radicandD stepsOf firstLtAbove rule9 rule8 blockCall rule7 operationalCall
     rows rowOf baseOf reaches result fluctuationRule7 fluctuationCall
     hasKey lookup pairs volumesBy twiceRadicand aggregated credit gives allGiven pcInRisk netted eachRounded

@@ -7,14 +7,14 @@ use mathlib.Core.List.{List, _∷_}
 use Prim.Native.Nat.{ℕ, _+_, _-_, _*_, _/_, max, _≤_}
 use lib.Dec.{leb}
 use lib.ListN.{length, getD, set, drop}
-use lib.IntN.{pos}
+use lib.IntN.{pos, _*ℤ_}
 use lib.Signed.{leZ}
 use Rattle.search.specs.Least.{least}
 use Rattle.refusal.specs.Outcome.{Outcome}
 use Rattle.refusal.specs.Outcome.Outcome.{accepted, refused}
-use Rattle.guideline.specs.Sizes.{risks, blockNumbers, territoryNumbers, generalFigures, tenThousandths}
+use Rattle.guideline.specs.Sizes.{risks, blockNumbers, territoryNumbers, generalFigures, fineness, tenThousandths}
 use Rattle.guideline.specs.Factors.{quarterSum}
-use Rattle.guideline.specs.Block.{PC, y, ys, largestOf}
+use Rattle.guideline.specs.Block.{PC, y, ys, largestOf, reported}
 use Rattle.guideline.specs.Operational.{factorOf, current, prior, total, volume, generalRequirement, operationalDenominator}
 use Rattle.block.specs.Call.{blockCall}
 use Rattle.operational.specs.Call.{operationalCall}
@@ -34,7 +34,8 @@ MeetsBlock call = (b : List ℕ) → length b ≡ blockNumbers → call b ≡ bl
 unfoldable pub pcInRisk : ℕ → List ℕ → ℕ
 pcInRisk k b =
     let xs = set (ys b) (k - 1) (y b k + 2 * PC b) in
-    max (least (λ r. leZ (quarterSum xs) (pos (4 * (r * r))))) (largestOf xs)
+    let root = least (λ r. leZ (pos (fineness * fineness) *ℤ quarterSum xs) (pos (4 * (r * r)))) in
+    reported (max root (fineness * largestOf xs))
 
 -- where the call accepts 17 numbers, its I is the one with PC in a risk, whichever: the same for every block, or another for each
 abbrev pub PcInOneRisk : (List ℕ → Outcome) → Type 0

@@ -275,8 +275,9 @@ fn bad_volumes() {
     operational_row(&[MOST; TERRITORY_NUMBERS], &none);
 }
 
-// Document 02's steps: where only PC is there and the radicand is 0, where only credit is, a cent of one risk and of three, where the floor is
-// larger than the root, and the largest amounts.
+// Document 02's steps, those of the finer roots: where only PC is there and the radicand is 0, where only credit is, a cent of one risk and of
+// three, where the floor is larger than the root, and the largest amounts. Before the last two a block whose D and K the finer roots lower: with whole
+// half cents it had 8 and 5.
 fn root_steps() {
     say(b"document 02, steps\n");
     let mut b = [0u64; BLOCK_NUMBERS];
@@ -290,6 +291,9 @@ fn root_steps() {
     block_row(&b);
     b[2] = 1;
     b[4] = 1;
+    block_row(&b);
+    b[4] = 2;
+    b[15] = 1;
     block_row(&b);
     let mut c = [0u64; BLOCK_NUMBERS];
     c[0] = 64;

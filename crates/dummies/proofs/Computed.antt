@@ -7,7 +7,7 @@ use Rattle.search.specs.Ascending.{ascending}
 use Rattle.search.specs.Total.{sumTo}
 use Rattle.field.specs.Field.{digits, field, digitOrSpace, leadingDigits, decimal}
 use Rattle.guideline.specs.Factors.{factors, sumℤ}
-use Rattle.guideline.specs.Block.{A, U, LT, Vh, y, ys, Q4, largestOf, largest, root, I, a, D, requirement, K, figuresOf}
+use Rattle.guideline.specs.Block.{A, U, LT, Vh, y, ys, Q4, largestOf, largest, root, fineI, a, fineD, reported, I, D, requirement, K, figuresOf}
 use Rattle.guideline.specs.Operational.{total, volume, growth, operationalNumerator, RO}
 use Rattle.guideline.specs.Buffer.{sumK, available, bracket, buffer}
 use Rattle.mortality.specs.Credit.{twiceRadicand, aggregated, credit, lowered}
@@ -30,7 +30,7 @@ use Rattle.dummies.specs.Answers.{answers, given, claimed}
 
 pub computed : given answers ≡ claimed answers
 unfolding
-    pick leastFrom ascending digits field digitOrSpace leadingDigits decimal factors sumℤ A U LT Vh y ys Q4 largestOf largest root I a D
+    pick leastFrom ascending digits field digitOrSpace leadingDigits decimal factors sumℤ A U LT Vh y ys Q4 largestOf largest root fineI a fineD reported I D
     requirement K figuresOf total volume growth operationalNumerator RO sumK available bracket buffer key reportLine
     printRows equalBytes numberIn numberAt isCode codeAmong spaced layoutOf lettered line.outside line.secondBarred line.trendAbove line.scalarOutside
     line.rule10 line.rule9 line.rule8 line.rule6 line.rule5 line.parseLine hasKey lookup exists pairs blockBy volumesBy keyOf rule19 rule11 onLine readFrom

@@ -12,8 +12,7 @@ use lib.ListN.{getD}
 use Rattle.search.proofs.Picks.{never}
 use Rattle.refusal.specs.Outcome.{Outcome}
 use Rattle.refusal.specs.Outcome.Outcome.{accepted}
-use Rattle.guideline.specs.Sizes.{tenThousandths}
-use Rattle.guideline.specs.Buffer.{Sheet, buffer, CreditsWithin, bufferAt, AcceptedSheet}
+use Rattle.guideline.specs.Buffer.{Sheet, buffer, CreditsWithin, bufferAt, millionths, allowance, AcceptedSheet}
 use Rattle.guideline.specs.Demand.{BufferDemand}
 use Rattle.guideline.proofs.Demand.{buffer-demand}
 use Rattle.sheet_line.specs.declared.Entry.{Entry}
@@ -24,7 +23,7 @@ use Rattle.judgement.proofs.Accepted.{sound-accepted}
 use Rattle.aggregate.specs.Call.{sheetCall}
 use Rattle.aggregate.specs.Demand.{ReportDemand, Demand3}
 use Rattle.dummies.specs.Dummies.{Lent, Call, MeetsContract, MeetsDemand3, TurnsAllAway, ConstantReport, WritesNothing, TooShortAtOnce}
-use Rattle.dummies.specs.Dummies.{FirstFilledIn, filledIn, BufferOfFirst, allowance, FarAbove, FarBelow}
+use Rattle.dummies.specs.Dummies.{FirstFilledIn, filledIn, BufferOfFirst, FarAbove, FarBelow}
 use Rattle.dummies.specs.Answers.{Amounts, amountsOf, Facts, factsOf, Case, empty, guaranteed, twoBlocks, answers, given, claimed}
 use Rattle.dummies.proofs.Computed.{computed}
 
@@ -77,7 +76,7 @@ module _ (call : Call) (meets : MeetsContract call) where
 
 module _ (s : Sheet) (v : AcceptedSheet s) where
   -- two buffers that meet demand 3 are less than the allowance apart
-  apart : (x z : ℕ) → tenThousandths * x + allowance s ≤ tenThousandths * z → BufferDemand s x → BufferDemand s z → ⊥
+  apart : (x z : ℕ) → millionths * x + allowance s ≤ millionths * z → BufferDemand s x → BufferDemand s z → ⊥
   apart x z h d e =
       let n = e .near in
       d .at (record { choice = n .choice; below = omega (arith, n .below, mul-le-mul-right (bufferAt s (n .choice) .denominator) h) })
@@ -97,7 +96,7 @@ sound-lines (sound es) h = (es, refl)
 
 -- the same as `FarBelow`, of a sheet's amounts and the buffer with the first block in place of each
 abbrev Below : Amounts → Type 0
-Below a = tenThousandths * a .filledIn + a .allowance ≤ tenThousandths * a .buffer
+Below a = millionths * a .filledIn + a .allowance ≤ millionths * a .buffer
 
 -- 'and demand 3 by its bounds'
 module _ (call : Call) (meets : MeetsDemand3 call) where

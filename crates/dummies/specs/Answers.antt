@@ -17,7 +17,7 @@ use Rattle.judgement.specs.Sheet.{sheetOf}
 use Rattle.judgement.specs.Judgement.{Judgement, judgement}
 use Rattle.judgement.specs.Judgement.Judgement.{turnedAway, sound}
 use Rattle.aggregate.specs.Call.{Done, sheetCall}
-use Rattle.dummies.specs.Dummies.{areBytes, claimedReport, filledIn, allowance}
+use Rattle.dummies.specs.Dummies.{areBytes, claimedReport, filledIn}
 
 -- GEN 0 4, a scalar of one
 abbrev pub scalar : List ℕ
@@ -47,7 +47,7 @@ abbrev pub amountsOf : Judgement → Amounts
 amountsOf (turnedAway n p) = record { allowance = 0; credits = 0; buffer = 0; filledIn = 0 }
 amountsOf (sound es) =
     let s = sheetOf es in
-    record { allowance = allowance s; credits = s .CRᵢ + Buffer.free s; buffer = Buffer.buffer s; filledIn = Buffer.buffer (filledIn s) }
+    record { allowance = Buffer.allowance s; credits = s .CRᵢ + Buffer.free s; buffer = Buffer.buffer s; filledIn = Buffer.buffer (filledIn s) }
 
 -- what is looked at of an answer: whether all that was handed over is bytes, the sheet's amounts, the outcome, the report's first byte, and the
 -- numbers read back of the buffer and of K of blocks 1 and 2
@@ -88,7 +88,7 @@ empty =
       facts =
           record {
             bytes = true;
-            amounts = record { allowance = 20000; credits = 0; buffer = 0; filledIn = 0 };
+            amounts = record { allowance = 2000000; credits = 0; buffer = 0; filledIn = 0 };
             outcome = accepted (reportLength 0 ∷ []);
             head = 84;
             buffer = Value 0;
@@ -106,7 +106,7 @@ guaranteed =
       facts =
           record {
             bytes = true;
-            amounts = record { allowance = 20000; credits = 0; buffer = 2; filledIn = 2 };
+            amounts = record { allowance = 2000000; credits = 0; buffer = 2; filledIn = 2 };
             outcome = accepted (reportLength 0 ∷ []);
             head = 84;
             buffer = Value 2;
@@ -124,7 +124,7 @@ twoBlocks =
       facts =
           record {
             bytes = true;
-            amounts = record { allowance = 60000; credits = 0; buffer = 300; filledIn = 200 };
+            amounts = record { allowance = 4020000; credits = 0; buffer = 300; filledIn = 200 };
             outcome = accepted (reportLength 2 ∷ []);
             head = 66;
             buffer = Value 300;

@@ -11,8 +11,7 @@ use Rattle.refusal.specs.Outcome.{Outcome}
 use Rattle.refusal.specs.Outcome.Outcome.{accepted, refused}
 use Rattle.refusal.specs.declared.Place.{Place}
 use Rattle.field.specs.declared.Field.the-variants.{Value}
-use Rattle.guideline.specs.Sizes.{tenThousandths}
-use Rattle.guideline.specs.Buffer.{Sheet, buffer, CreditsWithin, lessAllowance}
+use Rattle.guideline.specs.Buffer.{Sheet, buffer, CreditsWithin, millionths, allowance}
 use Rattle.report_line.specs.Line.{numberAt}
 use Rattle.sheet_line.specs.declared.Entry.{Entry}
 use Rattle.report.specs.Rows.{BLK, TOT}
@@ -99,14 +98,10 @@ pub record BufferOfFirst (call : Call) : Type 0 where
 
 -- ---- 'A huge 'safe' buffer'
 
--- the allowance, in ten-thousandths of a cent: what demand 3 takes off
-abbrev pub allowance : Sheet → ℕ
-allowance s = lessAllowance s 0 .numerator⁻
-
 -- a buffer of x cents that is the allowance or more above the one that is due
 abbrev pub FarAbove : Sheet → ℕ → Type 0
-FarAbove s x = tenThousandths * buffer s + allowance s ≤ tenThousandths * x
+FarAbove s x = millionths * buffer s + allowance s ≤ millionths * x
 
 -- and one that is the allowance or more below it
 abbrev pub FarBelow : Sheet → ℕ → Type 0
-FarBelow s x = tenThousandths * x + allowance s ≤ tenThousandths * buffer s
+FarBelow s x = millionths * x + allowance s ≤ millionths * buffer s

@@ -48,7 +48,7 @@ pub extern "C" fn tsav_version() -> u64
 }
 
 // The figures are I and D in half cents, then U, LT and K in cents, then the steps of the roots of I and of D. Where 0 is given, they meet
-// demand 3 for one block, and no root took more than 52 steps.
+// demand 3 for one block, and no root took more than 58 steps.
 #[no_mangle]
 pub extern "C" fn tsav_block(
     numbers: &[u64; BLOCK_NUMBERS],

@@ -3,6 +3,7 @@ use mathlib.Core.Path.{_≡_}
 use mathlib.Core.List.{List, [], _∷_}
 use Prim.Native.Nat.{ℕ, _-_, _*_, _≤_}
 use Rattle.amount.specs.Amount.{limit}
+use Rattle.guideline.specs.Sizes.{fineness}
 use Rattle.guideline.specs.Block.{I, D, U, LT, K, figuresOf}
 use Rattle.figures.specs.declared.Figures.{Figures}
 use Rattle.figures.specs.declared.Steps.{Steps}
@@ -20,9 +21,9 @@ pub figures-are : (f : Figures) (b : List ℕ) → figureList f ≡ figuresOf b 
 unfolding figuresOf
 figures-are f b e = ((cc), (cc), (cc), (cc), (cc))
 
--- U, LT and D of an accepted block: LT within U, U of at most ten amounts, D between a third of V and V
+-- U, LT and the finer D of an accepted block: LT within U, U of at most ten amounts, D between a third of V and V
 pub record FigureBounds (u l d : ℕ) : Type 0 where
   pub within : l ≤ u
   pub small : u ≤ 10 * limit
-  pub third : 2 * u - l ≤ 3 * d
-  pub high : d ≤ 2 * u - l
+  pub third : fineness * (2 * u - l) ≤ 3 * d
+  pub high : d ≤ fineness * (2 * u - l)

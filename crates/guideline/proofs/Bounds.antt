@@ -25,7 +25,7 @@ radicand-rises a h = omega (arith, mul-le-mul-left a h, mul-le-mul h h)
 pub root-thrice : (a i d : ℕ) → radicand a i ≤ d * d → a + 3 * i ≤ 3 * d
 root-thrice a i d h = le-of-squares (a + 3 * i) (3 * d) (omega arith)
 
--- any n/s whose square is at least the radicand is above D − 2: `c` is D − 1
+-- any n/s whose square is at least the radicand is above D − 2, in the unit of D: `c` is D − 1
 module _ (a n s c : ℕ) (pos : 0 < s) where
   -- where the largest y decides I
   pub near-largest : (i : ℕ) → c * c < radicand a i → radicand a i * (s * s) ≤ n * n → c * s < n
@@ -96,7 +96,7 @@ pub k-above :
     numeratorAt u l v n s ≤ 60 * v * (s * s) * k
 k-above u l v d k n s low up h = omega (arith, m-rises (v * s) n (d * s) low up, m-scaled v d s, mul-le-mul-right (s * s) h)
 
--- K − 2 is below K's fraction at n/3, where n is the larger of 3D − 6 and V
+-- k is below K's fraction at n/3, where k + 1 is below it at D and n is the larger of 3D − 6 and V
 pub k-near :
     (u l v d k n : ℕ) → d ≤ v → v ≤ n → 3 * d ≤ n + 6 → n ≤ 3 * d → 0 < v → 60 * (v * suc k) < kNumerator u l v d →
     60 * v * (3 * 3) * k < numeratorAt u l v n 3

@@ -9,9 +9,9 @@ use lib.ListN.{length}
 use Rattle.search.proofs.LeastOf.{least-ceil}
 use Rattle.search.specs.Each.{Each}
 use Rattle.guideline.specs.Block.{AcceptedBlock, K}
-use Rattle.guideline.specs.Sizes.{tenThousandths}
+use Rattle.guideline.specs.Sizes.{tenThousandths, fineness, blockAllowance}
 use Rattle.guideline.specs.Operational.{operationalDenominator}
-use Rattle.guideline.specs.Fraction.{_≤ᶠ_, whole}
+use Rattle.guideline.specs.Fraction.{_≤ᶠ_, whole, hundredths}
 use Rattle.guideline.specs.Exact.{kAt}
 use Rattle.guideline.specs.Buffer.{Sheet, sumK, buffer, Choice, sumAt, StrictlyBelowBuffer, lessAllowance, AcceptedSheet}
 use Rattle.guideline.proofs.Exactly.{k-bound, k-near-by}
@@ -30,14 +30,14 @@ sum-high (b ∷ bs) vs c =
       mul-le-mul-right (kAt b (c .0) .denominator) (sum-high bs (vs .1) (c .2)),
     )
 
--- a choice at which they come to no less than the sum of K less two cents a block
-sum-near : (bs : List (List ℕ)) → Each AcceptedBlock bs → (c : Choice bs) × (whole (sumK bs) (2 * length bs) ≤ᶠ sumAt bs c)
+-- a choice at which they come to no less than the sum of K less 1.01 cents a block
+sum-near : (bs : List (List ℕ)) → Each AcceptedBlock bs → (c : Choice bs) × (hundredths (fineness * sumK bs) (blockAllowance * length bs) ≤ᶠ sumAt bs c)
 unfolding sumK
 sum-near [] vs = (tt, omega arith)
 sum-near (b ∷ bs) vs =
-    let k = k-near-by b (vs .0) 2 (omega arith) in
+    let k = k-near-by b (vs .0) blockAllowance (omega arith) in
     let r = sum-near bs (vs .1) in
-    let le : whole (K b) 2 ≤ᶠ kAt b (k .d) = omega (arith, k .below) in
+    let le : hundredths (fineness * K b) blockAllowance ≤ᶠ kAt b (k .d) = omega (arith, k .below) in
     let x = sumAt bs (r .0) in
     ((k .d, k .fits, r .0), omega (arith, mul-le-mul-right (x .denominator) le, mul-le-mul-right (kAt b (k .d) .denominator) (r .1)))
 

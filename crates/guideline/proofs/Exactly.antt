@@ -1,5 +1,6 @@
--- The reported I, D and K against the exact ones: what is reported is at or above, so every d that fits is at most D and K's fraction there at
--- most K; and D less 2, or a third of V, still fits, where K's fraction is less than 2 below. Assumes nothing.
+-- The finer I and D and the reported K against the exact ones: the finer I and D are at or above, so every d that fits is at most the finer D and
+-- K's fraction there at most K; and the finer D less two hundredths, or a third of V, still fits, where K's fraction is less than 1.01 below.
+-- Assumes nothing.
 use mathlib.Core.Path.{_≡_, ap, _∙_}
 use mathlib.Core.List.{List}
 use Prim.Native.Nat.{ℕ, zero, suc, _+_, _-_, _*_, max, _≤_, _<_}
@@ -10,12 +11,13 @@ use native.Mathlib.Omega.{arith}
 use lib.IntN.{pos}
 use Rattle.search.proofs.Picks.{if-eq, if-ne}
 use Rattle.search.proofs.LeastOf.{least-short}
-use Rattle.guideline.specs.Block.{PC, seven, radicand, U, LT, Vh, y, largest, root, I, a, D, K, AcceptedBlock}
-use Rattle.guideline.specs.Fraction.{Fraction, _≤ᶠ_, _<ᶠ_, whole, ratio, quarters, thrice, squareLess, radicandAt, ≤ᶠ-trans}
-use Rattle.guideline.specs.Exact.{AtOrAboveI, AtOrAboveD, Fits, mNumerator, kFraction, kAt, StrictlyBelowK, i-upwards}
+use Rattle.guideline.specs.Sizes.{fineness, blockAllowance}
+use Rattle.guideline.specs.Block.{PC, seven, radicand, U, LT, Vh, y, largest, root, fineI, a, fineD, I, D, K, AcceptedBlock}
+use Rattle.guideline.specs.Fraction.{Fraction, _≤ᶠ_, _<ᶠ_, whole, hundredths, ratio, quarters, thrice, squareLess, ≤ᶠ-trans}
+use Rattle.guideline.specs.Exact.{AtOrAboveI, AtOrAboveD, Fits, mNumerator, kFraction, kAt, StrictlyBelowK, i-upwards, d-upwards}
 use Rattle.guideline.proofs.Bounds.{radicand-rises, root-thrice, m-rises-over, numerator-rises, k-above, near-largest, near-root, k-near}
 use Rattle.guideline.proofs.Fractions.{nat, nat-is, nat-le, square-is, mNumerator-is, square-from, radicand-nat, third-below}
-use Rattle.guideline.proofs.Figures.{q, q-is, q-least, v-sum, u-high, root-law, d-law, d-high, d-third, k-law, k-none}
+use Rattle.guideline.proofs.Figures.{q, q-is, q-least, v-sum, u-high, root-law, fine-d-law, fine-d-high, fine-d-third, i-law, d-law, k-law, k-none}
 
 -- ---- small laws
 
@@ -29,16 +31,16 @@ decided (no k) h = absurd (k h)
 
 -- ---- K's fraction
 
-kAt-some : (b : List ℕ) (d : Fraction) → 0 < U b → (h : 0 < Vh b) → kAt b d ≡ kFraction (U b) (LT b) (Vh b) d (yes h)
+pub kAt-some : (b : List ℕ) (d : Fraction) → 0 < U b → (h : 0 < Vh b) → kAt b d ≡ kFraction (U b) (LT b) (Vh b) d (yes h)
 unfolding kAt
 kAt-some b d k h = if-ne _ (ne-of-gt k) ∙ ap (kFraction (U b) (LT b) (Vh b) d) (decided (decLt 0 (Vh b)) h)
 
-kAt-none : (b : List ℕ) (d : Fraction) → U b ≡ 0 → kAt b d ≡ whole 0 0
+pub kAt-none : (b : List ℕ) (d : Fraction) → U b ≡ 0 → kAt b d ≡ whole 0 0
 unfolding kAt
 kAt-none b d e = if-eq _ e
 
 module _ (b : List ℕ) (v : AcceptedBlock b) where
-  v-pos : 0 < U b → 0 < Vh b
+  pub v-pos : 0 < U b → 0 < Vh b
   v-pos h = omega (arith, u-high b v)
 
   -- M never falls: a d from V/3 on is a natural over its denominator
@@ -60,52 +62,68 @@ module _ (b : List ℕ) (v : AcceptedBlock b) where
         | no h ↦ rw (kAt-none b d (omega arith), kAt-none b e (omega arith)) (omega arith)
       ]
 
-  -- ---- I, and the reported D against the exact one
+  -- ---- the finer I and D against the exact ones
 
-  both-in : (largest b + 2 * PC b ≤ I b) × (root b + 2 * PC b ≤ I b)
-  unfolding I
+  both-in : (fineness * (largest b + 2 * PC b) ≤ fineI b) × (root b + fineness * (2 * PC b) ≤ fineI b)
+  unfolding fineI
   both-in = omega arith
 
-  -- the reported I is at or above the exact I, so what is below it is at most the reported I
-  pub i-at : AtOrAboveI b (whole (I b) 0)
-  i-at =
-      let c = 2 * PC b in
-      let from = square-from (q b) (root b) (I b) c (root-law b v .reaches) (both-in .1) in
+  -- the finer I is at or above the exact I, so what is below it is at most the finer I
+  pub fine-i-at : AtOrAboveI b (hundredths (fineI b) 0)
+  fine-i-at =
+      let from = square-from (fineness * fineness * q b) (root b) (fineI b) (fineness * (2 * PC b)) (root-law b v .reaches) (both-in .1) in
       record { floor = omega (arith, both-in); square = rw (q-is b) (omega arith) }
 
-  i-below : (i : Fraction) → ¬ AtOrAboveI b i → i ≤ᶠ whole (I b) 0
+  i-below : (i : Fraction) → ¬ AtOrAboveI b i → i ≤ᶠ hundredths (fineI b) 0
   i-below i below =
-      elim (decLe (i .numerator⁺) (I b * i .denominator + i .numerator⁻)) [
+      elim (decLe (fineness * i .numerator⁺) (fineI b * i .denominator + fineness * i .numerator⁻)) [
         | yes h ↦ omega arith
-        | no h ↦ absurd (below (i-upwards b (whole (I b) 0) i (omega arith) i-at))
+        | no h ↦ absurd (below (i-upwards b (hundredths (fineI b) 0) i (omega arith) fine-i-at))
       ]
 
-  -- the reported D is at or above the exact D
-  pub d-at : AtOrAboveD b (whole (D b) 0)
-  d-at =
+  -- the finer D is at or above the exact D
+  pub fine-d-at : AtOrAboveD b (hundredths (fineD b) 0)
+  fine-d-at =
       record {
         natural = omega arith;
         below = λ i ni bi.
             let e = nat-is i ni in
             let m = i .denominator in
-            let le : nat i ≤ I b * m = omega (arith, i-below i bi) in
+            let le : fineness * nat i ≤ fineI b * m = omega (arith, i-below i bi) in
             omega (
               arith,
               square-is (i .numerator⁺) (i .numerator⁻) (nat i) e,
               ap (λ (z : ℕ). a b * m * z) e,
-              radicand-rises (a b * m) le,
-              mul-le-mul-right (m * m) (d-law b v .reaches),
+              radicand-rises (fineness * a b * m) le,
+              mul-le-mul-right (m * m) (fine-d-law b v .reaches),
             );
-        at-floor = omega (arith, radicand-rises (a b) (both-in .0), d-law b v .reaches);
+        at-floor = omega (arith, radicand-rises (fineness * a b) (both-in .0), fine-d-law b v .reaches);
       }
 
-  -- what fits is at most the reported D
-  pub fits-below : (d : Fraction) → Fits b d → d ≤ᶠ whole (D b) 0
+  -- what fits is at most the finer D
+  pub fits-below : (d : Fraction) → Fits b d → d ≤ᶠ hundredths (fineD b) 0
   fits-below d f =
-      elim (decLe (d .numerator⁺) (D b * d .denominator + d .numerator⁻)) [
+      elim (decLe (fineness * d .numerator⁺) (fineD b * d .denominator + fineness * d .numerator⁻)) [
         | yes h ↦ omega arith
-        | no h ↦ absurd (f .within (record { smaller = whole (D b) 0; less = omega arith; at = d-at }))
+        | no h ↦ absurd (f .within (record { smaller = hundredths (fineD b) 0; less = omega arith; at = fine-d-at }))
       ]
+
+  -- ---- and so for the reported ones, which are no lower
+
+  i-reported : hundredths (fineI b) 0 ≤ᶠ whole (I b) 0
+  i-reported = omega (arith, i-law b v .reaches)
+
+  pub i-at : AtOrAboveI b (whole (I b) 0)
+  i-at = i-upwards b (hundredths (fineI b) 0) (whole (I b) 0) i-reported fine-i-at
+
+  d-reported : hundredths (fineD b) 0 ≤ᶠ whole (D b) 0
+  d-reported = omega (arith, d-law b v .reaches)
+
+  pub d-at : AtOrAboveD b (whole (D b) 0)
+  d-at = d-upwards b (hundredths (fineD b) 0) (whole (D b) 0) d-reported fine-d-at
+
+  pub fits-reported : (d : Fraction) → Fits b d → d ≤ᶠ whole (D b) 0
+  fits-reported d f = ≤ᶠ-trans d (hundredths (fineD b) 0) (whole (D b) 0) (fits-below d f) d-reported
 
   -- ---- the reported K is not strictly below the exact K
 
@@ -114,7 +132,9 @@ module _ (b : List ℕ) (v : AcceptedBlock b) where
   k-bound d f =
       elim (decLe 1 (U b)) [
         | yes h ↦
-            let le = k-above (U b) (LT b) (Vh b) (D b) (K b) (nat d) (d .denominator) (omega (arith, f .third)) (omega (arith, fits-below d f)) (k-law b v h .reaches) in
+            let le =
+            k-above (fineness * U b) (fineness * LT b) (fineness * Vh b) (fineD b) (fineness * K b) (fineness * nat d) (d .denominator)
+            (omega (arith, f .third)) (omega (arith, fits-below d f)) (k-law b v h .reaches) in
             rw (kAt-some b d h (v-pos h)) (omega (arith, mNumerator-is (Vh b) d (omega (arith, f .third))))
         | no h ↦ rw (kAt-none b d (omega arith)) (omega arith)
       ]
@@ -122,7 +142,7 @@ module _ (b : List ℕ) (v : AcceptedBlock b) where
   pub k-at : ¬ StrictlyBelowK b (whole (K b) 0)
   k-at s = omega (arith, k-bound (s .d) (s .fits), s .below)
 
-  -- ---- K − 2 is strictly below it
+  -- ---- K − 1.01 is strictly below it
 
   -- what is at or above the exact D is at least V/3 ..
   at-third : (e : Fraction) → AtOrAboveD b e → Vh b * e .denominator ≤ 3 * nat e
@@ -140,36 +160,38 @@ module _ (b : List ℕ) (v : AcceptedBlock b) where
             omega (arith, ap (λ (z : ℕ). z * e .denominator) s0)
       ]
 
-  -- .. and above D − 2
-  at-near : (e : Fraction) → AtOrAboveD b e → D b * e .denominator < nat e + 2 * e .denominator
-  unfolding I
-  at-near e h = go (D b) (λ c k. least-short (d-law b v) c k) (decLe (root b) (largest b))
+  -- .. and above the finer D less two hundredths
+  at-near : (e : Fraction) → AtOrAboveD b e → fineD b * e .denominator < fineness * nat e + 2 * e .denominator
+  unfolding fineI
+  at-near e h = go (fineD b) (λ c k. least-short (fine-d-law b v) c k) (decLe (root b) (fineness * largest b))
     where
-      on-naturals : (j : ℕ) → radicandAt (a b) (whole j 0) ≤ᶠ squareLess e 0 → radicand (a b) j * (e .denominator * e .denominator) ≤ nat e * nat e
-      on-naturals j k = omega (arith, radicand-nat (a b) j 1 (omega arith) e (h .natural) k)
-
-      go : (d : ℕ) → ((c : ℕ) → c < d → c * c < radicand (a b) (I b)) → Dec (root b ≤ largest b) → d * e .denominator < nat e + 2 * e .denominator
+      go :
+          (d : ℕ) → ((c : ℕ) → c < d → c * c < radicand (fineness * a b) (fineI b)) → Dec (root b ≤ fineness * largest b) →
+          d * e .denominator < fineness * nat e + 2 * e .denominator
       go zero short r = omega (arith, e .positive)
       go (suc c) short (yes r) =
-          let i : I b ≡ largest b + 2 * PC b = omega arith in
-          let lt = near-largest (a b) (nat e) _ c (e .positive) (largest b + 2 * PC b) (rw i at (short c (omega arith))) (on-naturals _ (h .at-floor)) in
+          let j = largest b + 2 * PC b in
+          let i : fineI b ≡ fineness * j = omega arith in
+          let le = radicand-nat (a b) j 1 (omega arith) e (h .natural) (h .at-floor) in
+          let lt = near-largest (fineness * a b) (fineness * nat e) _ c (e .positive) (fineness * j) (rw i at (short c (omega arith))) (omega arith) in
           omega (arith, e .positive)
       go (suc c) short (no r) =
-          let j = root b - 1 + 2 * PC b in
-          let i : I b ≡ suc j = omega arith in
-          let below : ¬ AtOrAboveI b (whole j 0) =
+          let j = root b - 1 + fineness * (2 * PC b) in
+          let i : fineI b ≡ suc j = omega arith in
+          let below : ¬ AtOrAboveI b (hundredths j 0) =
           λ t.
-          let sq : quarters (pos (q b)) ≤ᶠ squareLess (whole j 0) (2 * PC b) = rw (q-is b) at (t .square) in
+          let sq : quarters (pos (q b)) ≤ᶠ squareLess (hundredths j 0) (2 * PC b) = rw (q-is b) at (t .square) in
           omega (arith, root-law b v .first (root b - 1) (omega arith)) in
-          let lt = near-root (a b) (nat e) _ c (e .positive) j (rw i at (short c (omega arith))) (on-naturals j (h .below (whole j 0) (omega arith) below)) in
+          let le = radicand-nat (a b) j fineness (omega arith) e (h .natural) (h .below (hundredths j 0) (omega arith) below) in
+          let lt = near-root (fineness * a b) (fineness * nat e) _ c (e .positive) j (rw i at (short c (omega arith))) (omega arith) in
           omega arith
 
-  -- so the larger of D − 2 and V/3 fits
+  -- so the larger of that and V/3 fits
   n₀ : ℕ
-  n₀ = max (3 * D b - 6) (Vh b)
+  n₀ = max (3 * fineD b - 6) (fineness * Vh b)
 
   d₀ : Fraction
-  d₀ = ratio (pos n₀) 3 (omega arith)
+  d₀ = ratio (pos n₀) (3 * fineness) (omega arith)
 
   fits₀ : Fits b d₀
   unfolding d₀ n₀
@@ -179,27 +201,32 @@ module _ (b : List ℕ) (v : AcceptedBlock b) where
         within = λ s.
             let e = s .smaller in
             let m = e .denominator in
+            let near : (3 * fineD b - 6) * m ≤ 3 * fineness * nat e = omega (arith, mul-sub m (3 * fineD b) 6, at-near e (s .at)) in
             omega (
               arith,
               nat-is e (s .at .natural),
               s .less,
-              max-mul (3 * D b - 6) (Vh b) m (3 * nat e) (omega (arith, mul-sub m (3 * D b) 6, at-near e (s .at))) (at-third e (s .at)),
+              max-mul (3 * fineD b - 6) (fineness * Vh b) m (3 * fineness * nat e) near (omega (arith, at-third e (s .at))),
             );
       }
 
-  -- K less 2 or more is below K's fraction there
-  pub k-near-by : (n : ℕ) → 2 ≤ n → StrictlyBelowK b (whole (K b) n)
+  -- K less 1.01 or more is below K's fraction there
+  pub k-near-by : (n : ℕ) → blockAllowance ≤ n → StrictlyBelowK b (hundredths (fineness * K b) n)
   unfolding d₀ n₀
-  k-near-by n two = record { d = d₀; fits = fits₀; below = go (decLe 1 (U b)) (decLe 2 (K b)) }
+  k-near-by n more = record { d = d₀; fits = fits₀; below = go (decLe 1 (U b)) (decLe 2 (K b)) }
     where
-      go : Dec (1 ≤ U b) → Dec (2 ≤ K b) → whole (K b) n <ᶠ kAt b d₀
+      go : Dec (1 ≤ U b) → Dec (2 ≤ K b) → hundredths (fineness * K b) n <ᶠ kAt b d₀
       go (yes h) (yes k) =
-          let ke : K b ≡ K b - 2 + 2 = omega arith in
-          let low = d-third b v in
-          let short = least-short (k-law b v h) (suc (K b - 2)) (omega arith) in
-          let near = k-near (U b) (LT b) (Vh b) (D b) (K b - 2) n₀ (d-high b v) (omega arith) (omega arith) (omega arith) (v-pos h) short in
-          rw (kAt-some b d₀ h (v-pos h)) (omega (arith, ap (λ (z : ℕ). z * Vh b) ke, mul-le-mul-right (Vh b) two))
+          let j : ℕ = K b - 1 in
+          let i : ℕ = fineness * j - 1 in
+          let ke : K b ≡ j + 1 = omega arith in
+          let kf : suc i ≡ fineness * j = omega arith in
+          let low = fine-d-third b v in
+          let near =
+          k-near (fineness * U b) (fineness * LT b) (fineness * Vh b) (fineD b) i n₀ (fine-d-high b v) (omega arith) (omega arith) (omega arith)
+          (omega (arith, v-pos h)) (rw kf (least-short (k-law b v h) j (omega arith))) in
+          rw (kAt-some b d₀ h (v-pos h)) (omega (arith, ap (λ (z : ℕ). z * Vh b) ke, ap (λ (z : ℕ). z * Vh b) kf, mul-le-mul-right (Vh b) more))
       go (yes h) (no k) =
           let ku : K b ≤ 1 = omega arith in
-          rw (kAt-some b d₀ h (v-pos h)) (omega (arith, u-high b v, mul-le-mul-right (Vh b) ku, mul-le-mul-right (Vh b) two))
+          rw (kAt-some b d₀ h (v-pos h)) (omega (arith, u-high b v, mul-le-mul-right (Vh b) ku, mul-le-mul-right (Vh b) more))
       go (no h) k = rw (kAt-none b d₀ (omega arith)) (omega (arith, k-none b v (omega arith)))

@@ -11,4 +11,5 @@ pub mod Charges
 pub mod Totals
 pub mod ExactBuffer
 pub mod LeastNumbers
+pub mod Finer
 pub mod Demand

@@ -1,6 +1,6 @@
--- A block's figures, sections 11.2.1 to 11.2.4, in the letters of document 01, 'A block'. Figures in half cents are marked so;
--- all others are in cents. A difference is cut at 0; for a block that is accepted, none that is written here falls below 0 but M's
--- (`v-difference`, `y-difference`).
+-- A block's figures, sections 11.2.1 to 11.2.4, in the letters of document 01, 'A block', with document 02's #109: I and D are worked out in
+-- hundredths of the half cent and reported in half cents. Figures in either are marked so; all others are in cents. A difference is cut at
+-- 0; for a block that is accepted, none that is written here falls below 0 but M's (`v-difference`, `y-difference`).
 -- A block is the block call's 17 numbers: seven pairs IR(i), LT(i), then PC, credit and market.
 -- Assumes nothing.
 use mathlib.Core.Path.{_≡_, sym, ap, _∙_}
@@ -9,12 +9,13 @@ use Prim.Native.Nat.{ℕ, _+_, _-_, _*_, max, _≤_}
 use lib.Dec.{leb, eqb}
 use lib.ListN.{getD}
 use native.Mathlib.Omega.{arith}
-use lib.IntN.{ℤ, pos, _+ℤ_, _-ℤ_}
+use lib.IntN.{ℤ, pos, _+ℤ_, _-ℤ_, _*ℤ_}
 use lib.Signed.{leZ}
 use Rattle.integer.proofs.Integer.{as-diff, diff-eq, diff-add}
 use Rattle.amount.specs.Amount.{limit}
 use Rattle.search.specs.Pick.{pick}
 use Rattle.search.specs.Least.{least}
+use Rattle.guideline.specs.Sizes.{fineness}
 use Rattle.guideline.specs.Factors.{quarterSum}
 use Rattle.guideline.specs.Difference.{larger, cut-larger, less-diff, uncut}
 
@@ -84,13 +85,13 @@ largestOf y =
 unfoldable pub largest : List ℕ → ℕ
 largest b = largestOf (ys b)
 
--- 'the least whole number whose square is at least Q'
+-- 'each root the least whole number of them (the radicand of I is 10,000 × Q)', of hundredths of the half cent; four times each
 unfoldable pub root : List ℕ → ℕ
-root b = least (λ r. leZ (Q4 b) (pos (4 * (r * r))))
+root b = least (λ r. leZ (pos (fineness * fineness) *ℤ Q4 b) (pos (4 * (r * r))))
 
--- insurance risks with PC, in half cents
-unfoldable pub I : List ℕ → ℕ
-I b = max (root b) (largest b) + 2 * PC b
+-- insurance risks with PC, in hundredths of the half cent: 'the larger of [the root] and the largest y(i); to it 2 × PC is added'
+unfoldable pub fineI : List ℕ → ℕ
+fineI b = max (root b) (fineness * largest b) + fineness * (2 * PC b)
 
 -- a = 2 × A
 unfoldable pub a : List ℕ → ℕ
@@ -100,9 +101,21 @@ a b = 2 * A b
 abbrev pub radicand : ℕ → ℕ → ℕ
 radicand a i = a * a + a * i + i * i
 
--- the diversified requirement, in half cents
+-- the diversified requirement, in hundredths of the half cent
+unfoldable pub fineD : List ℕ → ℕ
+fineD b = least (λ d. leb (radicand (fineness * a b) (fineI b)) (d * d))
+
+-- 'The report and the block call still give I and D in half cents, the least at or above'
+unfoldable pub reported : ℕ → ℕ
+reported x = least (λ h. leb x (fineness * h))
+
+-- I as it is reported, in half cents
+unfoldable pub I : List ℕ → ℕ
+I b = reported (fineI b)
+
+-- D as it is reported, in half cents
 unfoldable pub D : List ℕ → ℕ
-D b = least (λ d. leb (radicand (a b) (I b)) (d * d))
+D b = reported (fineD b)
 
 -- 'the larger of 0 and 7V² − 31 × D × V + 30D²'
 abbrev pub M : ℕ → ℕ → ℕ
@@ -127,13 +140,17 @@ m-larger v d =
     ∙ cut-larger (s + r) t
     ∙ ap (larger (pos 0)) (sym ((λ k. less-diff s t k +ℤ as-diff r k) ∙ diff-add s t r 0 ∙ diff-eq (s + r) (t + 0) (s + r) t (omega arith)))
 
--- K by U, LT, V and D
-unfoldable pub requirement : ℕ → ℕ → ℕ → ℕ → ℕ
-requirement u l v d = pick (eqb u 0) 0 (least (λ k. leb (kNumerator u l v d) (60 * (v * k))))
+-- what 60 × V × K is to reach, with d in hundredths of the half cent: U, LT and V are taken in hundredths beside it, and K too
+abbrev pub fineNumerator : ℕ → ℕ → ℕ → ℕ → ℕ
+fineNumerator u l v d = kNumerator (fineness * u) (fineness * l) (fineness * v) d
 
--- the adjusted requirement
+-- K by U, LT, V and D, which is in hundredths of the half cent
+unfoldable pub requirement : ℕ → ℕ → ℕ → ℕ → ℕ
+requirement u l v d = pick (eqb u 0) 0 (least (λ k. leb (fineNumerator u l v d) (60 * (fineness * v * (fineness * k)))))
+
+-- the adjusted requirement: 'K is taken at this finer D and still rounded up to a cent'
 unfoldable pub K : List ℕ → ℕ
-K b = requirement (U b) (LT b) (Vh b) (D b)
+K b = requirement (U b) (LT b) (Vh b) (fineD b)
 
 -- the five figures that are reported of a block, in this order
 unfoldable pub figuresOf : List ℕ → List ℕ

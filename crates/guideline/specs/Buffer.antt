@@ -10,7 +10,7 @@ use Rattle.amount.specs.Amount.{limit}
 use Rattle.integer.proofs.Integer.{ring}
 use Rattle.search.specs.Least.{least}
 use Rattle.search.specs.Each.{Each}
-use Rattle.guideline.specs.Sizes.{blocks, tenThousandths, largestScalar}
+use Rattle.guideline.specs.Sizes.{blocks, tenThousandths, fineness, blockAllowance, largestScalar}
 use Rattle.guideline.specs.Block.{AcceptedBlock, K}
 use Rattle.guideline.specs.Operational.{OperationalAmounts, operationalNumerator, operationalDenominator, RO}
 use Rattle.guideline.specs.Difference.{uncut, times-diff}
@@ -128,15 +128,17 @@ pub record StrictlyBelowBuffer (s : Sheet) (x : Fraction) : Type 0 where
 pub buffer-downwards : (s : Sheet) (x y : Fraction) → x ≤ᶠ y → StrictlyBelowBuffer s y → StrictlyBelowBuffer s x
 buffer-downwards s x y h k = record { choice = k .choice; below = ≤ᶠ-<ᶠ-trans x y (bufferAt s (k .choice)) h (k .below) }
 
--- x cents less the allowance, 'g × (2n + 1) + 1 cents'
+-- what the allowance is over: g in ten-thousandths, times the hundredths of a cent
+abbrev pub millionths : ℕ
+millionths = tenThousandths * fineness
+
+-- 'the buffer's allowance becomes g × (1.01 × n + 1) + 1 cents' (document 02, #109), in millionths of a cent
+abbrev pub allowance : Sheet → ℕ
+allowance s = s .g * (blockAllowance * count s + fineness) + millionths
+
+-- x cents less the allowance
 abbrev pub lessAllowance : Sheet → ℕ → Fraction
-lessAllowance s x =
-    record {
-      numerator⁺ = tenThousandths * x;
-      numerator⁻ = s .g * (2 * count s + 1) + tenThousandths;
-      denominator = tenThousandths;
-      positive = omega arith;
-    }
+lessAllowance s x = record { numerator⁺ = millionths * x; numerator⁻ = allowance s; denominator = millionths; positive = omega arith }
 
 -- what the rules leave of a sheet's amounts
 pub record AcceptedSheet (s : Sheet) : Type 0 where

@@ -13,6 +13,7 @@ use native.Mathlib.Omega.{arith}
 use lib.IntN.{ℤ, pos, negsuc, subℕ, _+ℤ_, _-ℤ_, _*ℤ_}
 use lib.Signed.{_≤ℤ_, _<ℤ_}
 use Rattle.integer.proofs.Integer.{as-diff, neg-as-diff, diff-eq, diff-add, diff-mul}
+use Rattle.guideline.specs.Sizes.{fineness}
 use Rattle.guideline.specs.Difference.{diff-le, diff-lt, less-diff, diff-less, diff-times, times-diff}
 
 -- `numerator⁺` less `numerator⁻`, over the denominator
@@ -51,6 +52,10 @@ _<ᶠ_ x y =
 -- the whole number n less m
 abbrev pub whole : ℕ → ℕ → Fraction
 whole n m = record { numerator⁺ = n; numerator⁻ = m; denominator = 1; positive = omega arith }
+
+-- n less m, over what I and D are worked out in: hundredths of the half cent, or of a cent
+abbrev pub hundredths : ℕ → ℕ → Fraction
+hundredths n m = record { numerator⁺ = n; numerator⁻ = m; denominator = fineness; positive = omega arith }
 
 -- z quarters
 abbrev pub quarters : ℤ → Fraction
@@ -117,6 +122,10 @@ lt-across x y =
 -- n − m
 pub numerator-whole : (n m : ℕ) → numerator (whole n m) ≡ pos n -ℤ pos m
 numerator-whole n m = sym (less-diff n m)
+
+-- n − m, over 100
+pub numerator-hundredths : (n m : ℕ) → numerator (hundredths n m) ≡ pos n -ℤ pos m
+numerator-hundredths n m = sym (less-diff n m)
 
 -- x + y, over the product of the denominators
 pub numerator-plus : (x y : Fraction) → numerator (plus x y) ≡ numerator x *ℤ pos (y .denominator) +ℤ numerator y *ℤ pos (x .denominator)

@@ -1,31 +1,34 @@
--- The figures that document 01 defines by a least number: of all whole numbers, with no bound to a search, each is the least that has its
+-- The figures that the papers define by a least number: of all whole numbers, with no bound to a search, each is the least that has its
 -- property. proofs/LeastNumbers proves it of every block, of all operational amounts and of every sheet that is accepted. Assumes nothing.
 use mathlib.Core.Path.{_≡_}
 use mathlib.Core.List.{List}
-use Prim.Native.Nat.{ℕ, _+_, _*_, _≤_, _<_}
-use lib.IntN.{pos}
+use Prim.Native.Nat.{ℕ, _+_, _*_, _≤_}
+use lib.IntN.{pos, _*ℤ_}
 use lib.Signed.{_≤ℤ_}
 use Rattle.search.specs.Least.{LeastWith}
-use Rattle.guideline.specs.Sizes.{tenThousandths}
-use Rattle.guideline.specs.Block.{U, LT, Vh, y, Q4, largest, root, I, a, D, M, K, EachRisk}
+use Rattle.guideline.specs.Sizes.{fineness, tenThousandths}
+use Rattle.guideline.specs.Block.{U, y, Q4, largest, root, fineI, a, fineD, I, D, K, EachRisk}
 use Rattle.guideline.specs.Operational.{operationalNumerator, operationalDenominator, RO}
-use Rattle.guideline.specs.Fraction.{whole}
-use Rattle.guideline.specs.Exact.{AtOrAboveI}
+use Rattle.guideline.specs.Fraction.{_≤ᶠ_, whole, hundredths}
+use Rattle.guideline.specs.Exact.{AtOrAboveI, kAt}
 use Rattle.guideline.specs.Buffer.{Sheet, bracket, buffer}
 
 -- of a block that is accepted
 pub record BlockLeast (b : List ℕ) : Type 0 where
-  -- 'the least whole number whose square is at least Q', both in quarters
-  pub root-least : LeastWith (λ r. Q4 b ≤ℤ pos (4 * (r * r))) (root b)
+  -- 'each root the least whole number of them (the radicand of I is 10,000 × Q)', both in quarters
+  pub root-least : LeastWith (λ r. (pos 10000 *ℤ Q4 b) ≤ℤ pos (4 * (r * r))) (root b)
   -- 'the largest y(i)': the least number that none of them is above
   pub largest-least : LeastWith (λ m. EachRisk (λ i. y b i ≤ m)) (largest b)
-  -- so I is the least whole number at or above the exact I
+  -- so the finer I is the least number of hundredths at or above the exact I, and the reported one the least whole number
+  pub fine-i-least : LeastWith (λ i. AtOrAboveI b (hundredths i 0)) (fineI b)
   pub i-least : LeastWith (λ i. AtOrAboveI b (whole i 0)) (I b)
-  -- 'the least whole number whose square is at least a² + a × I + I²'
-  pub d-least : LeastWith (λ d. a b * a b + a b * I b + I b * I b ≤ d * d) (D b)
-  -- 'zero if U is zero. Otherwise the least whole number with 60 × V × K at least 48 × U × V + 6 × LT × V + M'
+  -- 'the least whole number whose square is at least a² + a × I + I²', of hundredths of the half cent
+  pub fine-d-least : LeastWith (λ d. let x = fineness * a b in let i = fineI b in x * x + x * i + i * i ≤ d * d) (fineD b)
+  -- 'in half cents, the least at or above'
+  pub d-least : LeastWith (λ h. hundredths (fineD b) 0 ≤ᶠ whole h 0) (D b)
+  -- 'K is taken at this finer D and still rounded up to a cent': K's fraction there, which is zero if U is zero
+  pub k-least : LeastWith (λ k. kAt b (hundredths (fineD b) 0) ≤ᶠ whole k 0) (K b)
   pub k-zero : U b ≡ 0 → K b ≡ 0
-  pub k-least : 0 < U b → LeastWith (λ k. 48 * U b * Vh b + 6 * LT b * Vh b + M (Vh b) (D b) ≤ 60 * Vh b * k) (K b)
 
 -- of operational amounts: 'The sum, as a fraction over 50,000, is rounded up once, at the end, to RO'
 abbrev pub OperationalLeast : List ℕ → List ℕ → Type 0

@@ -1,4 +1,4 @@
--- How many there are of each thing, and how large a scalar and a figure can be, after document 01. A number stands here or at the thing that it counts,
+-- How many there are of each thing, and how large a scalar and a figure can be, after documents 01 and 02. A number stands here or at the thing that it counts,
 -- once. Assumes nothing.
 use Prim.Native.Nat.{ℕ, _+_, _*_, _^_, _<_}
 
@@ -81,6 +81,18 @@ FitsColumns n = n < 10 ^ numberColumns
 -- the scalar and the factors of chapter 8 are in ten-thousandths
 abbrev pub tenThousandths : ℕ
 tenThousandths = 10000
+
+-- 'I and D are now worked out in hundredths of the half cent' (document 02, #109): so many to the half cent
+abbrev pub fineness : ℕ
+fineness = 100
+
+-- 'A block's K is then less than 1.01 cents above the exact one', in hundredths of a cent: a cent for its own rounding, a hundredth for D's
+abbrev pub blockAllowance : ℕ
+blockAllowance = fineness + 1
+
+-- 'These roots take at most 58 steps' (document 02, #109)
+abbrev pub mostSteps : ℕ
+mostSteps = 58
 
 -- the scalar, 'entered in ten-thousandths from 1 to 20,000'
 abbrev pub largestScalar : ℕ

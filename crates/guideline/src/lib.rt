@@ -60,6 +60,9 @@ pub const GENERAL_FIGURES: usize = 3;
 // The scalar and the factors of chapter 8 are in ten-thousandths.
 pub const TEN_THOUSANDTHS: u64 = 10000;
 
+// I and D are worked out in hundredths of the half cent: so many to the half cent.
+pub const FINENESS: u64 = 100;
+
 // The largest scalar, in ten-thousandths.
 pub const LARGEST_SCALAR: u64 = 20000;
 

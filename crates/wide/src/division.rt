@@ -5,6 +5,7 @@ ghost use lib.Dec.{leb};
 ghost use Rattle.search.specs.Least.{least};
 ghost use Rattle.wide.specs.Value.{value};
 use crate::Wide;
+use crate::words;
 
 // A quotient of two words, and its rest.
 pub struct Division {
@@ -30,13 +31,38 @@ pub fn divide_up(n: Wide, d: u64) -> u64
     if rest == 0 { low } else { low + 1 }
 }
 
-// n over any d of at most 63 binary digits, with its rest: the upper word by the machine's division, then the lower one.
+// n over d, rounded up, in two words.
+pub fn quotient_up(n: Wide, d: u64) -> Wide
+    requires { ⌜ (0 < d) × (d < 2 ^ 63) ⌝ }
+    ensures { λ r. ⌜ value r ≡ (value n + (d - 1)) / d ⌝ }
+{
+    let by = divide(n, d);
+    let down = by.quotient;
+    let rest = by.rest;
+    if 0 < rest {
+        words::add(down, Wide { high: 0, low: 1 })
+    } else {
+        down
+    }
+}
+
+// n over any d of at most 63 binary digits, with its rest: the upper word by the machine's division, then the lower one. A number of one word,
+// the usual case, takes one division.
 pub fn divide(n: Wide, d: u64) -> Division
     requires { ⌜ (0 < d) × (d < 2 ^ 63) ⌝ }
     ensures { λ r. ⌜ (r .rest < d) × (value (r .quotient) * d + r .rest ≡ value n) ⌝ }
 {
     let high = n.high;
     let low = n.low;
+    if high == 0 {
+        return Division {
+            quotient: Wide {
+                high: 0,
+                low: low / d,
+            },
+            rest: low % d,
+        };
+    }
     let lower = divide_lower(high % d, low, d);
     Division {
         quotient: Wide {

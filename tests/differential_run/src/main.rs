@@ -3,9 +3,9 @@
 //! given).
 //!
 //! Compared are the answers and every byte of the lent report, and some bytes on both sides of it, which nobody may
-//! write. On each accepted sheet the library's report must also satisfy demand 3, and each result of a fluctuation call
-//! document 02's rule of one cent. The same words give the same cases and the same output, however many processors share
-//! them.
+//! write. On each accepted sheet the library's report must also satisfy demand 3, with each K within 1.01 cents of the exact
+//! one, and each result of a fluctuation call document 02's rule of one cent. The same words give the same cases and the same
+//! output, however many processors share them.
 
 use std::env;
 use std::fmt::{Debug, Write};

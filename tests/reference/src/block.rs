@@ -1,6 +1,6 @@
-//! "A block": I, D, U, LT and K from 17 amounts; and the steps of the two roots, by #107.
+//! "A block": I, D, U, LT and K from 17 amounts, by #109 with finer roots; and the steps of the two roots, by #107.
 
-use crate::{Refusal, BLOCK_NUMBERS, BLOCK_VALUES, LARGEST_AMOUNT, RISKS};
+use crate::{Refusal, BLOCK_NUMBERS, BLOCK_VALUES, FINENESS, LARGEST_AMOUNT, RISKS};
 
 /// LT(7), of expenses.
 pub(crate) const EXPENSES_LT: usize = 2 * RISKS - 1;
@@ -84,17 +84,28 @@ pub fn block_call(b: &[u64; BLOCK_NUMBERS]) -> Result<[u64; BLOCK_VALUES], Refus
     }
 
     let Terms { quarters, largest, twice_pc, a, u, lt, v } = terms(b);
-    // A whole square is at least Q exactly when it is at least Q rounded up to a whole number, and #107: "the radicand of I is
-    // the least whole number at or above Q".
-    let radicand_of_i = quarters.div_ceil(4);
-    let i = root_up(radicand_of_i).max(largest) + twice_pc;
-    let radicand_of_d = a * a + a * i + i * i;
-    let d = root_up(radicand_of_d);
-    let k = if u == 0 { 0 } else { (48 * u * v + 6 * lt * v + m(v, d)).div_ceil(60 * v) };
+    // #109: "in hundredths of the half cent, each root the least whole number of them (the radicand of I is 10,000 × Q)". Q has
+    // quarters, and 10,000 × Q is a whole number.
+    let fine = u128::from(FINENESS);
+    let radicand_of_i = fine * fine * quarters / 4;
+    let fine_i = root_up(radicand_of_i).max(fine * largest) + fine * twice_pc;
+    let radicand_of_d = fine * a * fine * a + fine * a * fine_i + fine_i * fine_i;
+    let fine_d = root_up(radicand_of_d);
+    let k = if u == 0 { 0 } else { requirement(u, lt, v, fine_d) };
+    // "still give I and D in half cents, the least at or above"
+    let [i, d] = [fine_i, fine_d].map(|figure| figure.div_ceil(fine));
     Ok([i, d, u, lt, k, steps(radicand_of_i), steps(radicand_of_d)].map(|value| u64::try_from(value).unwrap()))
 }
 
-/// M: the larger of 0 and 7V² − 31 × D × V + 30D².
+/// K, "taken at this finer D and still rounded up to a cent": the least whole number with 60 × V × K at least
+/// 48 × U × V + 6 × LT × V + M, both sides times 10,000, since M at hundredths has ten-thousandths.
+fn requirement(u: u128, lt: u128, v: u128, fine_d: u128) -> u128 {
+    let fine = u128::from(FINENESS);
+    let square = fine * fine;
+    (square * (48 * u * v + 6 * lt * v) + m(fine * v, fine_d)).div_ceil(square * 60 * v)
+}
+
+/// M: the larger of 0 and 7V² − 31 × D × V + 30D², of V and D in the same unit.
 fn m(v: u128, d: u128) -> u128 {
     (7 * v * v + 30 * d * d).saturating_sub(31 * d * v)
 }
@@ -167,28 +178,55 @@ mod tests {
         }
     }
 
-    /// #107: "never above 52 in a block calculation". The largest Q is that of all risks but the sixth, and the largest radicand of
-    /// D that with PC, credit and market beside them.
+    /// #109: "These roots take at most 58 steps". The largest Q is that of all risks but the sixth, and the largest radicand of D
+    /// that with PC, credit and market beside them.
     #[test]
     fn the_most_steps() {
         let mut b = [LARGEST_AMOUNT; BLOCK_NUMBERS];
         (0..RISKS).for_each(|risk| b[2 * risk + 1] = 0);
         b[2 * 5] = 0;
-        let q = terms(&b).quarters.div_ceil(4);
-        let (i, a) = (root_up(q) + terms(&b).twice_pc, terms(&b).a);
+        let q = 2_500 * terms(&b).quarters;
+        let (i, a) = (root_up(q) + 100 * terms(&b).twice_pc, 100 * terms(&b).a);
         let d = a * a + a * i + i * i;
-        assert_eq!((q, d), (579_999_999_999_988_400_000_000_000_058, 1_469_261_848_469_085_106_419_441_504_412));
-        assert_eq!((steps(q), steps(d)), (50, 51));
+        let expected =
+            (5_799_999_999_999_884_000_000_000_000_580_000, 14_692_618_484_690_832_943_588_369_896_598_084_u128);
+        assert_eq!((q, d), expected);
+        assert_eq!((i, root_up(d)), (96_157_731_058_638_122, 121_213_111_851_362_157));
+        assert_eq!((steps(q), steps(d)), (57, 57));
+        assert_eq!(block_call(&b).unwrap()[5..], [57, 57]);
+    }
+
+    /// The example: I' and D' in hundredths of the half cent.
+    #[test]
+    fn the_finer_roots_of_the_example() {
+        let t = terms(&crate::example());
+        let i = root_up(2_500 * t.quarters) + 100 * t.twice_pc;
+        let d = root_up(10_000 * t.a * t.a + 100 * t.a * i + i * i);
+        assert_eq!((i, d), (15_788_417_185, 19_140_543_664));
     }
 
     #[test]
     fn the_root_is_the_least() {
         assert_eq!(root_up(0), 0);
-        for r in (1..2_000).chain([(1 << 52) - 1, 1 << 52, 1_600_000_000_000_000]) {
+        for r in (1..2_000).chain([(1 << 52) - 1, 1 << 52, 1_600_000_000_000_000, (1 << 58) - 1, 1 << 58]) {
             assert_eq!(root_up(r * r), r);
             assert_eq!(root_up(r * r + 1), r + 1);
             assert_eq!(root_up((r - 1) * (r - 1) + 1), r);
         }
+    }
+
+    /// #109: the I that is given is that of a root in whole half cents, the least whole number whose square is at least Q.
+    #[test]
+    fn i_is_that_of_whole_half_cents() {
+        let mut accepted = 0;
+        for index in 0..20_000 {
+            let numbers = crate::generate::block_numbers(17, index);
+            let Ok([i, ..]) = block_call(&numbers) else { continue };
+            let Terms { quarters, largest, twice_pc, .. } = terms(&numbers);
+            assert_eq!(u128::from(i), root_up(quarters.div_ceil(4)).max(largest) + twice_pc, "block {index}");
+            accepted += 1;
+        }
+        assert!(accepted > 5_000, "{accepted}");
     }
 
     #[test]

@@ -15,6 +15,9 @@
 //!
 //! Between the ends the bracket can't decide, and the sheet counts as agreeing.
 //!
+//! #109: "A block's K is then less than 1.01 cents above the exact one", and it isn't below it: decided in the same way. The
+//! exact values are what they were; the allowance has 1.01 cents for a block.
+//!
 //! #106: the exact operational figure is that of the joined prior.
 //!
 //! #102: all credits are taken off the bracket, those of participating blocks, of adjustable products and the group's; n
@@ -30,7 +33,7 @@ use crate::operational::over_50_000;
 use crate::sheet::{lower, number, read_sheet, Sheet, REPORT_NUMBER};
 use crate::{BLOCK_NUMBERS, FIGURES, REPORT_LINE_BYTES};
 
-/// Even, so that a quarter of SCALE² is a whole number.
+/// A multiple of 10, so that a quarter and a hundredth of SCALE² are whole numbers.
 const SCALE: u128 = 100_000_000_000_000_000_000;
 
 /// For an accepted sheet and its report: does demand 3 hold?
@@ -38,17 +41,21 @@ pub fn demand3(sheet: &[u8], report: &[u8]) -> Result<(), String> {
     judge(sheet, report).map(|_| ())
 }
 
-/// As demand3, and whether the bracket decided both bounds of the buffer.
+/// As demand3, and whether the brackets decided both bounds of the buffer and of every K.
 pub fn judge(sheet: &[u8], report: &[u8]) -> Result<bool, String> {
     let sheet = read_sheet(sheet).map_err(|refusal| format!("the sheet is refused: {refusal:?}"))?;
-    let mut blocks = Vec::new();
+    let (mut brackets, mut decided) = (Vec::new(), true);
     for (at, (&block, amounts)) in sheet.blocks.iter().enumerate() {
         let credit = reported_credit(report, at, block, amounts)?;
         judge_credit(credit, sheet.sums(block)).map_err(|why| format!("block {block}: {why}"))?;
         judge_block(report, at, block)?;
-        blocks.push((block, lower(amounts, credit)));
+        let bracket = exact_k(&terms(&lower(amounts, credit))).ok_or(format!("block {block}: no d fits"))?;
+        decided &= judge_k(figure(report, FIGURES * at + 4, "BLK", block, 5)?, bracket)
+            .map_err(|why| format!("block {block}: {why}"))?;
+        brackets.push(bracket);
     }
-    judge_buffer(&sheet, &blocks, figure(report, FIGURES * blocks.len() + 2, "TOT", 0, 3)?)
+    let buffer = figure(report, FIGURES * brackets.len() + 2, "TOT", 0, 3)?;
+    Ok(judge_buffer(&sheet, &brackets, buffer)? && decided)
 }
 
 /// #101: by how much the reported U and LT of a block are below those of the amounts entered.
@@ -91,34 +98,50 @@ fn judge_block(report: &[u8], at: usize, block: u64) -> Result<(), String> {
     Ok(())
 }
 
-/// The reported buffer's two bounds, of blocks after the reported credits, and whether the bracket decided both.
-fn judge_buffer(sheet: &Sheet, blocks: &[(u64, [u64; BLOCK_NUMBERS])], buffer: u64) -> Result<bool, String> {
+/// The reported K's two bounds, of a block after the reported credit, and whether the bracket decided both.
+fn judge_k(k: u64, bracket: (Big, Big)) -> Result<bool, String> {
+    // 1.01 cents
+    let allowance = Big::from(101) * hundredth_of_a_cent();
+    within(Big::from(u128::from(k)) * cent(), bracket, allowance).map_err(|why| format!("K, {k}, is {why}"))
+}
+
+/// The reported buffer's two bounds, of the brackets of the blocks, and whether they decided both.
+fn judge_buffer(sheet: &Sheet, blocks: &[(Big, Big)], buffer: u64) -> Result<bool, String> {
     // The exact sum of K, in cents × SCALE².
     let (mut lower, mut upper) = (Big::from(0), Big::from(0));
-    for (block, amounts) in blocks {
-        let (low, high) = exact_k(&terms(amounts)).ok_or(format!("block {block}: no d fits"))?;
+    for &(low, high) in blocks {
         lower = lower + low;
         upper = upper + high;
     }
 
     // Both sides times 10,000 × 50,000 × SCALE²; credits and allowance stand where they are added.
-    let cents = Big::from(SCALE) * Big::from(SCALE);
     let of = |amount: u64| Big::from(u128::from(amount));
     let (g, ten_thousand, fifty_thousand) = (of(sheet.scalar()), Big::from(10_000), Big::from(50_000));
     let ro = Big::from(over_50_000(&sheet.joined(), &sheet.operational()));
     let credits = of(sheet.dividends() + sheet.free_credits());
-    let reported = (of(buffer) * ten_thousand + g * credits) * fifty_thousand * cents;
-    let exact = |sum_of_k: Big| g * ((sum_of_k + of(sheet.guarantee()) * cents) * fifty_thousand + ro * cents);
-    // The allowance is g × (2n + 1) + 1 cents.
-    let n = blocks.len() as u128;
-    let allowance = (g * Big::from(2 * n + 1) + ten_thousand) * fifty_thousand * cents;
+    let reported = (of(buffer) * ten_thousand + g * credits) * fifty_thousand * cent();
+    let exact = |sum_of_k: Big| g * ((sum_of_k + of(sheet.guarantee()) * cent()) * fifty_thousand + ro * cent());
+    // #109: the allowance is g × (1.01 × n + 1) + 1 cents.
+    let per_g = Big::from(101 * blocks.len() as u128 + 100) * hundredth_of_a_cent();
+    let allowance = (g * per_g + ten_thousand * cent()) * fifty_thousand;
+    within(reported, (exact(lower), exact(upper)), allowance).map_err(|why| format!("the buffer {buffer} is {why}"))
+}
 
-    let (lower, upper) = (exact(lower), exact(upper));
+/// What a cent is where numbers are times SCALE², and a hundredth of it.
+fn cent() -> Big {
+    Big::from(SCALE) * Big::from(SCALE)
+}
+fn hundredth_of_a_cent() -> Big {
+    Big::from(SCALE / 10) * Big::from(SCALE / 10)
+}
+
+/// At or above the exact number between these ends, and less than the allowance above it; and whether the ends decided both.
+fn within(reported: Big, (lower, upper): (Big, Big), allowance: Big) -> Result<bool, &'static str> {
     if reported < lower {
-        return Err(format!("the buffer {buffer} is below the exact one"));
+        return Err("below the exact one");
     }
     if reported >= upper + allowance {
-        return Err(format!("the buffer {buffer} is the allowance or more above the exact one"));
+        return Err("the allowance or more above the exact one");
     }
     Ok(reported >= upper && reported < lower + allowance)
 }

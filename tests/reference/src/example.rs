@@ -7,11 +7,11 @@ use crate::{BLOCK_NUMBERS, BLOCK_VALUES};
 pub const WHOLE_RUN: &[u8] = include_bytes!("../../../examples/example.sheet");
 pub const WHOLE_RUN_REPORT: &str = include_str!("../../../crates/tsav_sheet/stdout");
 
-/// I, D, U, LT and K of the example, as "Calibration points" has them; then the steps of #107: the radicand of I, PC not yet
-/// added, is between the squares of 152,884,171 and 152,884,172, that of D between those of 191,405,436 and 191,405,437, and
-/// both roots are between 2^27 and 2^28.
+/// I, D, U, LT and K of the example, as "Calibration points" has them; then the steps of #107, by #109 of the finer roots: that of
+/// I, PC not yet added, is 15,288,417,185 hundredths of the half cent, between 2^33 and 2^34, and that of D 19,140,543,664, above
+/// 2^34.
 pub const EXAMPLE_FIGURES: [u64; BLOCK_VALUES] =
-    [157_884_172, 191_405_437, 176_550_000, 90_400_000, 151_765_333, 28, 28];
+    [157_884_172, 191_405_437, 176_550_000, 90_400_000, 151_765_333, 34, 35];
 
 /// The example of document 000, in cents: seven pairs IR, LT, then PC, credit, market.
 pub fn example() -> [u64; BLOCK_NUMBERS] {

@@ -63,12 +63,13 @@ fn sound_block(random: &mut Random) -> [u64; BLOCK_NUMBERS] {
     numbers
 }
 
-/// #107: a block with a radicand that is a power of 4 or next to one, so that a step more or less is seen. y of one risk, or
-/// twice PC, credit or market, is a power of 2, or it is half a cent beside it; with some longevity beside mortality, Q is lower
-/// than the square of the floor, which has a step more.
+/// #107: a block with a radicand next to a power of 4, so that a step more or less is seen. By #109 it is 10,000 times the square
+/// of y where there is one risk alone, and 100 times y is the last below a power of 2, the first above it, or one of their
+/// neighbours; or 200 times PC, credit or market is. With some longevity beside mortality, Q is lower than the square of the
+/// floor, which has a step more.
 fn next_to_a_step(random: &mut Random) -> [u64; BLOCK_NUMBERS] {
     let mut numbers = [0; BLOCK_NUMBERS];
-    let y = (1_u64 << random.from(1, 47)) + random.below(3) - 1;
+    let y = (1 << random.from(7, 54)) / FINENESS + random.below(3) - 1;
     let kind = random.below(4);
     if kind == 0 {
         numbers[PC + random.at(BLOCK_NUMBERS - PC)] = y.div_ceil(2);

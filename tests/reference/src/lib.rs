@@ -1,4 +1,4 @@
-//! The calculator of document 01, with requests #101, #102 and #104 to #108 of document 02, in plain Rust with u128: no
+//! The calculator of document 01, with requests #101, #102 and #104 to #109 of document 02, in plain Rust with u128: no
 //! dependency, nothing clever, and no code shared with the calculator itself. It is a test oracle: what it answers is
 //! compared with what the calculator answers.
 //!
@@ -47,6 +47,9 @@ pub const BLOCK_NUMBERS: usize = 2 * RISKS + 3;
 
 /// "A block": I, D, U, LT and K.
 pub const FIGURES: usize = 5;
+
+/// #109: I and D are worked out in hundredths of the half cent.
+pub const FINENESS: u64 = 100;
 
 /// #107: what the block call gives, "after K" the steps for I, "then those for D".
 pub const BLOCK_VALUES: usize = FIGURES + 2;

@@ -35,14 +35,41 @@ fn demand_3_finds_wrong_buffers() {
         let last = length - REPORT_LINE_BYTES;
         let line = std::str::from_utf8(&report[last..length]).unwrap();
         let buffer: u64 = line.split_whitespace().last().unwrap().parse().unwrap();
-        // The allowance is at most 2 × (2 × 32 + 1) + 1 = 131 cents.
-        let above = [&report[..last], &report_line("TOT", 0, 3, buffer + 131)].concat();
+        // The allowance is at most 2 × (1.01 × 32 + 1) + 1 = 67.64 cents.
+        let above = [&report[..last], &report_line("TOT", 0, 3, buffer + 68)].concat();
         assert!(demand3(&sheet, &above).is_err(), "sheet {index}");
-        if buffer >= 131 {
-            let below = [&report[..last], &report_line("TOT", 0, 3, buffer - 131)].concat();
+        if buffer >= 68 {
+            let below = [&report[..last], &report_line("TOT", 0, 3, buffer - 68)].concat();
             assert!(demand3(&sheet, &below).is_err(), "sheet {index}");
         }
     }
+}
+
+/// #109: so is a K that is two cents off: K is less than 1.01 cents above the exact one and not below it.
+#[test]
+fn demand_3_finds_wrong_requirements() {
+    let mut whys = BTreeMap::new();
+    for index in 0..500 {
+        let sheet = accepted(15, index);
+        let mut report = vec![0; LONGEST_REPORT];
+        let length = sheet_call(&sheet, &mut report).unwrap();
+        for at in (0..length / REPORT_LINE_BYTES - 3).skip(4).step_by(FIGURES) {
+            let line = REPORT_LINE_BYTES * at..REPORT_LINE_BYTES * (at + 1);
+            let words: Vec<u64> =
+                std::str::from_utf8(&report[line.clone()]).unwrap().split_whitespace().flat_map(str::parse).collect();
+            let [block, 5, k] = words[..] else { panic!("sheet {index}: {words:?}") };
+            for k in [Some(k + 2), k.checked_sub(2)].into_iter().flatten() {
+                let mut other = report[..length].to_vec();
+                other[line.clone()].copy_from_slice(&report_line("BLK", block, 5, k));
+                let why = demand3(&sheet, &other).expect_err("two cents");
+                let kind =
+                    ["is below LT + D", "above U", "K, ", "the buffer"].into_iter().find(|kind| why.contains(kind));
+                *whys.entry(kind.unwrap()).or_insert(0) += 1;
+            }
+        }
+    }
+    println!("what two cents more or less break: {whys:?}");
+    assert!(["is below LT + D", "above U", "K, "].iter().all(|kind| whys[kind] >= 100) && whys.len() == 3, "{whys:?}");
 }
 
 /// The cases reach every row that a sheet can give; a refusal changes no byte, and an answer none past its length.
@@ -97,28 +124,29 @@ fn numbers_reach_every_row() {
     assert!(positions.len() >= BLOCK_NUMBERS + 200, "{positions:?}");
 }
 
-/// #107: block calls with every number of steps stand, up to the most that there are: a radicand that is a power of 4, and the
-/// last square below one; none for I beside some for D; and fewer for I than the square of its floor takes.
+/// #107: block calls with every number of steps stand, up to the most that there are: none, and from 7 on, which a single half
+/// cent has by #109; the first y that takes so many, and the last; none for I beside some for D; and fewer for I than the
+/// square of its floor takes.
 #[test]
 fn steps_of_every_kind() {
     let (mut of_i, mut of_d) = (BTreeSet::new(), BTreeSet::new());
     let mut counts: BTreeMap<&str, u64> = BTreeMap::new();
-    // Half the padded length of a square.
-    let of_square = |n: u64| u64::from((129 - (u128::from(n) * u128::from(n)).leading_zeros()) / 2);
+    // Of the square of so many half cents, in hundredths: half its padded length, which is the length of its root.
+    let of_square = |n: u64| u64::from(64 - (100 * n).leading_zeros());
     for index in 0..40_000 {
         let numbers = block_numbers(13, index);
         let Ok([i, d, _, _, _, steps_i, steps_d]) = block_call(&numbers) else { continue };
         of_i.insert(steps_i);
         of_d.insert(steps_d);
-        // The radicand of D is at least the square of I's root. D's root is rounded up, to a power of 2 at most.
-        assert!(steps_i <= steps_d && steps_d <= 52, "call {index}");
-        assert!(steps_d == of_square(d) || steps_d + 1 == of_square(d) && d.is_power_of_two(), "call {index}");
+        // The radicand of D is at least the square of I's root. D's root is at most D and above D less a half cent.
+        assert!(steps_i <= steps_d && steps_d <= 58, "call {index}");
+        assert!(of_square(d.saturating_sub(1)) <= steps_d && steps_d <= of_square(d), "call {index}");
         let without_pc = i - 2 * numbers[2 * RISKS];
         let floor = (0..RISKS).map(|risk| 2 * numbers[2 * risk] - numbers[2 * risk + 1]).max().unwrap();
         let of_root = 0 < steps_i && steps_i == of_square(without_pc);
         for (kind, holds) in [
-            ("a power of 4", of_root && without_pc.is_power_of_two()),
-            ("the last square below it", of_root && (without_pc + 1).is_power_of_two()),
+            ("the first y", of_root && of_square(without_pc - 1) < steps_i),
+            ("the last y", of_root && of_square(without_pc + 1) > steps_i),
             ("none for I", steps_i == 0 && steps_d > 0),
             ("fewer than the floor's square", without_pc == floor && 0 < steps_i && steps_i < of_square(floor)),
             ("D by two more", steps_i > 0 && steps_d >= steps_i + 2),
@@ -127,8 +155,32 @@ fn steps_of_every_kind() {
         }
     }
     println!("steps in 40,000 calls: {counts:?}");
-    assert!(of_i.into_iter().eq(0..=50) && of_d.into_iter().eq(0..=51));
+    assert!(of_i.into_iter().eq((0..1).chain(7..=57)) && of_d.into_iter().eq((0..1).chain(7..=57)));
     assert!(counts.values().all(|&count| count >= 100), "{counts:?}");
+}
+
+/// #109, beside document 01's roots in whole half cents: D is the same or 1 lower, and K the same or a cent lower (I is the same:
+/// the tests of the block call's own file).
+/// Each happens, K also where D is the same.
+#[test]
+fn finer_beside_whole_half_cents() {
+    let least = |radicand: u128| {
+        let down = radicand.isqrt();
+        down + u128::from(down * down < radicand)
+    };
+    let mut counts: BTreeMap<(u128, u128), u64> = BTreeMap::new();
+    for index in 0..40_000 {
+        let numbers = block_numbers(16, index);
+        let Ok([i, d, u, lt, k, ..]) = block_call(&numbers).map(|values| values.map(u128::from)) else { continue };
+        let a = 2 * u128::from(numbers[BLOCK_NUMBERS - 2] + numbers[BLOCK_NUMBERS - 1]);
+        let (whole, v) = (least(a * a + a * i + i * i), 2 * u - lt);
+        let m = (7 * v * v + 30 * whole * whole).saturating_sub(31 * whole * v);
+        let at_whole = if u == 0 { 0 } else { (48 * u * v + 6 * lt * v + m).div_ceil(60 * v) };
+        assert!(d <= whole && whole <= d + 1 && k <= at_whole && at_whole <= k + 1, "call {index}");
+        *counts.entry((whole - d, at_whole - k)).or_default() += 1;
+    }
+    println!("D and K lower by, in 40,000 calls: {counts:?}");
+    assert!(counts.len() == 4 && counts.values().all(|&count| count >= 100), "{counts:?}");
 }
 
 /// Fluctuation calls of every kind stand, in each row: at the threshold and next to it, far above it, a base whose root is

@@ -613,34 +613,56 @@ fn bases_of_the_rows() {
     }
 }
 
-/// #107: the steps of both roots, where the radicand is a power of 4 and next to one, where it is 0 and where the floor is the
-/// larger; and the most.
+/// #107: the steps of both roots, by #109 of radicands in hundredths of the half cent: next to a power of 4, where the radicand is
+/// 0 and where the floor is the larger; and the most.
 #[test]
 fn steps_of_the_roots() {
     assert_eq!(steps(&[]), [0, 0]);
-    // Only PC: the radicand of I is 0, and that of D is 200².
-    assert_eq!(steps(&[(14, 100)]), [0, 8]);
+    // Only PC: the radicand of I is 0, and that of D is 20,000², of 29 binary digits.
+    assert_eq!(steps(&[(14, 100)]), [0, 15]);
     // Only credit, and only market.
-    assert_eq!(steps(&[(15, 100)]), [0, 8]);
-    assert_eq!(steps(&[(16, 100)]), [0, 8]);
-    // One risk alone: y is 1, 2, 3 and 4, and both radicands are its square.
-    assert_eq!(steps(&[(0, 1), (1, 1)]), [1, 1]);
-    assert_eq!(steps(&[(0, 1)]), [2, 2]);
-    assert_eq!(steps(&[(0, 2), (1, 1)]), [2, 2]);
-    assert_eq!(steps(&[(0, 2)]), [3, 3]);
-    // y is 2^46, and a half cent less: a radicand of 93 binary digits and one of 92.
-    assert_eq!(steps(&[(0, 1 << 45)]), [47, 47]);
-    assert_eq!(steps(&[(0, 1 << 45), (1, 1)]), [46, 46]);
-    // Q is 1 + 1 − 0.5, which isn't whole: 2 is the least whole number at or above it. I is 2, and the radicand of D 4.
-    assert_eq!(values(&[(0, 1), (1, 1), (2, 1), (3, 1)]), [2, 2, 2, 2, 2, 1, 2]);
-    // y is 128 and 32: Q is 15,360, of 14 binary digits, and its root 124. The floor, 128, has a square of 15.
-    assert_eq!(values(&[(0, 64), (2, 16)])[..2], [128, 128]);
-    assert_eq!(steps(&[(0, 64), (2, 16)]), [7, 8]);
-    // The largest amounts give the most steps that there are; 52 are allowed.
+    assert_eq!(steps(&[(15, 100)]), [0, 15]);
+    assert_eq!(steps(&[(16, 100)]), [0, 15]);
+    // One risk alone: y is 1, 2, 3, 5 and 6, and both radicands are the square of 100 times it. 4^9 is 512².
+    assert_eq!(steps(&[(0, 1), (1, 1)]), [7, 7]);
+    assert_eq!(steps(&[(0, 1)]), [8, 8]);
+    assert_eq!(steps(&[(0, 2), (1, 1)]), [9, 9]);
+    assert_eq!(steps(&[(0, 3), (1, 1)]), [9, 9]);
+    assert_eq!(steps(&[(0, 3)]), [10, 10]);
+    // 100 times y is above 2^53 by 8, and a half cent less: a radicand of 107 binary digits and one of 106.
+    assert_eq!(steps(&[(0, 45_035_996_273_705)]), [54, 54]);
+    assert_eq!(steps(&[(0, 45_035_996_273_705), (1, 1)]), [53, 53]);
+    // Q is 1 + 1 − 0.5, which isn't whole; 10,000 times it is 15,000, above the square of 122. I is 1.23, and so is D.
+    assert_eq!(values(&[(0, 1), (1, 1), (2, 1), (3, 1)]), [2, 2, 2, 2, 2, 7, 7]);
+    // y is 164 and 40: 10,000 × Q is 252,160,000, of 28 binary digits. The floor, 164, has a square of 29.
+    assert_eq!(values(&[(0, 82), (2, 20)])[..2], [164, 164]);
+    assert_eq!(steps(&[(0, 82), (2, 20)]), [14, 15]);
+    // The largest amounts give the most steps that there are; 58 are allowed.
     let most: Vec<(usize, u64)> = (0..7).map(|risk| (2 * risk, LARGEST_AMOUNT)).collect();
-    assert_eq!(steps(&most)[0], 50);
+    assert_eq!(steps(&most)[0], 57);
     let others: Vec<(usize, u64)> = (14..BLOCK_NUMBERS).map(|position| (position, LARGEST_AMOUNT)).collect();
-    assert_eq!(steps(&[most, others].concat()), [50, 51]);
+    assert_eq!(steps(&[most, others].concat()), [57, 57]);
+}
+
+/// #109: "I and D are now worked out in hundredths of the half cent"; "K is taken at this finer D and still rounded up to a cent";
+/// "The report and the block call still give I and D in half cents, the least at or above".
+#[test]
+fn finer_roots() {
+    // y is 4 and 6: Q is 40 and I 6.33. With a = 16, D² is at least 256 + 101.28 + 40.0689: D is 19.94, and K's fraction at it
+    // 10.78. From an I of 7 half cents the root would be 20.42, D 21 and K 12.
+    assert_eq!(block(&[(0, 2), (2, 3), (15, 8)]), [7, 20, 13, 0, 11]);
+    // y is 6 and a 18: D is 21.64 and is given as 22, at which K's fraction would be 11.12. At 21.64 it is 10.98.
+    assert_eq!(block(&[(0, 3), (15, 9)]), [6, 22, 12, 0, 11]);
+    // y is 2 twice: Q is 6 and I 2.45. With a = 2, D is 3.87; from an I of 3 half cents it would be 5. K's fraction is 2.4.
+    assert_eq!(block(&[(0, 1), (2, 1), (15, 1)]), [3, 4, 3, 0, 3]);
+    // The report has the same figures, and rules 17 and 13 are of the K that is reported.
+    let lines = [("RSK", 17, 1, 2), ("RSK", 17, 2, 3), ("OTH", 17, 2, 8)];
+    let with = |more: &[(&'static str, u64, u64, u64)]| totals(&with_scalar(&[&lines, more].concat()));
+    assert_eq!(with(&[]), Ok([11, 0, 11]));
+    assert_eq!(with(&[("CRD", 17, 1, 11)]), Ok([11, 0, 0]));
+    assert_eq!(with(&[("CRD", 17, 1, 12)]), Err(Refusal::nowhere(17)));
+    assert_eq!(with(&[("GEN", 0, CREDITS, 11)]), Ok([11, 0, 0]));
+    assert_eq!(with(&[("GEN", 0, CREDITS, 12)]), Err(Refusal::nowhere(13)));
 }
 
 /// #104: the refusals, alone and beside one another.
@@ -748,14 +770,19 @@ fn classes_stand_alone() {
 fn demand_3_on_the_whole_run() {
     assert_eq!(demand3(WHOLE_RUN, WHOLE_RUN_REPORT.as_bytes()), Ok(()));
     let other = |from: &str, to: &str| demand3(WHOLE_RUN, WHOLE_RUN_REPORT.replacen(from, to, 1).as_bytes());
-    // g is 1 and n is 1: the allowance is 4 cents.
-    assert!(other("163265783", "163265781").is_err());
-    assert_eq!(other("163265783", "163265786"), Ok(()));
-    assert!(other("163265783", "163265787").is_err());
-    assert!(other("163265783", "999999999").is_err());
-    assert!(other("BLK  1  5          151765333", "BLK  1  5          176550001").is_err());
-    assert!(other("BLK  1  5          151765333", "BLK  1  5          140902718").is_err());
-    assert_eq!(other("BLK  1  5          151765333", "BLK  1  5          140902719"), Ok(()));
+    let breaks = |from: &str, to: &str, what: &str| assert!(other(from, to).unwrap_err().contains(what), "{to}");
+    // g is 1 and n is 1: the allowance is 3.01 cents. The exact buffer is 163,265,782.4988.
+    breaks("163265783", "163265782", "the buffer 163265782 is below the exact one");
+    assert_eq!(other("163265783", "163265785"), Ok(()));
+    breaks("163265783", "163265786", "the buffer 163265786 is the allowance or more above");
+    breaks("163265783", "999999999", "above the exact one");
+    // The exact K is 151,765,332.4988.
+    let k = "BLK  1  5          151765333";
+    breaks(k, "BLK  1  5          151765332", "K, 151765332, is below the exact one");
+    breaks(k, "BLK  1  5          151765334", "K, 151765334, is the allowance or more above");
+    breaks(k, "BLK  1  5          176550001", "K is above U");
+    breaks(k, "BLK  1  5          140902718", "2 × K is below LT + D");
+    breaks(k, "BLK  1  5          140902719", "K, 140902719, is below the exact one");
     assert!(other("TOT  0  3", "TOT  0  4").is_err());
     let all_but_the_last = &WHOLE_RUN_REPORT.as_bytes()[..report_length(1) - REPORT_LINE_BYTES];
     assert!(demand3(WHOLE_RUN, all_but_the_last).is_err());

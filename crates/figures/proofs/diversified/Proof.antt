@@ -8,8 +8,8 @@ use Rattle.search.specs.Least.{least}
 use Rattle.guideline.specs.Block.{radicand}
 use Rattle.wide.specs.Value.{value}
 use Rattle.root.specs.Steps.{steps}
-use Rattle.insurance.proofs.Radicand.{largestRadicand, in-root}
-use Rattle.figures.proofs.Joint.{joint, joint-small, in-words}
+use Rattle.insurance.proofs.Radicand.{largestRadicand, in-root, in-words}
+use Rattle.figures.proofs.Joint.{joint, joint-small}
 use Rattle.figures.proofs.diversified.Statement.{statement}
 use Rattle.figures.proofs.diversified.Tie as tie
 

@@ -1,7 +1,7 @@
 -- Long division: how many binary digits fit a step, one step, what holds between two, and the quotient rounded up. Assumes nothing.
 use mathlib.Core.Path.{_≡_, sym, ap, _∙_}
-use Prim.Native.Nat.{ℕ, _+_, _-_, _*_, _/_, _%_, _^_, _≤_, _<_}
-use native.Mathlib.Nat.{mul-le-mul-left, mul-le-mul-right, div-add-mod', lt-of-mul-lt-mul-right}
+use Prim.Native.Nat.{ℕ, suc, _+_, _-_, _*_, _/_, _%_, _^_, _≤_, _<_}
+use native.Mathlib.Nat.{mul-assoc, mul-le-mul-left, mul-le-mul-right, mod-lt, div-add-mod', div-eq-of-lt-le, div-lt-iff-lt-mul, lt-of-mul-lt-mul-right}
 use native.Mathlib.Decide.{decLe}
 use native.Mathlib.Omega.{arith}
 use lib.Count.{leadingZeros, leading-length}
@@ -9,6 +9,7 @@ use lib.Dec.{leb}
 use lib.Pow.{pow-add, pow-mono, mod-pow-add}
 use Rattle.search.specs.Least.{least}
 use Rattle.search.proofs.LeastOf.{ceil-eq}
+use Rattle.search.proofs.Tests.{leb-same}
 
 -- ---- how many binary digits a step can bring down
 
@@ -96,6 +97,10 @@ last n low d q r k x b e = e ∙ ap (λ (y : ℕ). (q * d + r) * 2 ^ k + y % 2 ^
 pub two-words : (P h l d q r : ℕ) → q * d + r ≡ h % d * P + l → (h / d * P + q) * d + r ≡ h * P + l
 two-words P h l d q r e = omega (arith, ap (λ (x : ℕ). x * P) (div-add-mod' h d))
 
+-- and where there is no upper word
+pub one-word : (P h l d : ℕ) → h ≡ 0 → (0 * P + l / d) * d + l % d ≡ h * P + l
+one-word P h l d e = omega (arith, div-add-mod' l d, ap (λ (x : ℕ). x * P) e)
+
 -- ---- the quotient rounded up, from the quotient and the rest
 
 module _ (n d q r : ℕ) (whole : q * d + r ≡ n) (small : r < d) (fits : n ≤ d * (2 ^ 64 - 1)) where
@@ -112,3 +117,28 @@ module _ (n d q r : ℕ) (whole : q * d + r ≡ n) (small : r < d) (fits : n ≤
 
   pub next-quotient : 0 < r → q + 1 ≡ least (λ x. leb n (d * x))
   next-quotient h = sym (ceil-eq n d (q + 1) (quotient-room h) (omega arith) (omega arith))
+
+-- ---- the quotient rounded up, of any size
+
+module _ (n d : ℕ) (positive : 0 < d) where
+  pub up-exact : (q : ℕ) → q * d ≡ n → q ≡ (n + (d - 1)) / d
+  up-exact q e = sym (div-eq-of-lt-le {k = q} d (omega arith) (omega arith))
+
+  pub up-next : (q r : ℕ) → q * d + r ≡ n → 0 < r → r < d → q + 1 ≡ (n + (d - 1)) / d
+  up-next q r e h k = sym (div-eq-of-lt-le {k = q + 1} d (omega arith) (omega arith))
+
+  -- it is at most m just where n is at most d × m
+  pub up-most : (m : ℕ) → n ≤ d * m → (n + (d - 1)) / d ≤ m
+  up-most m h =
+      let l : (n + (d - 1)) / d < suc m = div-lt-iff-lt-mul {k = d} {x = n + (d - 1)} {y = suc m} positive .1 (omega arith) in
+      omega arith
+
+  up-reaches : (m : ℕ) → (n + (d - 1)) / d ≤ m → n ≤ d * m
+  up-reaches m h = omega (arith, mul-le-mul-left d h, div-add-mod' (n + (d - 1)) d, mod-lt (n + (d - 1)) positive)
+
+  -- rounded up by d and then by e is rounded up by d × e
+  pub up-twice : (e : ℕ) → least (λ q. leb ((n + (d - 1)) / d) (e * q)) ≡ least (λ q. leb n (d * e * q))
+  up-twice e = λ i. least (λ q. same q i)
+    where
+      same : (q : ℕ) → leb ((n + (d - 1)) / d) (e * q) ≡ leb n (d * e * q)
+      same q = leb-same _ _ n (d * (e * q)) (up-reaches (e * q)) (up-most (e * q)) ∙ ap (leb n) (sym (mul-assoc d e q))

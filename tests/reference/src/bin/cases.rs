@@ -125,6 +125,7 @@ fn cases() -> Vec<Case> {
         credits,
         rooms,
         roots,
+        finer_roots,
         orders,
         row_19,
         row_19_in_the_same_line,
@@ -678,6 +679,17 @@ fn roots(c: &mut Cases) {
             G,
         ]),
     );
+}
+
+/// #109: K is taken at D in hundredths of the half cent. Of components of 2 and 3 cents and credit of 8 it is 11, where whole half
+/// cents would give 12: a dividend credit of 11, and of 12.
+fn finer_roots(c: &mut Cases) {
+    let with = |dividend: u64| {
+        let lines = [("RSK", 17, 1, 2, 0), ("RSK", 17, 2, 3, 0), ("OTH", 17, 2, 8, 0), G, ("CRD", 17, 1, dividend, 0)];
+        sheet(&lines)
+    };
+    c.accepted(1, with(11));
+    c.refused(nowhere(17), with(12));
 }
 
 /// A line of zeros.

@@ -1,8 +1,9 @@
--- The upper word's rest is what the lower word stands below. Assumes nothing.
+-- A number of one word is its lower word. Else the upper word's rest is what the lower word stands below. Assumes nothing.
 use native.Mathlib.Nat.{mod-lt}
+use native.Mathlib.Omega.{arith}
 use borrow.Author.Needs.{needs}
 use Rattle.wide.specs.Value.{value}
-use Rattle.wide.proofs.division.Quotients.{two-words}
+use Rattle.wide.proofs.division.Quotients.{two-words, one-word}
 use Rattle.wide.proofs.division.divide.Statement.{statement}
 use Rattle.wide.proofs.division.divide.Tie as tie
 
@@ -10,8 +11,17 @@ returns : tie.Need-returns
 unfolding value
 returns c =
     let n = c .before .args .n in
+    (mod-lt _ (c .before .pre .0), one-word _ (n .high) (n .low) _ (omega (arith, c .if1 .taken)))
+
+returns-2 : tie.Need-returns-2
+unfolding value
+returns-2 c =
+    let n = c .before .before .args .n in
     let e = c .divide-lower .ensures in
     (e .0, two-words _ (n .high) (n .low) _ _ _ (e .1))
 
 pub divide-spec : {M : Type 1} → statement M
-divide-spec = tie.close (tie.spec (λ c. search needs) (λ c κs. (mod-lt _ (c .pre .0), c .pre .1)) (λ c. search needs) returns)
+divide-spec =
+    tie.close
+    (tie.spec (λ c. search needs) (λ c. search needs) returns (λ c. search needs) (λ c κs. (mod-lt _ (c .before .pre .0), c .before .pre .1))
+    (λ c. search needs) returns-2)

@@ -1,14 +1,14 @@
 -- A quarter of the upper word, its rest of four carried down as 2^62 each, and a quarter of the lower word are the quarter rounded down; where
 -- the lower word leaves a rest of four, one more is the quarter rounded up. Assumes nothing.
-use mathlib.Core.Path.{_≡_, refl}
-use Prim.Native.Nat.{_+_, _*_, _/_, _%_, _^_, _<_}
+use mathlib.Core.Path.{_≡_}
+use Prim.Native.Nat.{_+_, _*_, _/_, _%_, _^_}
 use native.Mathlib.Nat.{lt-of-le-of-lt}
 use native.Mathlib.Omega.{arith}
 use borrow.Author.Needs.{needs}
-use lib.Arith.{digits-lt}
 use Rattle.wide.specs.declared.Wide.{Wide}
 use Rattle.wide.specs.Value.{value}
 use Rattle.wide.proofs.words.Digits.{quarter, quarter-digit}
+use Rattle.wide.proofs.words.Limits.{value-lt, one}
 use Rattle.wide.proofs.words.quarter_up.Statement.{statement}
 use Rattle.wide.proofs.words.quarter_up.Tie as tie
 
@@ -22,14 +22,6 @@ down n = record { high = n .high / 4; low = n .high % 4 * 2 ^ 62 + n .low / 4 }
 down-is : (n : Wide) → 4 * value (down n) + n .low % 4 ≡ value n
 unfolding value
 down-is n = quarter (2 ^ 62) (n .high) (n .low)
-
-value-lt : (n : Wide) → n .high < 2 ^ 64 → n .low < 2 ^ 64 → value n < 2 ^ 128
-unfolding value
-value-lt n h l = digits-lt h l
-
-one : value (record { high = 0; low = 1 }) ≡ 1
-unfolding value
-one = refl
 
 add-requires : tie.Need-add-requires
 add-requires c κs =
