@@ -18,7 +18,7 @@ pub fn status(name: &str, outcome: Outcome) -> ExitCode {
 }
 
 /// Whole numbers with space between them, to the end of standard input.
-#[allow(dead_code)] // the sheet has none
+#[allow(dead_code)] // a sheet has none
 pub fn numbers() -> Result<Vec<u64>, Box<dyn Error>> {
     let mut text = String::new();
     io::stdin().read_to_string(&mut text)?;

@@ -2,7 +2,7 @@
    libtsav.so, as the install script names them; in a checkout `bindings/library` writes the archive, as
    target/staticlib/libexports.a.
 
-   Four calls, and the version of the four. Each is proved to answer every input as is said here; none allocates, keeps
+   Five calls, and the version of the five. Each is proved to answer every input as is said here; none allocates, keeps
    anything between calls, or can fail in another way, and several threads may call at once.
 
    What is asked of a caller: every pointer is valid for the numbers or bytes that its parameter names, pointers to numbers
@@ -10,7 +10,8 @@
    then read and written nowhere, but give one that is not null all the same. Nothing is asked of the numbers and bytes
    themselves.
 
-   All amounts are whole cents, 0 to TSAV_LARGEST_AMOUNT.
+   All amounts are whole cents, 0 to TSAV_LARGEST_AMOUNT; those of a sheet in small letters, which the convert call alone takes,
+   are thousands of dollars.
 
    What is answered. 0: accepted; what is named under 'accepted' is written, and place is untouched. Any other number: refused,
    and it is the refusal's number; place is written, and everything else that was lent is untouched.
@@ -36,13 +37,15 @@
      12  nowhere             there is no scalar line
      13  nowhere             the credits that belong to no block (CRD of block 0, GEN class 5) are above what is left: sum of K,
                              less the dividend credits, + guarantee requirement + RO
-     14  nowhere             the lent report is shorter than the report
+     14  nowhere             the lent report is shorter than the report; converting, the lent room is shorter than the sheet
      15  nowhere             the list of volumes is longer than TSAV_MOST_VOLUMES, or no multiple of TSAV_TERRITORY_NUMBERS
      16  nowhere             the credit of a MOR line is above level and trend of its block's mortality
      17  nowhere             a dividend credit (CRD of a block) is above its block's K, or the block has no RSK or OTH line
      18  nowhere             the row of a fluctuation factor is outside 1 to 7
      19  line                the line doesn't come after the one before it: lines ascend by code, in the order RSK, OTH, MOR,
-                             VOL, ACQ, GEN, CRD, then by block, then by class */
+                             VOL, ACQ, GEN, CRD, then by block, then by class
+     20  line                converting from cents, an amount isn't whole thousands of dollars, a multiple of 100,000 cents
+     21  line                converting from thousands, an amount is above 999,999,999: in cents it has more than 14 digits */
 
 #ifndef TSAV_H
 #define TSAV_H
@@ -159,6 +162,24 @@ uint64_t tsav_fluctuation(uint64_t row, uint64_t requirement, uint64_t face, uin
    refused by 3 at line 1 unless it is too long. */
 uint64_t tsav_sheet(const uint8_t *sheet, size_t bytes, uint8_t *report, size_t room, uint64_t written[1],
                     uint64_t place[2]);
+
+/* The convert call: a sheet in cents, with its codes in capital letters, becomes one in thousands of dollars, with its codes in
+   small letters, and the other way round. The letters of line 1 tell which.
+
+   sheet: bytes bytes, a line for each TSAV_SHEET_LINE, in the order of refusal 19; of a small sheet, the same lines with the
+   codes rsk, oth, mor, vol, acq, gen and crd.
+   converted: room bytes, of any content.
+
+   Accepted, written holds the sheet's length; so many bytes of converted, from its start, are the converted sheet, and those
+   behind them are untouched. Both amounts of a line are divided or multiplied by 100,000, but the scalar's line keeps its
+   numbers. Converted back, it is the first sheet, byte for byte. An empty sheet is accepted, with the length 0.
+
+   Refusals, tested in this order: 1; where the length isn't a multiple of TSAV_SHEET_LINE, 3 or 2 as in the sheet call; then
+   the first bad line, in it 3, 4, 5, 6, 8, 9, 10, 11, 19, then 20 in a capital sheet and 21 in a small one, which the scalar's
+   line never has; then 14. A code in other letters than those of line 1, or in letters of both sorts, is refused by 4. 12, 13,
+   16 and 17 are not tested: the converted sheet may still be refused by them in the sheet call. */
+uint64_t tsav_convert(const uint8_t *sheet, size_t bytes, uint8_t *converted, size_t room, uint64_t written[1],
+                      uint64_t place[2]);
 
 #ifdef __cplusplus
 }

@@ -10,6 +10,7 @@ TOP = Path(__file__).resolve().parents[2]
 OVER = tsav.LARGEST_AMOUNT + 1
 BLOCK = [int(word) for word in (TOP / "examples" / "block.numbers").read_text().split()]
 SHEET = (TOP / "examples" / "example.sheet").read_bytes()
+THOUSANDS = (TOP / "examples" / "thousands.sheet").read_bytes()
 REPORT = (TOP / "crates" / "tsav_sheet" / "stdout").read_bytes()
 FLUCTUATIONS = (TOP / "tests" / "reference" / "fluctuation.cases").read_text().splitlines()
 
@@ -126,6 +127,29 @@ class Calls(unittest.TestCase):
         lines = [b"OTH %2d  1              1              0\n" % (block + 1) for block in range(tsav.MOST_BLOCKS)]
         lines += [b"GEN  0  4          10000              0\n"]
         self.assertEqual(len(tsav.sheet(b"".join(lines))), tsav.LONGEST_REPORT)
+
+    def test_convert(self):
+        cents = tsav.convert(THOUSANDS)
+        self.assertEqual(cents[: tsav.SHEET_LINE], b"RSK  1  1      100000000       70000000\n")
+        self.assertEqual(cents[-tsav.SHEET_LINE :], b"GEN  0  4          10000              0\n")
+        for kind in (bytes, bytearray, memoryview):
+            self.assertEqual(tsav.convert(kind(cents)), THOUSANDS)
+        self.assertEqual(len(tsav.sheet(cents)), 8 * tsav.REPORT_LINE)
+        self.assertEqual(tsav.convert(b""), b"")
+        self.refused(4, 1, None, tsav.sheet, THOUSANDS)
+
+    def test_convert_refused(self):
+        self.refused(1, None, None, tsav.convert, bytes(tsav.LONGEST_SHEET + 1))
+        self.refused(2, None, None, tsav.convert, b"x")
+        self.refused(3, 1, None, tsav.convert, THOUSANDS.replace(b"\n", b"\r\n"))
+        self.refused(4, 14, None, tsav.convert, THOUSANDS + SHEET[: tsav.SHEET_LINE])
+        self.refused(4, 1, None, tsav.convert, THOUSANDS.replace(b"rsk", b"Rsk"))
+        self.refused(20, 4, None, tsav.convert, SHEET)
+        self.refused(21, 1, None, tsav.convert, b"oth  1  1     1000000000              0\n")
+        self.assertEqual(tsav.convert(b"oth  1  1      999999999              0\n"), b"OTH  1  1 99999999900000              0\n")
+        for wrong in (THOUSANDS.decode(), 40, None):
+            with self.assertRaises(TypeError):
+                tsav.convert(wrong)
 
     def test_what_is_no_amount(self):
         for wrong in (1.0, "1", None):

@@ -1,7 +1,7 @@
-"""The TSAV aggregation calculator (chapters 8 and 11 of the 2023 guideline): the four calls of the proved library.
+"""The TSAV aggregation calculator (chapters 8 and 11 of the 2023 guideline): the five calls of the proved library.
 
-What each call takes, gives and refuses is written in tsav.h. All amounts are whole cents, 0 to LARGEST_AMOUNT. A refusal
-is the exception Refused, with its number and place.
+What each call takes, gives and refuses is written in tsav.h. All amounts are whole cents, 0 to LARGEST_AMOUNT,
+but for a sheet in thousands of dollars that is converted. A refusal is the exception Refused, with its number and place.
 
     >>> import tsav
     >>> print(tsav.sheet(open("my.sheet", "rb").read()).decode())
@@ -121,6 +121,17 @@ def sheet(sheet) -> bytes:
     return report.raw[: written[0]]
 
 
+def convert(sheet) -> bytes:
+    """The convert call: a sheet in cents as one in thousands of dollars, with its codes in small letters, or the other way
+    round, as the letters of line 1 tell; both as bytes."""
+    lent = bytes(memoryview(sheet))
+    converted, written, place = ctypes.create_string_buffer(LONGEST_SHEET), (ctypes.c_uint64 * 1)(), (ctypes.c_uint64 * 2)()
+    _answered(_library.tsav_convert(lent, len(lent), converted, LONGEST_SHEET, written, place), place)
+    if written[0] != len(lent):
+        raise ContractBroken(f"{written[0]} bytes of a converted sheet of {len(lent)}")
+    return converted.raw[: written[0]]
+
+
 def _lend(numbers) -> ctypes.Array:
     """Whole numbers as the library takes them. ctypes would cut a longer one off and turn a negative one round; what passes
     64 bits is above the largest amount and the last row all the same, and is refused as such."""
@@ -163,6 +174,7 @@ def _load() -> ctypes.CDLL:
         ("tsav_operational", [numbers, size, numbers, numbers, numbers]),
         ("tsav_fluctuation", [word, word, word, numbers, numbers]),
         ("tsav_sheet", [ctypes.c_char_p, size, ctypes.c_char_p, size, numbers, numbers]),
+        ("tsav_convert", [ctypes.c_char_p, size, ctypes.c_char_p, size, numbers, numbers]),
     ):
         # A call that is added leaves the version as it was, so that an older library may lack it.
         if not hasattr(library, name):

@@ -59,7 +59,18 @@ pub(crate) fn sheet(answer: u64, place: [u64; 2], bytes: usize) -> Result<(), Er
     let listed = match answer {
         0 => return Ok(()),
         1 | 2 | 12..=14 | 16 | 17 => nowhere(place),
-        3..=6 | 8..=11 | 19 => line(place).filter(|line| (1..=bytes / SHEET_LINE).contains(line)).map(Place::Line),
+        3..=6 | 8..=11 | 19 => line_of(place, bytes),
+        _ => None,
+    };
+    Err(refused(answer, place, listed))
+}
+
+/// The convert call's answer, on a sheet of so many bytes.
+pub(crate) fn convert(answer: u64, place: [u64; 2], bytes: usize) -> Result<(), Error> {
+    let listed = match answer {
+        0 => return Ok(()),
+        1 | 2 | 14 => nowhere(place),
+        3..=6 | 8..=11 | 19..=21 => line_of(place, bytes),
         _ => None,
     };
     Err(refused(answer, place, listed))
@@ -71,6 +82,12 @@ pub(crate) fn length(length: u64, room: usize) -> Result<usize, Error> {
         .map(report_length)
         .find(|&report| report as u64 == length && report <= room)
         .ok_or(Error::Contract(Breach::Length { length, room }))
+}
+
+/// The length that the convert call gives where it accepts a sheet of so many bytes, with so many lent.
+pub(crate) fn converted_length(length: u64, bytes: usize, room: usize) -> Result<usize, Error> {
+    let sound = length == bytes as u64 && bytes <= room;
+    sound.then_some(bytes).ok_or(Error::Contract(Breach::Length { length, room }))
 }
 
 /// A refusal, where the call lists it with a place of this kind.
@@ -85,8 +102,9 @@ fn nowhere(place: [u64; 2]) -> Option<Place> {
     (place == [NOWHERE, 0]).then_some(Place::Nowhere)
 }
 
-fn line(place: [u64; 2]) -> Option<usize> {
-    of_kind(LINE, place)
+/// A whole line of a sheet of so many bytes.
+fn line_of(place: [u64; 2], bytes: usize) -> Option<Place> {
+    of_kind(LINE, place).filter(|line| (1..=bytes / SHEET_LINE).contains(line)).map(Place::Line)
 }
 
 fn position(place: [u64; 2]) -> Option<usize> {
@@ -107,12 +125,13 @@ mod tests {
 
     const VOLUMES: usize = 32;
 
-    /// The four calls, on what is lent in these tests.
-    const CALLS: [(&str, Call); 4] = [
+    /// The five calls, on what is lent in these tests.
+    const CALLS: [(&str, Call); 5] = [
         ("block", block),
         ("operational", |answer, place| operational(answer, place, VOLUMES)),
         ("fluctuation", fluctuation),
         ("sheet", |answer, place| sheet(answer, place, LONGEST_SHEET)),
+        ("convert", |answer, place| convert(answer, place, LONGEST_SHEET)),
     ];
 
     fn broken(number: u64, place: [u64; 2]) -> Answer {
@@ -142,11 +161,12 @@ mod tests {
     #[test]
     fn each_call_has_its_refusals() {
         // Of each call: nowhere, at a line, at a position.
-        let listed: [[&[u64]; 3]; 4] = [
+        let listed: [[&[u64]; 3]; 5] = [
             [&[], &[], &[7, 8, 9]], // block
             [&[15], &[], &[7]],     // operational
             [&[18], &[], &[7]],     // fluctuation
             [&[1, 2, 12, 13, 14, 16, 17], &[3, 4, 5, 6, 8, 9, 10, 11, 19], &[]],
+            [&[1, 2, 14], &[3, 4, 5, 6, 8, 9, 10, 11, 19, 20, 21], &[]],
         ];
         for ((name, call), listed) in CALLS.into_iter().zip(listed) {
             for (kind, numbers) in (NOWHERE..).zip(listed) {
@@ -173,12 +193,15 @@ mod tests {
         assert_eq!(sheet(16, [NOWHERE, 0], SHEET_LINE), refused(16, Place::Nowhere));
         assert_eq!(sheet(17, [NOWHERE, 0], SHEET_LINE), refused(17, Place::Nowhere));
         assert_eq!(sheet(1, [NOWHERE, 0], LONGEST_SHEET + 1), refused(1, Place::Nowhere));
+        assert_eq!(convert(20, [LINE, 1], SHEET_LINE), refused(20, Place::Line(1)));
+        assert_eq!(convert(21, [LINE, 629], LONGEST_SHEET), refused(21, Place::Line(629)));
+        assert_eq!(convert(14, [NOWHERE, 0], SHEET_LINE), refused(14, Place::Nowhere));
     }
 
     #[test]
     fn numbers_that_no_refusal_has() {
         // 263 is 7 in its lowest byte.
-        for number in [20, 255, 256, 263, u64::MAX] {
+        for number in [22, 255, 256, 263, u64::MAX] {
             for place in [[NOWHERE, 0], [LINE, 1], [POSITION, 0]] {
                 for (name, call) in CALLS {
                     assert_eq!(call(number, place), broken(number, place), "{name}");
@@ -218,6 +241,7 @@ mod tests {
             assert_eq!(sheet(3, [LINE, 2], bytes), refused(3, Place::Line(2)));
             for line in [0, 3, u64::MAX] {
                 assert_eq!(sheet(3, [LINE, line], bytes), broken(3, [LINE, line]));
+                assert_eq!(convert(20, [LINE, line], bytes), broken(20, [LINE, line]));
             }
         }
     }
@@ -240,6 +264,17 @@ mod tests {
         ];
         for (given, room) in excluded {
             assert_eq!(length(given, room), Err(Error::Contract(Breach::Length { length: given, room })));
+        }
+    }
+
+    #[test]
+    fn converted_lengths() {
+        assert_eq!(converted_length(0, 0, 0), Ok(0));
+        assert_eq!(converted_length(80, 80, 80), Ok(80));
+        assert_eq!(converted_length(80, 80, usize::MAX), Ok(80));
+        for (given, bytes, room) in [(0, 80, 80), (40, 80, 80), (120, 80, 120), (80, 80, 79), (u64::MAX, 80, 80)] {
+            let breach = Breach::Length { length: given, room };
+            assert_eq!(converted_length(given, bytes, room), Err(Error::Contract(breach)));
         }
     }
 }

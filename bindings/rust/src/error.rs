@@ -10,7 +10,7 @@ pub enum Error {
     Contract(Breach),
 }
 
-/// Why and where a call was refused: numbers 1 to 19, as include/tsav.h lists them.
+/// Why and where a call was refused: numbers 1 to 21, as include/tsav.h lists them.
 #[derive(Clone, Copy, Debug, PartialEq, Eq)]
 pub struct Refusal {
     pub number: u8,
@@ -33,7 +33,7 @@ pub enum Breach {
     Version { found: u64 },
     /// A refusal that the call doesn't have, or not at this place: the number, and the place's two numbers as written.
     Refusal { number: u64, place: [u64; 2] },
-    /// A length that no report has, or that is longer than the lent room.
+    /// A length that no report has, or that isn't the converted sheet's, or that is longer than the lent room.
     Length { length: u64, room: usize },
 }
 
@@ -64,7 +64,7 @@ impl fmt::Display for Breach {
         match self {
             Breach::Version { found } => write!(f, "its calls are of version {found}, not {}", crate::VERSION),
             Breach::Refusal { number, place: [kind, at] } => write!(f, "refusal {number} at a place {kind}, {at}"),
-            Breach::Length { length, room } => write!(f, "a report of {length} bytes where {room} were lent"),
+            Breach::Length { length, room } => write!(f, "a length of {length} bytes where {room} were lent"),
         }
     }
 }

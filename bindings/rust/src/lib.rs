@@ -1,9 +1,9 @@
-//! The TSAV aggregation calculator (chapters 8 and 11 of the 2023 guideline): a safe wrapper of the four calls of the
+//! The TSAV aggregation calculator (chapters 8 and 11 of the 2023 guideline): a safe wrapper of the five calls of the
 //! proved static library. What each call takes, gives and refuses is written in include/tsav.h.
 //!
-//! All amounts are whole cents, 0 to [`LARGEST_AMOUNT`]. Any numbers and bytes may be given: what is out of range is
-//! refused, and no call panics or allocates. Each call compares the library's version with [`VERSION`] before it lends
-//! anything.
+//! All amounts are whole cents, 0 to [`LARGEST_AMOUNT`], but for a sheet in thousands of dollars, which [`convert`] takes. Any
+//! numbers and bytes may be given: what is out of range is refused, and no call panics or allocates. Each call compares the
+//! library's version with [`VERSION`] before it lends anything.
 
 mod contract;
 mod error;
@@ -53,7 +53,7 @@ pub const fn report_length(blocks: usize) -> usize {
 }
 
 /// The refusals are numbered from 1 to this.
-pub const LAST_REFUSAL: usize = 19;
+pub const LAST_REFUSAL: usize = 21;
 
 /// A block's figures: I and D in half cents, U, LT and K in cents; and the steps that the roots of I and of D take, at most
 /// 58 each. The roots are of hundredths of the half cent, and so is the D that K is taken at.
@@ -117,6 +117,19 @@ pub fn sheet(sheet: &[u8], report: &mut [u8]) -> Result<usize, Error> {
     contract::length(written[0], report.len())
 }
 
+/// The convert call: a sheet in cents becomes one in thousands of dollars, with its codes in small letters, or the other way
+/// round, as the letters of line 1 tell. It gives the length written, which is the sheet's. The bytes behind it, and all of
+/// them where the sheet is refused, are left as they were.
+pub fn convert(sheet: &[u8], converted: &mut [u8]) -> Result<usize, Error> {
+    compare_versions()?;
+    let (mut written, mut place) = ([0; 1], [0; 2]);
+    let (lent, room) = (converted.as_mut_ptr(), converted.len());
+    // SAFETY: as in `sheet`.
+    let answer = unsafe { library::tsav_convert(sheet.as_ptr(), sheet.len(), lent, room, &mut written, &mut place) };
+    contract::convert(answer, place, sheet.len())?;
+    contract::converted_length(written[0], sheet.len(), room)
+}
+
 /// Another version may write more than is lent here.
 fn compare_versions() -> Result<(), Error> {
     // SAFETY: nothing is lent.
@@ -152,6 +165,14 @@ mod library {
             sheet: *const u8,
             bytes: usize,
             report: *mut u8,
+            room: usize,
+            written: &mut [u64; 1],
+            place: &mut [u64; 2],
+        ) -> u64;
+        pub fn tsav_convert(
+            sheet: *const u8,
+            bytes: usize,
+            converted: *mut u8,
             room: usize,
             written: &mut [u64; 1],
             place: &mut [u64; 2],

@@ -1,7 +1,8 @@
 use super::*;
 use contract::{LINE, NOWHERE, POSITION};
 use reference::{
-    all_lines, example, fluctuation_cases, report_line, sheet_line, EXAMPLE_FIGURES, WHOLE_RUN, WHOLE_RUN_REPORT,
+    all_lines, example, fluctuation_cases, report_line, sheet_line, EXAMPLE_FIGURES, IN_THOUSANDS, WHOLE_RUN,
+    WHOLE_RUN_REPORT,
 };
 
 const OVER: u64 = LARGEST_AMOUNT + 1;
@@ -152,6 +153,42 @@ fn bought_business() {
     assert_eq!(sheet(&more, &mut [0; LONGEST_REPORT]), refused(1, Place::Nowhere));
 }
 
+/// A sheet in thousands of dollars, and back; the bytes behind are kept.
+#[test]
+fn the_convert_call() {
+    let mut cents = [b'#'; LONGEST_SHEET];
+    let length = IN_THOUSANDS.len();
+    assert_eq!(convert(IN_THOUSANDS, &mut cents), Ok(length));
+    assert!(cents[length..].iter().all(|&byte| byte == b'#'));
+    assert_eq!(cents[..SHEET_LINE], sheet_line("RSK", 1, 1, 100_000_000, 70_000_000));
+    assert_eq!(cents[length - SHEET_LINE..length], sheet_line("GEN", 0, 4, 10_000, 0));
+    assert_eq!(sheet(&cents[..length], &mut [0; LONGEST_REPORT]), Ok(report_length(1)));
+    let mut back = vec![b'#'; length];
+    assert_eq!(convert(&cents[..length], &mut back), Ok(length));
+    assert_eq!(back, IN_THOUSANDS);
+    assert_eq!(convert(b"", &mut []), Ok(0));
+}
+
+#[test]
+fn refusals_of_the_convert_call() {
+    let of = |bytes: &[u8]| convert(bytes, &mut [0; LONGEST_SHEET]);
+    assert_eq!(of(b"x"), refused(2, Place::Nowhere));
+    assert_eq!(of(&[0; LONGEST_SHEET + 1]), refused(1, Place::Nowhere));
+    assert_eq!(of(&[IN_THOUSANDS, b"x"].concat()), refused(2, Place::Nowhere));
+    assert_eq!(of(&[IN_THOUSANDS, &[b' '; SHEET_LINE + 1]].concat()), refused(3, Place::Line(14)));
+    assert_eq!(of(&[IN_THOUSANDS, &WHOLE_RUN[..SHEET_LINE]].concat()), refused(4, Place::Line(14)));
+    assert_eq!(of(&[IN_THOUSANDS, &IN_THOUSANDS[..SHEET_LINE]].concat()), refused(11, Place::Line(14)));
+    // The example has half a thousand in line 4. 999,999,999 thousands are the most.
+    assert_eq!(of(WHOLE_RUN), refused(20, Place::Line(4)));
+    assert_eq!(of(&sheet_line("vol", 1, 1, 999_999_999, 1_000_000_000)), refused(21, Place::Line(1)));
+    assert_eq!(of(&sheet_line("vol", 1, 1, 999_999_999, 999_999_999)), Ok(SHEET_LINE));
+    // 12 isn't tested.
+    assert_eq!(of(&sheet_line("RSK", 1, 1, 100_000, 0)), Ok(SHEET_LINE));
+    let mut converted = *b"any content";
+    assert_eq!(convert(IN_THOUSANDS, &mut converted), refused(14, Place::Nowhere));
+    assert_eq!(&converted, b"any content");
+}
+
 #[test]
 fn errors_in_words() {
     let words = |number: u8, place: Place| Error::Refused(Refusal { number, place }).to_string();
@@ -170,7 +207,7 @@ fn errors_in_words() {
     );
     assert_eq!(
         words(Breach::Length { length: 233, room: 232 }),
-        "the library broke its contract: a report of 233 bytes where 232 were lent"
+        "the library broke its contract: a length of 233 bytes where 232 were lent"
     );
 }
 
@@ -266,4 +303,21 @@ fn untouched_by_the_sheet_call() {
     assert_eq!(call(&[b' '; SHEET_LINE], &mut report), (3, [KEPT], [LINE, 1]));
     assert!(report.iter().all(|&byte| byte == b'#'));
     assert_eq!(call(WHOLE_RUN, &mut report), (0, [report_length(1) as u64], [KEPT; 2]));
+}
+
+#[test]
+fn untouched_by_the_convert_call() {
+    let call = |sheet: &[u8], converted: &mut [u8]| {
+        let (mut length, mut place) = ([KEPT; 1], [KEPT; 2]);
+        let (lent, room) = (converted.as_mut_ptr(), converted.len());
+        // SAFETY: as in `convert`.
+        let answer = unsafe { library::tsav_convert(sheet.as_ptr(), sheet.len(), lent, room, &mut length, &mut place) };
+        (answer, length, place)
+    };
+    let mut converted = [b'#'; LONGEST_SHEET];
+    assert_eq!(call(WHOLE_RUN, &mut converted), (20, [KEPT], [LINE, 4]));
+    assert_eq!(call(IN_THOUSANDS, &mut converted[..40]), (14, [KEPT], [NOWHERE, 0]));
+    assert_eq!(call(b"", &mut converted), (0, [0], [KEPT; 2]));
+    assert!(converted.iter().all(|&byte| byte == b'#'));
+    assert_eq!(call(IN_THOUSANDS, &mut converted), (0, [IN_THOUSANDS.len() as u64], [KEPT; 2]));
 }

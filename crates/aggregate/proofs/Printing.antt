@@ -14,12 +14,13 @@ use Rattle.guideline.specs.Sizes.{blocks}
 use Rattle.guideline.specs.Buffer.{count}
 use Rattle.report_line.specs.Line.{reportLineBytes}
 use Rattle.report_line.proofs.ReadBack.{Printable, length-line}
+use Rattle.report.specs.Printing.{Printed}
 use Rattle.report.specs.Rows.{REF, row, reportLength, longestReport, refusalLine}
 use Rattle.judgement.specs.Sheet.{sheetOf}
 use Rattle.judgement.specs.Judgement.{judgement}
 use Rattle.judgement.specs.Judgement.Judgement.{turnedAway}
 use Rattle.judgement.proofs.Accepted.{few-blocks, numbered}
-use Rattle.aggregate.specs.Call.{Done, reportOf, sheetCall, printout, Printed}
+use Rattle.aggregate.specs.Call.{Done, reportOf, sheetCall, printout}
 use Rattle.aggregate.proofs.Rows.{report-long}
 use Rattle.aggregate.proofs.Rules.{by-answer}
 

@@ -1,7 +1,6 @@
 -- The sheet call of document 01: what it answers, and every byte of the lent report afterwards. A sheet is judged; then comes rule 14, and
 -- then the report. A refusal leaves the report untouched.
 -- Assumes nothing.
-use mathlib.Core.Path.{_≡_}
 use mathlib.Core.List.{List, [], _∷_, _++_}
 use Prim.Native.Nat.{ℕ}
 use lib.Dec.{ltb}
@@ -74,8 +73,3 @@ sheetCall s r = afterJudgement (judgement s) r
 unfoldable pub printout : Judgement → List ℕ
 printout (turnedAway n p) = refusalLine n p
 printout (sound es) = reportOf es
-
--- a text from the start of a room on, how long it is, and the rest of the room as it was
-pub record Printed (text : List ℕ) (given : ℕ) (before after : List ℕ) : Type 0 where
-  pub count : given ≡ length text
-  pub bytes : after ≡ text ++ drop given before

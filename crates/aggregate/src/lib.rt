@@ -1,9 +1,10 @@
 // The sheet call: a sheet is judged, then come rule 14 and the report. And what tsav-sheet prints of a sheet.
 ghost use mathlib.Core.Path.{_≡_};
 ghost use lib.ListN.{length};
+ghost use Rattle.report.specs.Printing.{Printed};
 ghost use Rattle.report.specs.Rows.{longestReport};
 ghost use Rattle.judgement.specs.Judgement.{judgement};
-ghost use Rattle.aggregate.specs.Call.{stated, Done, sheetCall, printout, Printed};
+ghost use Rattle.aggregate.specs.Call.{stated, Done, sheetCall, printout};
 ghost use Rattle.aggregate.specs.Demand.{Demand3};
 use guideline::TABLE_NUMBERS;
 use judgement::Verdict;

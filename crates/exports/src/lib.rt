@@ -1,4 +1,4 @@
-// The four calls for C and Rust: a number is given back, and the rest is written into what the caller lends. An accepted call gives
+// The five calls for C and Rust: a number is given back, and the rest is written into what the caller lends. An accepted call gives
 // 0 and leaves the lent place as it was; a refused one gives its number and leaves all but the place as it was. Beside them the version of
 // these calls, for a caller to compare before it lends anything.
 ghost use mathlib.Core.Path.{_≡_};
@@ -10,10 +10,12 @@ ghost use Rattle.fluctuation.specs.Call.{fluctuationCall};
 ghost use Rattle.fluctuation.specs.Accepted.{FluctuationDemand};
 ghost use Rattle.aggregate.specs.Call.{sheetCall};
 ghost use Rattle.aggregate.specs.Demand.{Demand3};
+ghost use Rattle.convert.specs.Call.{convertCall, ConvertsBack};
 ghost use Rattle.exports.specs.Left.{placeOf, Leaves};
 ghost use Rattle.exports.specs.Version.{interfaceVersion};
 use aggregate::SheetAnswer;
 use block::BlockAnswer;
+use convert::ConvertAnswer;
 use fluctuation::FluctuationAnswer;
 use guideline::BLOCK_FIGURES;
 use guideline::BLOCK_NUMBERS;
@@ -130,6 +132,28 @@ pub extern "C" fn tsav_sheet(
             ACCEPTED
         }
         SheetAnswer::Refused(number, at) => refuse(number, at, place),
+    }
+}
+
+// Accepted, `written` holds how many bytes of the lent room are the converted sheet, from its start. Where 0 is given, it converts back.
+#[no_mangle]
+pub extern "C" fn tsav_convert(
+    sheet: &[u8],
+    room: &mut [u8],
+    written: &mut [u64; 1],
+    place: &mut [u64; 2],
+) -> u64
+    ensures { λ r. ⌜ now (room .exit) ≡ convertCall (now (sheet .entry)) (now (room .entry)) .room ⌝ }
+    ensures { λ r. ⌜ Leaves (convertCall (now (sheet .entry)) (now (room .entry)) .outcome) r (now (written .entry)) (now (place .entry)) (now (written .exit)) (now (place .exit)) ⌝ }
+    ensures { λ r. ⌜ (r ≡ 0 → ConvertsBack (now (sheet .entry)) (accepted (now (written .exit))) (now (room .exit))) ⌝ }
+{
+    let answer = convert::convert_call(sheet, room);
+    match answer {
+        ConvertAnswer::Accepted(length) => {
+            *written = [cast::word(length)];
+            ACCEPTED
+        }
+        ConvertAnswer::Refused(number, at) => refuse(number, at, place),
     }
 }
 

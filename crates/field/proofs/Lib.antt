@@ -2,3 +2,4 @@
 pub mod Reading
 pub mod Writing
 pub mod Inverse
+pub mod Put

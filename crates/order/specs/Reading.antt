@@ -38,19 +38,32 @@ unfoldable pub onLine : Line → ℕ → List Entry → (List Entry → Reading)
 onLine (Refused r) i seen next = stopped seen r i
 onLine (Good e) i seen next = next (e ∷ seen)
 
--- n lines from line number i on
-unfoldable pub readFrom : ℕ → ℕ → List ℕ → List Entry → Reading
-readFrom zero i s seen = complete seen
-readFrom (suc n) i s seen = onLine (lineAfter seen (parseLine (take sheetLineBytes s))) i seen (λ t. readFrom n (i + 1) (drop sheetLineBytes s) t)
+-- n lines from line number i on: a line is parsed, comes after the lines seen, and then passes a last test
+unfoldable pub readFrom : (List ℕ → Line) → (Line → Line) → ℕ → ℕ → List ℕ → List Entry → Reading
+readFrom parse test zero i s seen = complete seen
+readFrom parse test (suc n) i s seen =
+    onLine (test (lineAfter seen (parse (take sheetLineBytes s)))) i seen (λ t. readFrom parse test n (i + 1) (drop sheetLineBytes s) t)
+
+-- all lines of a sheet, by how a line is parsed and by the last test
+abbrev pub readingBy : (List ℕ → Line) → (Line → Line) → List ℕ → Reading
+readingBy parse test s = readFrom parse test (wholeLines s) 1 s []
+
+-- no test after 19
+abbrev pub untested : Line → Line
+untested l = l
 
 -- all lines of a sheet
 abbrev pub reading : List ℕ → Reading
-reading s = readFrom (wholeLines s) 1 s []
+reading s = readingBy parseLine untested s
 
--- the bytes of lines, the last line first in the list
-unfoldable pub printLines : List Entry → List ℕ
-printLines [] = []
-printLines (e ∷ es) = printLines es ++ printLine e
+-- the bytes of lines, the last line first in the list, by how an entry is printed
+unfoldable pub printBy : (Entry → List ℕ) → List Entry → List ℕ
+printBy print [] = []
+printBy print (e ∷ es) = printBy print es ++ print e
+
+-- the bytes of a sheet's lines
+abbrev pub printLines : List Entry → List ℕ
+printLines es = printBy printLine es
 
 -- the good lines before the first bad one
 abbrev pub entriesOf : Reading → List Entry

@@ -1,28 +1,16 @@
 -- A stretch of a line's bytes with a line written into it: the three fields put back after they were lent, then code and
 -- separators stored. Assumes nothing.
-use borrow.Rule.Slice.PartMut.{putMid, same-len-mid}
-use mathlib.Core.Path.{_≡_, refl, ap, _∙_}
+use borrow.Rule.Slice.PartMut.{putMid}
+use mathlib.Core.Path.{_≡_, refl}
 use mathlib.Core.List.{List}
-use Prim.Native.Nat.{ℕ, _+_, _≤_}
+use Prim.Native.Nat.{ℕ}
 use native.Mathlib.Omega.{arith}
-use lib.ListN.{length, getD, set, take, drop, length-drop}
-use lib.Seq.{length-take-le}
+use lib.ListN.{length, getD, set}
 use Rattle.guideline.specs.Sizes.{numberColumns}
 use Rattle.field.specs.Field.{leadingDigits, decimal}
-use Rattle.field.proofs.Writing.{length-decimal}
+use Rattle.field.proofs.Put.{Field-in, put-long, put-is}
 use Rattle.report_line.specs.Line.{reportLineBytes, key, reportLine}
 use Rattle.search.proofs.Values.{values, is-values}
-
--- `ys` is what the field writer leaves in the k columns of l from a on
-abbrev Field-in : List ℕ → ℕ → ℕ → ℕ → List ℕ → Type 0
-Field-in l a k v ys = ys ≡ decimal (length (take k (drop a l))) v
-
-module _ (l : List ℕ) (a k v : ℕ) (ys : List ℕ) (e : Field-in l a k v ys) where
-  put-long : length (putMid a k l ys) ≡ length l
-  put-long = same-len-mid a k l ys (ap length e ∙ length-decimal (length (take k (drop a l))) v)
-
-  put-is : k + a ≤ length l → ys ≡ decimal k v
-  put-is h = e ∙ ap (λ (n : ℕ). decimal n v) (length-take-le k (drop a l) (rw length-drop (omega arith)))
 
 -- code and separators stored into a stretch
 abbrev framed : List ℕ → List ℕ → List ℕ

@@ -29,7 +29,7 @@ use Rattle.sheet_line.proofs.Accepted.{good-line, line-good}
 
 -- ---- what stands in the columns of a printed line
 
-three-letters : (k : Code) → length (lettersOf k) ≡ 3
+pub three-letters : (k : Code) → length (lettersOf k) ≡ 3
 three-letters Rsk = refl
 three-letters Oth = refl
 three-letters Mor = refl

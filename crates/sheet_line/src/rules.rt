@@ -167,7 +167,7 @@ fn scalar_outside(code: Code, class: u64, first: u64) -> bool
 }
 
 // Whether a line is that of the scalar g.
-fn is_scalar(code: Code, class: u64) -> bool
+pub fn is_scalar(code: Code, class: u64) -> bool
     ensures { λ r. ⌜ r ≡ isScalar code class ⌝ }
 {
     match code {

@@ -1,11 +1,11 @@
-//! `differential_run SEED COUNT [FIRST]`: the library's four calls, through the wrapper, against the reference's, on
-//! COUNT generated sheets, block calls, operational calls and fluctuation calls from number FIRST on (0 where it isn't
-//! given).
+//! `differential_run SEED COUNT [FIRST]`: the library's five calls, through the wrapper, against the reference's, on
+//! COUNT generated sheets, block calls, operational calls, fluctuation calls and conversions from number FIRST on (0 where it
+//! isn't given).
 //!
-//! Compared are the answers and every byte of the lent report, and some bytes on both sides of it, which nobody may
+//! Compared are the answers and every byte of the lent room, and some bytes on both sides of it, which nobody may
 //! write. On each accepted sheet the library's report must also satisfy demand 3, with each K within 1.01 cents of the exact
-//! one, and each result of a fluctuation call document 02's rule of one cent. The same words give the same cases and the same
-//! output, however many processors share them.
+//! one, and each result of a fluctuation call document 02's rule of one cent; each converted sheet must convert back to the first
+//! one. The same words give the same cases and the same output, however many processors share them.
 
 use std::env;
 use std::fmt::{Debug, Write};
@@ -14,7 +14,7 @@ use std::thread;
 
 use reference::generate;
 
-const KINDS: [&str; 4] = ["sheet", "block call", "operational call", "fluctuation call"];
+const KINDS: [&str; 5] = ["sheet", "block call", "operational call", "fluctuation call", "conversion"];
 
 fn main() -> ExitCode {
     let words: Option<Vec<u64>> = env::args().skip(1).map(|word| word.parse().ok()).collect();
@@ -54,6 +54,7 @@ fn compare(seed: u64, count: u64, first: u64) -> Found {
             found.add(index, 1, block_case(seed, index));
             found.add(index, 2, operational_case(seed, index));
             found.add(index, 3, fluctuation_case(seed, index));
+            found.add(index, 4, convert_case(seed, index));
         }
         found
     };
@@ -109,6 +110,8 @@ impl Found {
         writeln!(text, "demand 3: {reports} reports, {} of them not decided by the bracket", self.undecided).unwrap();
         let results = self.answers[3][0];
         writeln!(text, "one cent: {results} results of fluctuation calls, all decided by whole numbers").unwrap();
+        let converted = self.answers[4][0];
+        writeln!(text, "both ways: {converted} converted sheets, each converted back").unwrap();
         if let Some((index, kind, about)) = &self.first {
             writeln!(text, "first difference: {} {index} of seed {seed}", KINDS[*kind]).unwrap();
             writeln!(text, "{about}again: tests/differential {seed} 1 {index}").unwrap();
@@ -143,30 +146,54 @@ fn agree<T: Debug + PartialEq>(
     Err(format!("{}library: {ours:?}\nreference: {theirs:?}\n", case()))
 }
 
-/// Bytes before and behind the lent report.
+/// Bytes before and behind the lent room.
 const MARGIN: usize = 32;
 
-fn sheet_case(seed: u64, index: u64) -> Result<Agreed, String> {
-    let (sheet, room) = generate::case(seed, index);
+/// What the library's call answers and what it leaves in the lent bytes, where both are the reference's.
+fn written(
+    (sheet, room): (&[u8], usize),
+    index: u64,
+    ours: impl Fn(&[u8], &mut [u8]) -> Result<usize, tsav::Error>,
+    theirs: impl Fn(&[u8], &mut [u8]) -> Result<usize, reference::Refusal>,
+) -> Result<(Agreed, Vec<u8>), String> {
     // Neighbouring bytes differ, and from one case to the next, so that none is written unseen.
     let before: Vec<u8> = (0..room + 2 * MARGIN).map(|at| (at as u64 * 31).wrapping_add(index) as u8).collect();
     let lent = MARGIN..MARGIN + room;
     let (mut one, mut two) = (before.clone(), before);
-    let ours = tsav::sheet(&sheet, &mut one[lent.clone()]);
-    let theirs = reference::sheet_call(&sheet, &mut two[lent.clone()]);
+    let ours = ours(sheet, &mut one[lent.clone()]);
+    let theirs = theirs(sheet, &mut two[lent.clone()]);
 
-    let case = || format!("sheet: b\"{}\"\nroom: {room}\n", sheet.escape_ascii());
-    let mut agreed = agree(case, ours, theirs)?;
+    let agreed = agree(|| about(sheet, room), ours, theirs)?;
     if one != two {
         let (one, two) = (one.escape_ascii(), two.escape_ascii());
         return Err(format!(
-            "{}report of the library, {MARGIN} bytes before and behind: b\"{one}\"\nof the reference: b\"{two}\"\n",
-            case()
+            "{}room of the library, {MARGIN} bytes before and behind: b\"{one}\"\nof the reference: b\"{two}\"\n",
+            about(sheet, room)
         ));
     }
-    if let Ok(length) = ours {
-        let judged = reference::judge(&sheet, &one[lent][..length]);
-        agreed.decided = judged.map_err(|why| format!("{}demand 3: {why}\n", case()))?;
+    Ok((agreed, one[lent][..ours.unwrap_or(0)].to_vec()))
+}
+
+fn about(sheet: &[u8], room: usize) -> String {
+    format!("sheet: b\"{}\"\nroom: {room}\n", sheet.escape_ascii())
+}
+
+fn sheet_case(seed: u64, index: u64) -> Result<Agreed, String> {
+    let (sheet, room) = generate::case(seed, index);
+    let (mut agreed, report) = written((&sheet, room), index, tsav::sheet, reference::sheet_call)?;
+    if agreed.answer == 0 {
+        let judged = reference::judge(&sheet, &report);
+        agreed.decided = judged.map_err(|why| format!("{}demand 3: {why}\n", about(&sheet, room)))?;
+    }
+    Ok(agreed)
+}
+
+fn convert_case(seed: u64, index: u64) -> Result<Agreed, String> {
+    let (sheet, room) = generate::convert_case(seed, index);
+    let (agreed, converted) = written((&sheet, room), index, tsav::convert, reference::convert_call)?;
+    let mut back = vec![0; sheet.len()];
+    if agreed.answer == 0 && (tsav::convert(&converted, &mut back) != Ok(sheet.len()) || back != sheet) {
+        return Err(format!("{}converted back: b\"{}\"\n", about(&sheet, room), back.escape_ascii()));
     }
     Ok(agreed)
 }

@@ -7,6 +7,9 @@ use crate::{BLOCK_NUMBERS, BLOCK_VALUES};
 pub const WHOLE_RUN: &[u8] = include_bytes!("../../../examples/example.sheet");
 pub const WHOLE_RUN_REPORT: &str = include_str!("../../../crates/tsav_sheet/stdout");
 
+/// #110: a sheet in thousands of dollars, with the lines of the whole run.
+pub const IN_THOUSANDS: &[u8] = include_bytes!("../../../examples/thousands.sheet");
+
 /// I, D, U, LT and K of the example, as "Calibration points" has them; then the steps of #107, by #109 of the finer roots: that of
 /// I, PC not yet added, is 15,288,417,185 hundredths of the half cent, between 2^33 and 2^34, and that of D 19,140,543,664, above
 /// 2^34.

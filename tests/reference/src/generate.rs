@@ -1,5 +1,5 @@
-//! A seeded generator of sheets, sound and damaged, and of rooms for their reports; and of numbers for the other three
-//! calls.
+//! A seeded generator of sheets, sound and damaged, and of rooms for their reports; of sheets to convert; and of numbers for
+//! the other three calls.
 //! The same seed and index always give the same case.
 
 use crate::block::{EXPENSES_LT, PC};
@@ -13,13 +13,98 @@ pub fn case(seed: u64, index: u64) -> (Vec<u8>, usize) {
     let mut random = Random::new(seed, index);
     let lines = sound_lines(&mut random);
     let room = room(&mut random, &lines);
-    let sheet = if random.one_in(2) { bytes(&lines) } else { damaged(&mut random, lines) };
+    let sheet = if random.one_in(2) { bytes(&lines) } else { damaged(&mut random, lines, 0) };
     (sheet, room)
 }
 
 /// Sheet `index` of `seed`, one that is accepted.
 pub fn accepted(seed: u64, index: u64) -> Vec<u8> {
     bytes(&sound_lines(&mut Random::new(seed, index)))
+}
+
+/// #110: converting call `index` of `seed`: a sheet, in cents or in thousands of dollars, and the length of the room to lend.
+pub fn convert_case(seed: u64, index: u64) -> (Vec<u8>, usize) {
+    let mut random = Random::new(seed, index);
+    let small = random.one_in(2);
+    let mut lines = sound_lines(&mut random);
+    lines.iter_mut().filter(|l| !l.is_scalar()).for_each(|l| in_whole_thousands(l, small));
+    // 12 isn't tested.
+    match random.below(32) {
+        0 => lines.clear(),
+        1..=4 => lines.retain(|l| !l.is_scalar()),
+        _ => {}
+    }
+    if !lines.is_empty() && random.one_in(4) {
+        amount_out_of_unit(&mut random, &mut lines, small);
+    }
+    let sound = lines.is_empty() || random.below(8) < 5;
+    let mut sheet = if sound { bytes(&lines) } else { damaged(&mut random, lines, FIRST_OF_A_LINE) };
+    if small {
+        sheet.chunks_mut(LINE_BYTES).filter(|l| l.len() > CODE.end).for_each(|l| l[CODE].make_ascii_lowercase());
+    }
+    if random.one_in(8) {
+        in_other_letters(&mut random, &mut sheet);
+    }
+    let any = random.at(LONGEST_SHEET);
+    let (exact, less) = (sheet.len(), sheet.len().saturating_sub(1));
+    let room = random.pick(&[0, less, any, exact, exact, exact, exact, exact + 1, exact + 3, LONGEST_SHEET]);
+    (sheet, room)
+}
+
+/// The line's amounts rounded down to whole thousands of dollars, in the unit of the sheet.
+fn in_whole_thousands(line: &mut Line, small: bool) {
+    let unit = if small { 1 } else { THOUSAND_DOLLARS };
+    line.first = line.first / THOUSAND_DOLLARS * unit;
+    line.second = line.second / THOUSAND_DOLLARS * unit;
+}
+
+/// 20, or 21 in a small sheet, of the first amount, or of the second where there is one; in the scalar's line 10 or nothing.
+/// Alone, beside 19 or beside 11 in the same line.
+fn amount_out_of_unit(random: &mut Random, lines: &mut Vec<Line>, small: bool) {
+    let at = random.at(lines.len());
+    let line = &mut lines[at];
+    let highest = LARGEST_AMOUNT / THOUSAND_DOLLARS;
+    let (near, far) = (random.from(1, THOUSAND_DOLLARS - 1), random.from(highest + 1, LARGEST_AMOUNT));
+    let amount = if small {
+        random.pick(&[highest + 1, highest + 1, LARGEST_AMOUNT, far])
+    } else {
+        let any = random.from(1, LARGEST_AMOUNT);
+        random.pick(&[1, THOUSAND_DOLLARS - 1, line.first + near, line.first.saturating_sub(near), any])
+    };
+    let amount = amount.min(LARGEST_AMOUNT);
+    match line.code {
+        "VOL" | "MOR" if random.one_in(2) => line.second = amount,
+        // Both amounts, or the second alone: that of RSK isn't above the first.
+        "RSK" if line.class != EXPENSES && random.one_in(2) => {
+            line.second = amount;
+            line.first =
+                if small { line.first.max(amount) } else { line.first.max(amount.next_multiple_of(THOUSAND_DOLLARS)) };
+            line.first = line.first.min(LARGEST_AMOUNT);
+        }
+        _ => line.first = amount,
+    }
+    match random.below(6) {
+        0 if at + 1 < lines.len() => lines.swap(at, at + 1),
+        1 if lines.len() < MOST_LINES => {
+            lines.insert(at, Line { first: u64::from(lines[at].is_scalar()), second: 0, ..lines[at] });
+        }
+        _ => {}
+    }
+}
+
+/// 4: a line, the first too, with one letter of its code or all of them capital in place of small, and small in place of capital.
+fn in_other_letters(random: &mut Random, sheet: &mut [u8]) {
+    let whole_lines = sheet.len() / LINE_BYTES;
+    if whole_lines == 0 {
+        return;
+    }
+    let (last, any) = (whole_lines - 1, random.at(whole_lines));
+    let at = LINE_BYTES * random.pick(&[0, last.min(1), last, any, any]);
+    let letter = random.at(CODE.len());
+    let letters = if random.one_in(2) { CODE } else { letter..letter + 1 };
+    for byte in &mut sheet[at..at + LINE_BYTES][letters] {
+        *byte = if byte.is_ascii_lowercase() { byte.to_ascii_uppercase() } else { byte.to_ascii_lowercase() };
+    }
 }
 
 /// The numbers of block call `index` of `seed`: sound, with faults, or of any size.
@@ -561,14 +646,15 @@ fn room(random: &mut Random, lines: &[Line]) -> usize {
 
 // Damaged sheets
 
-/// The kinds of faults, and how many of them are of lines; the others are of bytes.
+/// The kinds of faults, and how many of them are of lines, the first ones of the whole sheet; the others are of bytes.
 const KINDS: u64 = 23;
 const OF_LINES: u64 = 13;
+const FIRST_OF_A_LINE: u64 = 3;
 
-/// A sound sheet with one fault, or two or three of any kinds together.
-fn damaged(random: &mut Random, mut lines: Vec<Line>) -> Vec<u8> {
+/// A sound sheet with one fault, or two or three of any kinds together, from this kind on.
+fn damaged(random: &mut Random, mut lines: Vec<Line>, first: u64) -> Vec<u8> {
     let faults = random.pick(&[1, 1, 1, 2, 2, 3]);
-    let mut kinds: Vec<u64> = (0..faults).map(|_| random.below(KINDS)).collect();
+    let mut kinds: Vec<u64> = (0..faults).map(|_| random.from(first, KINDS - 1)).collect();
     // Faults of lines come before faults of bytes, those of 13, 17 and 16 first, because they need sound lines.
     kinds.sort();
     kinds.dedup();

@@ -1,4 +1,4 @@
-//! The calculator of document 01, with requests #101, #102 and #104 to #109 of document 02, in plain Rust with u128: no
+//! The calculator of document 01, with requests #101, #102 and #104 to #110 of document 02, in plain Rust with u128: no
 //! dependency, nothing clever, and no code shared with the calculator itself. It is a test oracle: what it answers is
 //! compared with what the calculator answers.
 //!
@@ -9,6 +9,7 @@
 
 mod big;
 mod block;
+mod convert;
 mod demand3;
 mod example;
 mod fluctuation;
@@ -18,8 +19,9 @@ mod operational;
 mod sheet;
 
 pub use block::block_call;
+pub use convert::{convert_call, THOUSAND_DOLLARS};
 pub use demand3::{demand3, judge};
-pub use example::{example, EXAMPLE_FIGURES, WHOLE_RUN, WHOLE_RUN_REPORT};
+pub use example::{example, EXAMPLE_FIGURES, IN_THOUSANDS, WHOLE_RUN, WHOLE_RUN_REPORT};
 pub use fluctuation::{fluctuation_call, fluctuation_cases, judge_fluctuation, FluctuationCase, FLUCTUATION_ROWS};
 pub use mortality::{aggregate, mortality_credit};
 pub use operational::operational_call;

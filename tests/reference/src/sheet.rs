@@ -181,8 +181,8 @@ pub fn all_lines(blocks: usize) -> Vec<(&'static str, u64, u64)> {
     CODES.into_iter().flat_map(of_code).collect()
 }
 
-/// "What is turned away": 1, 2, the first bad line, in it by #105 19 last, 12; by #101 then 16.
-pub(crate) fn read_sheet(bytes: &[u8]) -> Result<Sheet, Refusal> {
+/// "What is turned away": 1, then 2, before which #108 tests the whole lines for 3.
+pub(crate) fn measure(bytes: &[u8]) -> Result<(), Refusal> {
     if bytes.len() > LONGEST_SHEET {
         return Err(Refusal::nowhere(1));
     }
@@ -190,6 +190,37 @@ pub(crate) fn read_sheet(bytes: &[u8]) -> Result<Sheet, Refusal> {
         // #108: "3 with the first bad whole line, and 2 if all are sound".
         return Err(first_broken_line(bytes).map_or(Refusal::nowhere(2), |line| Refusal::at_line(3, line)));
     }
+    Ok(())
+}
+
+/// The lines that were read, for the rules of a line beside those before it.
+#[derive(Default)]
+pub(crate) struct Before {
+    all: BTreeSet<Key>,
+    last: Option<Key>,
+}
+
+impl Before {
+    /// One line more, tested for 3 to 10, then 11, and by #105 last for 19.
+    pub fn read<'a>(&mut self, bytes: &'a [u8]) -> Result<Line<'a>, u8> {
+        let line = read_line(bytes)?;
+        let key = key_of(line.code, line.block, line.class);
+        // 11: code, block and class stood before.
+        if !self.all.insert(key) {
+            return Err(11);
+        }
+        // 19, by #105: the line doesn't come after the one before it.
+        if self.last.is_some_and(|last| key <= last) {
+            return Err(19);
+        }
+        self.last = Some(key);
+        Ok(line)
+    }
+}
+
+/// "What is turned away": 1, 2, the first bad line, in it by #105 19 last, 12; by #101 then 16.
+pub(crate) fn read_sheet(bytes: &[u8]) -> Result<Sheet, Refusal> {
+    measure(bytes)?;
     let mut sheet = Sheet {
         blocks: BTreeMap::new(),
         mortality: BTreeMap::new(),
@@ -199,19 +230,9 @@ pub(crate) fn read_sheet(bytes: &[u8]) -> Result<Sheet, Refusal> {
         acquired: [0; MOST_TERRITORIES * VOLUME_CLASSES],
         general: [0; GENERAL_CLASSES],
     };
-    let (mut stood_before, mut line_before) = (BTreeSet::new(), None);
+    let mut before = Before::default();
     for (at, bytes) in bytes.chunks(LINE_BYTES).enumerate() {
-        let line = read_line(bytes).map_err(|number| Refusal::at_line(number, at + 1))?;
-        let key = key_of(line.code, line.block, line.class);
-        // 11: code, block and class stood before.
-        if !stood_before.insert(key) {
-            return Err(Refusal::at_line(11, at + 1));
-        }
-        // 19, by #105: the line doesn't come after the one before it.
-        if line_before.is_some_and(|before| key <= before) {
-            return Err(Refusal::at_line(19, at + 1));
-        }
-        line_before = Some(key);
+        let line = before.read(bytes).map_err(|number| Refusal::at_line(number, at + 1))?;
         sheet.enter(&line);
     }
     // An accepted g line is never 0, so 0 means that there is none.
@@ -232,12 +253,12 @@ fn first_broken_line(bytes: &[u8]) -> Option<usize> {
     (1..=whole_lines).find(|line| read_layout(&bytes[LINE_BYTES * (line - 1)..LINE_BYTES * line]).is_none())
 }
 
-struct Line<'a> {
-    code: &'a [u8],
-    block: u64,
-    class: u64,
-    first: u64,
-    second: u64,
+pub(crate) struct Line<'a> {
+    pub code: &'a [u8],
+    pub block: u64,
+    pub class: u64,
+    pub first: u64,
+    pub second: u64,
 }
 
 /// One line, tested for 3, 4, 5, 6, 8, 9 and 10 in this order.

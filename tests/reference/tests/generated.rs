@@ -1,6 +1,6 @@
 //! Generated sheets.
 
-use reference::generate::{accepted, block_numbers, case, fluctuation_numbers, operational_numbers};
+use reference::generate::{accepted, block_numbers, case, convert_case, fluctuation_numbers, operational_numbers};
 use reference::*;
 use std::collections::{BTreeMap, BTreeSet};
 
@@ -93,6 +93,55 @@ fn cases_reach_every_row() {
     let reached: Vec<u8> = counts.keys().copied().collect();
     assert_eq!(reached, [0, 1, 2, 3, 4, 5, 6, 8, 9, 10, 11, 12, 13, 14, 16, 17, 19]);
     assert!(counts.values().all(|&count| count >= 100), "{counts:?}");
+}
+
+/// #110: the sheets to convert reach every row that the converting call has, from both units; a refusal changes no byte, and an
+/// answer none past its length. What is converted, from cents or from thousands, converts back to the same bytes; 20 is of
+/// cents alone and 21 of thousands, at either amount.
+#[test]
+fn conversions_of_every_kind() {
+    let (cases, mut counts) = (10_000, [BTreeMap::new(), BTreeMap::new()]);
+    let (mut seconds, mut without_scalar, mut later_letters) = (BTreeSet::new(), 0, 0);
+    for index in 0..cases {
+        let (sheet, room) = convert_case(5, index);
+        let mut converted = vec![b'#'; room];
+        let answer = convert_call(&sheet, &mut converted);
+        let length = answer.unwrap_or(0);
+        assert!(converted[length..].iter().all(|&byte| byte == b'#'), "case {index}");
+        let small = sheet.first().is_some_and(u8::is_ascii_lowercase);
+        let number = answer.map_or_else(|refusal| refusal.number, |_| 0);
+        *counts[usize::from(small)].entry(number).or_insert(0) += 1;
+        match answer {
+            Ok(_) => {
+                assert_eq!(length, sheet.len());
+                let mut back = vec![0; length];
+                assert_eq!(convert_call(&converted[..length], &mut back), Ok(length), "case {index}");
+                assert_eq!(back, sheet, "case {index}");
+                without_scalar +=
+                    usize::from(!sheet.chunks(LINE_BYTES).any(|line| line[..9].eq_ignore_ascii_case(b"GEN  0  4")));
+            }
+            Err(Refusal { number: 20 | 21, place: Place::Line(at) }) => {
+                let line = &sheet[LINE_BYTES * (at - 1)..LINE_BYTES * at];
+                let number_of = |field: &[u8]| std::str::from_utf8(field).unwrap().trim().parse::<u64>().unwrap();
+                let wrong = |amount: u64| if small { amount > 999_999_999 } else { amount % THOUSAND_DOLLARS > 0 };
+                seconds.insert((small, wrong(number_of(&line[10..24])), wrong(number_of(&line[25..39]))));
+            }
+            Err(Refusal { number: 4, place: Place::Line(at) }) if at > 1 => {
+                let code = &sheet[LINE_BYTES * (at - 1)..][..3];
+                later_letters += usize::from(code.iter().any(u8::is_ascii_lowercase) != small);
+            }
+            _ => {}
+        }
+    }
+    println!("answers of {cases} cases in cents and in thousands, 0 for accepted: {counts:?}");
+    println!("accepted without a scalar: {without_scalar}; 4 in the letters of the other unit: {later_letters}");
+    assert!(counts[0].keys().eq(&[0, 1, 2, 3, 4, 5, 6, 8, 9, 10, 11, 14, 19, 20]), "{counts:?}");
+    assert!(counts[1].keys().eq(&[0, 1, 2, 3, 4, 5, 6, 8, 9, 10, 11, 14, 19, 21]), "{counts:?}");
+    assert!(counts.iter().flat_map(BTreeMap::values).all(|&count| count >= 30), "{counts:?}");
+    assert!(without_scalar >= 100 && later_letters >= 100);
+    // The first amount alone, the second alone, both; never neither.
+    assert_eq!(seconds.len(), 6, "{seconds:?}");
+    assert!(seconds.iter().all(|&(_, first, second)| first || second));
 }
 
 /// The numbers of the other three calls reach every row that these can give, and 7 at positions of every size.

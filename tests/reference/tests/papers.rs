@@ -787,3 +787,184 @@ fn demand_3_on_the_whole_run() {
     let all_but_the_last = &WHOLE_RUN_REPORT.as_bytes()[..report_length(1) - REPORT_LINE_BYTES];
     assert!(demand3(WHOLE_RUN, all_but_the_last).is_err());
 }
+
+/// #110: the converting call with so much room, which has other bytes behind what is written and all of them where it is refused.
+fn convert(sheet: &[u8], room: usize) -> Result<Vec<u8>, Refusal> {
+    let mut converted = vec![b'#'; room];
+    let answer = convert_call(sheet, &mut converted);
+    let length = answer.unwrap_or(0);
+    assert!(converted[length..].iter().all(|&byte| byte == b'#'));
+    converted.truncate(length);
+    answer.map(|_| converted)
+}
+
+/// #110: lines with a first and a second amount, in the order in which they are given.
+fn lines(lines: &[(&str, u64, u64, u64, u64)]) -> Vec<u8> {
+    lines
+        .iter()
+        .flat_map(|&(code, block, class, first, second)| sheet_line(code, block, class, first, second))
+        .collect()
+}
+
+/// #110: "multiplied or divided by 100,000"; "The scalar's line keeps its number"; "A converted sheet converted back is the first
+/// one, byte for byte". The example's line 4 has half a thousand.
+#[test]
+fn both_ways() {
+    let cents = convert(IN_THOUSANDS, LONGEST_SHEET).unwrap();
+    let expected = lines(&[
+        ("RSK", 1, 1, 100_000_000, 70_000_000),
+        ("RSK", 1, 2, 300_000, 300_000),
+        ("RSK", 1, 3, 5_000_000, 1_000_000),
+        ("RSK", 1, 4, 300_000, 100_000),
+        ("RSK", 1, 5, 30_000_000, 15_000_000),
+        ("RSK", 1, 6, 10_000_000, 4_000_000),
+        ("RSK", 1, 7, 1_000_000, 0),
+        ("OTH", 1, 1, 2_500_000, 0),
+        ("OTH", 1, 2, 20_000_000, 0),
+        ("OTH", 1, 3, 7_500_000, 0),
+        ("VOL", 1, 1, 15_000_000, 10_000_000),
+        ("GEN", 0, 1, 200_000_000, 0),
+        ("GEN", 0, 4, 10_000, 0),
+    ]);
+    assert_eq!(cents, expected);
+    assert!(run(&cents).is_ok());
+    assert_eq!(convert(&cents, cents.len()), Ok(IN_THOUSANDS.to_vec()));
+    // The sheet call takes no small letters.
+    assert_eq!(run(IN_THOUSANDS), Err(Refusal::at_line(4, 1)));
+    assert_eq!(convert(WHOLE_RUN, LONGEST_SHEET), Err(Refusal::at_line(20, 4)));
+
+    // Every line that there is, at the most that both sorts can have.
+    let most = LARGEST_AMOUNT / THOUSAND_DOLLARS;
+    let longest = |small: bool| {
+        let line = |&(code, block, class): &(&str, u64, u64)| {
+            let amount = match (small, code == "GEN" && class == SCALAR) {
+                (_, true) => 20_000,
+                (true, _) => most,
+                (false, _) => most * THOUSAND_DOLLARS,
+            };
+            let code = if small { code.to_lowercase() } else { code.to_string() };
+            sheet_line(&code, block, class, amount, 0)
+        };
+        all_lines(MOST_BLOCKS).iter().flat_map(line).collect::<Vec<u8>>()
+    };
+    assert_eq!(convert(&longest(true), LONGEST_SHEET), Ok(longest(false)));
+    assert_eq!(convert(&longest(false), LONGEST_SHEET), Ok(longest(true)));
+    assert_eq!(convert(&[longest(true), longest(true)[..1].to_vec()].concat(), 0), Err(Refusal::nowhere(1)));
+}
+
+/// #110: "rules 12, 13, 16 and 17 aren't tested", in either unit; and an empty sheet has nothing to refuse.
+#[test]
+fn rules_that_a_conversion_passes_over() {
+    for (given, expected) in [
+        (("OTH", 1, 1, 100_000, 0), ("oth", 1, 1, 1, 0)),       // 12
+        (("GEN", 0, 5, 700_000, 0), ("gen", 0, 5, 7, 0)),       // 12 and 13
+        (("MOR", 1, 1, 500_000, 900_000), ("mor", 1, 1, 5, 9)), // 12 and 16
+        (("CRD", 17, 1, 200_000, 0), ("crd", 17, 1, 2, 0)),     // 12 and 17
+        (("ACQ", 16, 8, 200_000, 0), ("acq", 16, 8, 2, 0)),
+        (("VOL", 16, 8, 0, 400_000), ("vol", 16, 8, 0, 4)),
+        (("GEN", 0, 4, 20_000, 0), ("gen", 0, 4, 20_000, 0)), // the scalar's
+        (("GEN", 0, 4, 1, 0), ("gen", 0, 4, 1, 0)),
+    ] {
+        let (given, expected) = (lines(&[given]), lines(&[expected]));
+        assert_eq!(convert(&given, LINE_BYTES), Ok(expected.clone()));
+        assert_eq!(convert(&expected, LINE_BYTES + 1), Ok(given));
+    }
+    assert_eq!(convert(b"", 0), Ok(Vec::new()));
+    assert_eq!(convert(b"", 5), Ok(Vec::new()));
+}
+
+/// #110: 20 and 21 "with its line", alone, beside faults of the same line that come before them, beside one of the same sheet that
+/// comes before or after, and beside 14, "last".
+#[test]
+fn refusals_of_the_converting_call() {
+    let at = |number, line| Err(Refusal::at_line(number, line));
+    let over = LARGEST_AMOUNT / THOUSAND_DOLLARS + 1;
+    for (number, rsk, oth, vol, gen, good, wrong) in
+        [(20, "RSK", "OTH", "VOL", "GEN", 100_000, 100_001), (21, "rsk", "oth", "vol", "gen", 1, over)]
+    {
+        let call = |given: &[(&str, u64, u64, u64, u64)]| convert(&lines(given), LONGEST_SHEET);
+        let all = [(rsk, 1, 1, good, good), (oth, 1, 1, good, 0), (vol, 1, 1, good, good), (gen, 0, 1, good, 0)];
+        let with = |place: usize, line: (&'static str, u64, u64, u64, u64)| {
+            let mut all = all;
+            all[place] = line;
+            call(&all)
+        };
+        assert!(call(&all).is_ok());
+        // Alone: the first amount, the second, both.
+        assert_eq!(with(1, (oth, 1, 1, wrong, 0)), at(number, 2));
+        assert_eq!(with(2, (vol, 1, 1, good, wrong)), at(number, 3));
+        assert_eq!(with(2, (vol, 1, 1, wrong, good)), at(number, 3));
+        assert_eq!(with(0, (rsk, 1, 1, wrong, wrong)), at(number, 1));
+        // In the same line: 5, 6, 8, 9, 11 and 19 come before it.
+        assert_eq!(with(1, (oth, 33, 1, wrong, 0)), at(5, 2));
+        assert_eq!(with(1, (oth, 1, 4, wrong, 0)), at(6, 2));
+        assert_eq!(with(1, (oth, 1, 1, wrong, 1)), at(8, 2));
+        assert_eq!(with(0, (rsk, 1, 1, good, wrong)), at(9, 1));
+        assert_eq!(with(1, (rsk, 1, 1, wrong, 0)), at(11, 2));
+        assert_eq!(with(2, (rsk, 1, 7, wrong, 0)), at(19, 3));
+        // 3 and 4 of the same line.
+        let mut broken = lines(&[(oth, 1, 1, wrong, 0)]);
+        broken[3] = b'x';
+        assert_eq!(convert(&broken, LONGEST_SHEET), at(3, 1));
+        assert_eq!(with(1, ("Oth", 1, 1, wrong, 0)), at(4, 2));
+        // The scalar's line: 10, and never the unit.
+        assert_eq!(with(3, (gen, 0, 4, over, 0)), at(10, 4));
+        assert!(with(3, (gen, 0, 4, 12_345, 0)).is_ok());
+        // An earlier line's fault is told, and so is this one before a later line's.
+        assert_eq!(call(&[(oth, 1, 1, wrong, 0), (oth, 1, 1, 0, 0)]), at(number, 1));
+        assert_eq!(call(&[(oth, 1, 1, 0, 0), (oth, 1, 1, 0, 0), (oth, 1, 2, wrong, 0)]), at(11, 2));
+        // 14 comes last.
+        let (sound, bad) = (lines(&all), lines(&[(oth, 1, 1, wrong, 0)]));
+        assert_eq!(convert(&sound, sound.len() - 1), Err(Refusal::nowhere(14)));
+        assert_eq!(convert(&sound, 0), Err(Refusal::nowhere(14)));
+        assert_eq!(convert(&bad, 0), at(number, 1));
+        assert_eq!(convert(&sound, sound.len()).map(|bytes| bytes.len()), Ok(sound.len()));
+        // 1, 2 and #108's 3 come first.
+        assert_eq!(convert(&[&bad[..], b"x"].concat(), 0), Err(Refusal::nowhere(2)));
+        assert_eq!(convert(&[&bad[..], &broken, b"x"].concat(), 0), at(3, 2));
+        assert_eq!(convert(&bad.repeat(630), 0), Err(Refusal::nowhere(1)));
+    }
+    // 999,999,999 thousand dollars are the most that 14 digits of cents hold.
+    assert_eq!(
+        convert(&lines(&[("vol", 1, 1, over - 1, over - 1)]), 40),
+        Ok(lines(&[("VOL", 1, 1, 99_999_999_900_000, 99_999_999_900_000)]))
+    );
+    assert_eq!(convert(&lines(&[("vol", 1, 1, LARGEST_AMOUNT, 0)]), 40), at(21, 1));
+    // In cents any amount has so few thousands, and in thousands any amount is whole.
+    assert_eq!(convert(&lines(&[("OTH", 1, 1, LARGEST_AMOUNT, 0)]), 40), at(20, 1));
+    assert_eq!(convert(&lines(&[("oth", 1, 1, 1, 0)]), 40), Ok(lines(&[("OTH", 1, 1, 100_000, 0)])));
+}
+
+/// #110: "Mixed capital and small codes in one sheet fall under rule 4 at the first line that differs from line 1", in its turn; a
+/// code of both is no code.
+#[test]
+fn letters_of_a_sheet() {
+    let call = |given: &[&str]| {
+        let all: Vec<_> = (1..).zip(given).map(|(class, code)| (*code, 1, class, 0, 0)).collect();
+        convert(&lines(&all), LONGEST_SHEET).map(|_| ())
+    };
+    let at = |line| Err(Refusal::at_line(4, line));
+    assert_eq!(call(&["RSK", "RSK", "RSK"]), Ok(()));
+    assert_eq!(call(&["rsk", "rsk", "rsk"]), Ok(()));
+    assert_eq!(call(&["RSK", "rsk", "RSK"]), at(2));
+    assert_eq!(call(&["rsk", "RSK", "rsk"]), at(2));
+    assert_eq!(call(&["RSK", "RSK", "rsk"]), at(3));
+    assert_eq!(call(&["rsk", "rsk", "RSK"]), at(3));
+    for mixed in ["Rsk", "rSK", "RsK", "rsK", "RSk", "rSk"] {
+        assert_eq!(call(&[mixed, mixed]), at(1));
+        assert_eq!(call(&["RSK", mixed]), at(2));
+        assert_eq!(call(&["rsk", mixed]), at(2));
+    }
+    for none in ["xyz", "XYZ", "   ", "123", "[\\]", "blk"] {
+        assert_eq!(call(&[none]), at(1));
+        assert_eq!(call(&["rsk", none]), at(2));
+    }
+    // Rule 3 of the same line comes before it, and so does a fault of an earlier line; a later line's comes after it.
+    let mut differing = lines(&[("rsk", 1, 1, 0, 0), ("RSK", 1, 2, 0, 0)]);
+    differing[LINE_BYTES + 3] = b'x';
+    assert_eq!(convert(&differing, 80), Err(Refusal::at_line(3, 2)));
+    let twice = [("rsk", 1, 1, 0, 0), ("rsk", 1, 1, 0, 0), ("RSK", 1, 2, 0, 0)];
+    assert_eq!(convert(&lines(&twice), 120), Err(Refusal::at_line(11, 2)));
+    let differing = [("rsk", 1, 1, 0, 0), ("RSK", 33, 9, 0, 0), ("rsk", 1, 1, 0, 0)];
+    assert_eq!(convert(&lines(&differing), 0), at(2).map(|_: ()| Vec::new()));
+}

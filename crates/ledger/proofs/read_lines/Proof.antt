@@ -2,7 +2,7 @@
 -- gives what all lines give. Assumes nothing.
 use Prim.Native.Nat.{_-_}
 use borrow.Author.Needs.{needs}
-use Rattle.order.proofs.Lines.{lent-keyed, admitted-good}
+use Rattle.order.proofs.Lines.{own, lent-keyed, admitted-good}
 use Rattle.ledger.proofs.Filling.{FilledTo, start, turned, again, done}
 use Rattle.ledger.proofs.read_lines.Statement.{statement}
 use Rattle.ledger.proofs.read_lines.Tie as tie
@@ -20,7 +20,7 @@ admit-requires : tie.Need-admit-requires Inv-loop μ-loop
 admit-requires c κs =
     let r = c .before in
     let t = r .before .before in
-    rw (← r .read-line .ensures) at (lent-keyed (t .before .loop .inv .read) (t .loop-test .taken))
+    rw (← r .read-line .ensures) at (lent-keyed own (t .before .loop .inv .read) (t .loop-test .taken))
 
 returns : tie.Need-returns Inv-loop μ-loop
 returns c =
@@ -34,7 +34,7 @@ key-of-requires c κs =
     let a = c .before .before .before in
     let r = a .before .before in
     let t = r .before .before in
-    admitted-good (t .before .loop .inv .read) (t .loop-test .taken) (rw (r .read-line .ensures) at (a .admit .ensures)) (c .before .line2 .given .1) .key
+    admitted-good own (t .before .loop .inv .read) (t .loop-test .taken) (rw (r .read-line .ensures) at (a .admit .ensures)) (c .before .line2 .given .1) .key
 
 enter-requires : tie.Need-enter-requires Inv-loop μ-loop
 enter-requires c κs = key-of-requires (c .before .before .before) tt

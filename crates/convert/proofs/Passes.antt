@@ -1,0 +1,148 @@
+-- The two passes over a sheet's lines, after i of them: the first has tested them, with the marks and the last key; the second has written them.
+-- Assumes nothing.
+use borrow.Rule.Slice.PartMut.{putMid, same-len-mid}
+use mathlib.Core.Path.{_≡_, refl, sym, ap, _∙_, subst}
+use mathlib.Core.List.{List, [], _∷_, _++_, map}
+use Prim.Native.Nat.{ℕ, _+_, _-_, _*_, _%_, _≤_, _<_}
+use native.Mathlib.Omega.{arith}
+use lib.ListN.{length, take, drop, length-drop}
+use lib.Seq.{length-take-le}
+use Rattle.search.proofs.Picks.{never}
+use Rattle.search.proofs.Stretches.{Wrote, nothing, part}
+use Rattle.refusal.specs.Outcome.Outcome.{accepted, refused}
+use Rattle.refusal.specs.declared.Place.the-variants as place
+use Rattle.codes.specs.Codes.{Key}
+use Rattle.layout.specs.Columns.{sheetLineBytes, lettered}
+use Rattle.layout.specs.Whole.{wholeLines, lineAt}
+use Rattle.layout.specs.declared.Numbers.{Numbers}
+use Rattle.layout.proofs.Lent.{lent, lent-is}
+use Rattle.sheet_line.specs.Line.{numbersOf}
+use Rattle.sheet_line.specs.Rules.{AcceptedLine}
+use Rattle.sheet_line.specs.declared.Entry.{Entry}
+use Rattle.sheet_line.specs.declared.Line.{Line}
+use Rattle.sheet_line.specs.declared.Line.the-variants.{Good, Refused}
+use Rattle.order.specs.Entries.{markOf}
+use Rattle.order.specs.Marks.{Admits}
+use Rattle.order.specs.Order.{keyFor}
+use Rattle.order.specs.Places.{table}
+use Rattle.order.specs.Reading.{lineAfter, readFrom, outcomeOf, printBy}
+use Rattle.order.specs.Reading.Reading.{complete}
+use Rattle.order.proofs.Lines as lines
+use Rattle.order.proofs.Lines.{ReadTo}
+use Rattle.convert.specs.Scale.{other, otherLetter, lettersIn, parseIn}
+use Rattle.convert.specs.Amounts.{convertible, rescaled}
+use Rattle.convert.specs.Call.{readingIn, otherLine, LineWritten, LinesWritten}
+use Rattle.convert.specs.declared.Scale.{Scale}
+use Rattle.convert.proofs.Small.{letters-first, three-in, letters-turned}
+use Rattle.convert.proofs.Scaled.{keeps}
+use Rattle.convert.proofs.Reading.{reads, line-printed, length-in}
+
+-- ---- the lines tested
+
+pub record TestedTo (d : Scale) (s m : List ℕ) (last i : ℕ) : Type 0 where
+  pub seen : List Entry
+  pub read : ReadTo (parseIn d) (convertible d) s m last i seen
+
+pub test-start : (d : Scale) {m : List ℕ} (s : List ℕ) → m ≡ table markOf [] → TestedTo d s m 0 0
+test-start d s p = record { seen = []; read = lines.start (parseIn d) (convertible d) s p }
+
+module _ {d : Scale} {s m : List ℕ} {last i : ℕ} (B : TestedTo d s m last i) where
+  pub test-done : wholeLines s ≤ i → accepted (wholeLines s ∷ []) ≡ outcomeOf (readingIn d s)
+  test-done h =
+      let n : wholeLines s ≡ length (B .seen) = omega (arith, B .read .count, B .read .some) in
+      rw (lines.done (reads d) (B .read) h, n)
+
+  module _ (h : i < wholeLines s) {r : Line} {m′ : List ℕ} (A : Admits (parseIn d (lent s i)) last m r m′) {l : Line} (c : l ≡ convertible d r) where
+    pub test-turned : {n : ℕ} → l ≡ Refused n → refused n (place.Line (i + 1)) ≡ outcomeOf (readingIn d s)
+    test-turned q = rw (lines.turned (reads d) (B .read) h A (sym c ∙ q))
+
+    pub test-key : {e : Entry} → l ≡ Good e → Key (e .code) (e .block) (e .class)
+    test-key {e} q = lines.admitted-good (reads d) (B .read) h A (keeps d r e (sym c ∙ q)) .key
+
+    pub test-again : {e : Entry} → l ≡ Good e → {k : ℕ} → k ≡ keyFor e → TestedTo d s m′ k (i + 1)
+    test-again {e} q k = record { seen = e ∷ B .seen; read = lines.again (reads d) (B .read) h A (sym c ∙ q) k }
+
+-- ---- a line written
+
+module _ (d : Scale) (s : List ℕ) (h : length s ≡ sheetLineBytes) {e : Entry} (q : parseIn d s ≡ Good e) where
+  pub line-accepted : AcceptedLine e
+  line-accepted = reads d .good s h e q
+
+  -- its letters are those of its code
+  letters-other : map (otherLetter d) (take 3 s) ≡ lettersIn (other d) (e .code)
+  letters-other =
+      let k = e .code in
+      ap (λ (t : List ℕ). map (otherLetter d) (take 3 t)) (line-printed d s h e q)
+      ∙ ap (map (otherLetter d)) (letters-first (lettersIn d k) (three-in d k) (numbersOf e))
+      ∙ letters-turned d k
+
+  pub line-other : {w out : List ℕ} {n : Numbers} → w ≡ map (otherLetter d) (take 3 s) → n ≡ numbersOf (rescaled d e) → out ≡ lettered w n
+      → LineWritten d s out
+  line-other x y z f p =
+      let g : e ≡ f = cc in
+      z ∙ (λ i. lettered ((x ∙ letters-other) i) (y i)) ∙ ap (otherLine d) g
+
+pub line-none : (d : Scale) (s out : List ℕ) {r : ℕ} → parseIn d s ≡ Refused r → LineWritten d s out
+line-none d s out q e p = never (cc)
+
+-- ---- the lines written
+
+-- what is left to read gives the lines es, and those seen are written in front of the room
+pub record WrittenTo (d : Scale) (s r₀ r : List ℕ) (i : ℕ) (es : List Entry) : Type 0 where
+  pub seen : List Entry
+  pub rest : readFrom (parseIn d) (convertible d) (wholeLines s - i) (i + 1) (drop (sheetLineBytes * i) s) seen ≡ complete es
+  pub wrote : Wrote r₀ (sheetLineBytes * i) (printBy (otherLine d) seen) r
+
+-- whichever lines the sheet has
+pub record Writing (d : Scale) (s r₀ r : List ℕ) (i : ℕ) : Type 0 where
+  pub some : i ≤ wholeLines s
+  pub long : length r ≡ length r₀
+  pub lines : (es : List Entry) → readingIn d s ≡ complete es → WrittenTo d s r₀ r i es
+
+pub write-start : (d : Scale) (s r : List ℕ) → Writing d s r r 0
+unfolding printBy
+write-start d s r =
+    let z : wholeLines s - 0 ≡ wholeLines s = omega arith in
+    record { some = omega arith; long = refl; lines = λ es q. record { seen = []; rest = rw z q; wrote = nothing r } }
+
+module _ {d : Scale} {s r₀ r : List ℕ} {i : ℕ} (W : Writing d s r₀ r i) where
+  module _ (h : i < wholeLines s) (fits : length s ≤ length r₀) (ys : List ℕ) (w : LineWritten d (lent s i) ys) where
+    line-long : length (lineAt s i) ≡ sheetLineBytes
+    line-long = length-take-le sheetLineBytes (drop (sheetLineBytes * i) s) (rw length-drop (omega arith))
+
+    line-more : (es : List Entry) → WrittenTo d s r₀ r i es → WrittenTo d s r₀ (putMid (sheetLineBytes * i) sheetLineBytes r ys) (i + 1) es
+    unfolding printBy
+    line-more es T =
+        let out = putMid (sheetLineBytes * i) sheetLineBytes r ys in
+        let Put : List ℕ → Type 0 = λ x. Wrote r₀ (sheetLineBytes * i + sheetLineBytes) (printBy (otherLine d) (T .seen) ++ x) out in
+        lines.by-line (i + 1) (T .seen) _ (λ o. o ≡ complete es → WrittenTo d s r₀ (putMid (sheetLineBytes * i) sheetLineBytes r ys) (i + 1) es)
+        (convertible d (lineAfter (T .seen) (parseIn d (lineAt s i)))) (λ n p q. never (cc))
+        (λ e p q.
+        let a = lines.next-line (reads d) (T .seen) (lineAt s i) line-long e p in
+        let y : ys ≡ otherLine d e = w e (ap (parseIn d) (lent-is s i) ∙ a .parsed) in
+        let k : sheetLineBytes * i + sheetLineBytes ≡ sheetLineBytes * (i + 1) = omega arith in
+        let p = part (T .wrote) sheetLineBytes ys (omega arith) (ap length y ∙ length-in (other d) (rescaled d e)) in
+        record { seen = e ∷ T .seen; rest = q; wrote = rw k at (subst Put y p) })
+        (sym (lines.read-more (parseIn d) (convertible d) s (wholeLines s) i (T .seen) h) ∙ T .rest)
+
+    -- a line more, put back where it was lent
+    pub write-again : length ys ≡ sheetLineBytes
+        → Writing d s r₀ (putMid (sheetLineBytes * i) (sheetLineBytes * i + sheetLineBytes - sheetLineBytes * i) r ys) (i + 1)
+    write-again n =
+        let k : sheetLineBytes * i + sheetLineBytes - sheetLineBytes * i ≡ sheetLineBytes = omega arith in
+        rw k
+        (record {
+          some = omega arith;
+          long = same-len-mid (sheetLineBytes * i) sheetLineBytes r ys (n ∙ sym (length-take-le sheetLineBytes (drop (sheetLineBytes * i) r) (rw (length-drop, W .long) (omega arith)))) ∙ W .long;
+          lines = λ es q. line-more es (W .lines es q);
+        })
+
+  pub write-done : wholeLines s ≤ i → length s % sheetLineBytes ≡ 0 → LinesWritten d s r₀ r
+  write-done h z es q =
+      let T = W .lines es q in
+      let e : T .seen ≡ es = same (sym (lines.read-none (parseIn d) (convertible d) s (wholeLines s) i (T .seen) h) ∙ T .rest) in
+      let k : sheetLineBytes * i ≡ length s = omega (arith, W .some) in
+      T .wrote .text ∙ (λ j. printBy (otherLine d) (e j) ++ drop (k j) r₀)
+    where
+      same : {fs gs : List Entry} → complete fs ≡ complete gs → fs ≡ gs
+      same q = cc

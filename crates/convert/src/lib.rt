@@ -1,0 +1,168 @@
+// Sheets in thousands of dollars, with the code in small letters: a sheet of either sort converted to the other.
+//
+// A sheet is read twice: first every line is tested, with the marks of those before it and the last key, then each is written. So a refusal
+// writes nothing, and no table of amounts is held.
+
+// The letters of the two sorts.
+pub mod letters;
+// The amounts of a line in the two sorts, rules 20 and 21.
+pub mod amounts;
+
+ghost use mathlib.Core.Path.{_≡_};
+ghost use mathlib.Core.List.{[]};
+ghost use Prim.Native.Nat.{_%_, _≤_};
+ghost use lib.ListN.{length};
+ghost use Rattle.layout.specs.Columns.{sheetLineBytes};
+ghost use Rattle.order.specs.Entries.{markOf};
+ghost use Rattle.order.specs.Places.{table};
+ghost use Rattle.order.specs.Reading.{outcomeOf};
+ghost use Rattle.report.specs.Printing.{Printed};
+ghost use Rattle.sheet_length.specs.Measured.{longestSheet};
+ghost use Rattle.convert.specs.Scale.{parseIn};
+ghost use Rattle.convert.specs.Call.{stated, conversion, readingIn, LineWritten, LinesWritten};
+ghost use Rattle.convert.specs.Call.{Done, linesCall, convertCall, ConvertsBack, printout};
+use layout::SHEET_LINE_BYTES;
+use order::PLACES;
+use refusal::Place;
+use report_line::REPORT_LINE_BYTES;
+use sheet_length::LONGEST_SHEET;
+use sheet_length::Length;
+use sheet_line::Line;
+
+// The sort of a sheet, by what its amounts count.
+pub enum Scale {
+    Cents,
+    Thousands,
+}
+
+// How much was accepted, or the refusal's number and place. Of a call that is the length written.
+pub enum ConvertAnswer {
+    Accepted(usize),
+    Refused(u8, Place),
+}
+
+// A sheet of any bytes, and lent room of any length: nothing is written into it before every rule passes.
+pub fn convert_call(sheet: &[u8], room: &mut [u8]) -> ConvertAnswer
+    ensures { λ r. ⌜ _≡_ {A = Done} (record { outcome = stated r; room = now (room .exit) }) (convertCall (now (sheet .entry)) (now (room .entry))) ⌝ }
+    ensures { λ r. ⌜ ConvertsBack (now (sheet .entry)) (stated r) (now (room .exit)) ⌝ }
+{
+    let length = sheet_length::measure(sheet);
+    match length {
+        Length::Refused(rule, place) => ConvertAnswer::Refused(rule, place),
+        Length::Whole => convert_lines(letters::scale_of(sheet), sheet, room),
+    }
+}
+
+// What tsav-convert prints of a sheet of any bytes, from the room's start on: the converted sheet, or the line of the refusal. It gives how many
+// bytes that is. There is room for every sheet, so that 14 never comes.
+pub fn print_converted(sheet: &[u8], room: &mut [u8; LONGEST_SHEET]) -> usize
+    ensures { λ r. ⌜ Printed (printout (conversion (now (sheet .entry)))) r (now (room .entry)) (now (room .exit)) ⌝ }
+{
+    print_into(sheet, room)
+}
+
+// The same, of a slice.
+fn print_into(sheet: &[u8], room: &mut [u8]) -> usize
+    requires { ⌜ length (now room) ≡ longestSheet ⌝ }
+    ensures { λ r. ⌜ Printed (printout (conversion (now (sheet .entry)))) r (now (room .entry)) (now (room .exit)) ⌝ }
+{
+    let answer = convert_call(sheet, room);
+    match answer {
+        ConvertAnswer::Accepted(n) => n,
+        ConvertAnswer::Refused(number, place) => {
+            report::write_refusal(&mut room[0..REPORT_LINE_BYTES], number, place);
+            REPORT_LINE_BYTES
+        }
+    }
+}
+
+// A sheet of whole lines: they are tested, then comes rule 14, and then they are written.
+fn convert_lines(scale: Scale, sheet: &[u8], room: &mut [u8]) -> ConvertAnswer
+    requires { ⌜ length (now sheet) % sheetLineBytes ≡ 0 ⌝ }
+    ensures { λ r. ⌜ _≡_ {A = Done} (record { outcome = stated r; room = now (room .exit) }) (linesCall scale (now (sheet .entry)) (now (room .entry))) ⌝ }
+{
+    let mut marks = [0u8; PLACES];
+    let tested = test_lines(scale, sheet, &mut marks);
+    match tested {
+        ConvertAnswer::Refused(rule, place) => ConvertAnswer::Refused(rule, place),
+        ConvertAnswer::Accepted(_) => {
+            if room.len() < sheet.len() {
+                return ConvertAnswer::Refused(14, Place::Nowhere);
+            }
+            write_lines(scale, sheet, room);
+            ConvertAnswer::Accepted(sheet.len())
+        }
+    }
+}
+
+// Tests the lines of a sheet one after the other, up to the first bad one; all good, it gives how many there are.
+fn test_lines(scale: Scale, sheet: &[u8], marks: &mut [u8; PLACES]) -> ConvertAnswer
+    requires { ⌜ now marks ≡ table markOf [] ⌝ }
+    ensures { λ r. ⌜ stated r ≡ outcomeOf (readingIn scale (now (sheet .entry))) ⌝ }
+{
+    let n = sheet.len() / SHEET_LINE_BYTES;
+    let mut last = 0u64;
+    let mut i = 0;
+    while i < n {
+        let from = SHEET_LINE_BYTES * i;
+        let read = read_in(scale, &sheet[from..from + SHEET_LINE_BYTES]);
+        let admitted = order::admit(read, last, marks);
+        let line = amounts::convertible(scale, admitted);
+        match line {
+            Line::Refused(rule) => return ConvertAnswer::Refused(rule, Place::Line(i + 1)),
+            Line::Good(e) => {
+                last = order::key_of(e);
+            }
+        }
+        i += 1;
+    }
+    ConvertAnswer::Accepted(n)
+}
+
+// Reads a line of a sheet of this sort: one in small letters as that with its letters raised.
+fn read_in(scale: Scale, s: &[u8]) -> Line
+    requires { ⌜ length (now s) ≡ sheetLineBytes ⌝ }
+    ensures { λ r. ⌜ r ≡ parseIn scale (now (s .entry)) ⌝ }
+{
+    match scale {
+        Scale::Cents => sheet_line::read_line(s),
+        Scale::Thousands => {
+            let line = letters::raised(s);
+            sheet_line::read_line(&line)
+        }
+    }
+}
+
+// Writes the lines of a sheet, all of them good, as the other sort has them, each into its own stretch of the room.
+fn write_lines(scale: Scale, sheet: &[u8], room: &mut [u8])
+    requires { ⌜ (length (now sheet) % sheetLineBytes ≡ 0) × (length (now sheet) ≤ length (now room)) ⌝ }
+    ensures { λ _. ⌜ LinesWritten scale (now (sheet .entry)) (now (room .entry)) (now (room .exit)) ⌝ }
+{
+    let n = sheet.len() / SHEET_LINE_BYTES;
+    let mut i = 0;
+    while i < n {
+        let from = SHEET_LINE_BYTES * i;
+        write_other(
+            scale,
+            &sheet[from..from + SHEET_LINE_BYTES],
+            &mut room[from..from + SHEET_LINE_BYTES],
+        );
+        i += 1;
+    }
+}
+
+// Writes a good line as the other sort of sheet has it.
+fn write_other(scale: Scale, s: &[u8], out: &mut [u8])
+    requires { ⌜ (length (now s) ≡ sheetLineBytes) × (length (now out) ≡ sheetLineBytes) ⌝ }
+    ensures { λ _. ⌜ LineWritten scale (now (s .entry)) (now (out .exit)) ⌝ }
+{
+    let read = read_in(scale, s);
+    let Line::Good(e) = read else {
+        return;
+    };
+    layout::write_lettered(
+        out,
+        letters::other_letters(scale, s),
+        amounts::rescaled(scale, e),
+    );
+}
