@@ -34,7 +34,8 @@ returns-3 c =
     let e = i .before in
     let t = e .before .before in
     let s = t .before .before .before .before in
-    lines-written (s .args .scale) (s .args .sheet .now) (s .args .room .now) (sym (ap stated (e .enum-told .given .1)) ∙ t .test-lines .ensures) (omega (arith, i .if1 .left)) (w .write-lines .ensures)
+    let tested = sym (ap stated (e .enum-told .given .1)) ∙ t .test-lines .ensures in
+    lines-written (s .args .scale) (s .args .sheet .now) (s .args .room .now) tested (omega (arith, i .if1 .left)) (w .write-lines .ensures)
 
 pub convert-lines-spec : {M : Type 1} → statement M
 convert-lines-spec =
