@@ -19,12 +19,13 @@ use Rattle.order.specs.Entries.{exists}
 use Rattle.report.specs.Rows.{BLK, TOT}
 use Rattle.report.proofs.Reread.{buffer-read, figure-read}
 use Rattle.credits.specs.Credits.{afterCredit}
+use Rattle.printing.specs.Lent.{Done}
 use Rattle.judgement.specs.Sheet.{sheetOf}
 use Rattle.judgement.specs.Judgement.{judgement}
 use Rattle.judgement.specs.Judgement.Judgement.{sound}
 use Rattle.credits.proofs.Accepted.{credit-accurate, block-accepted, credit-taken}
 use Rattle.judgement.proofs.Accepted.{exists-within, sound-passed, sound-accepted}
-use Rattle.aggregate.specs.Call.{Done, blockRowsOf, reportOf, sheetCall}
+use Rattle.aggregate.specs.Call.{blockRowsOf, reportOf, sheetCall}
 use Rattle.aggregate.specs.Demand.{ReportedBlock, ReportDemand, Demand3}
 use Rattle.aggregate.proofs.Rules.{by-answer}
 
@@ -82,11 +83,11 @@ module _ (s : List ℕ) (es : List Entry) (j : judgement s ≡ sound es) where
 
 module _ (s r : List ℕ) where
   abbrev Meets : Done → Type 0
-  Meets d = Demand3 s (d .outcome) (d .report)
+  Meets d = Demand3 s (d .outcome) (d .room)
 
-  pub call-demand : Demand3 s (sheetCall s r .outcome) (sheetCall s r .report)
-  call-demand = by-answer s r Meets (λ n p e. tt) (λ es e h. tt) (λ es e. (es, e, report-demand s es e _))
+  pub call-demand : Demand3 s (sheetCall s r .outcome) (sheetCall s r .room)
+  call-demand = by-answer s r Meets (λ n p. tt) (λ es e. (es, e, report-demand s es e _))
 
   -- so does what is equal to what the call gives
-  pub promised : (d : Done) → d ≡ sheetCall s r → (d ≡ sheetCall s r) × Demand3 s (d .outcome) (d .report)
+  pub promised : (d : Done) → d ≡ sheetCall s r → (d ≡ sheetCall s r) × Demand3 s (d .outcome) (d .room)
   promised d e = (e, subst⁻¹ Meets e call-demand)

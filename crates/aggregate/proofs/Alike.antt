@@ -25,7 +25,7 @@ Judged s (accepted vs) = judgement s ≡ sound (linesOf s)
 Judged s (refused n p) = Unit {0}
 
 judged : (s r : List ℕ) → Judged s (sheetCall s r .outcome)
-judged s r = by-answer s r (λ d. Judged s (d .outcome)) (λ n p e. tt) (λ es e short. tt) (λ es e. rw (sound-passed s es e .read) e)
+judged s r = by-answer s r (λ d. Judged s (d .outcome)) (λ n p. tt) (λ es e. rw (sound-passed s es e .read) e)
 
 pub accepted-alike :
     (s t r q vs ws : List ℕ) → sheetCall s r .outcome ≡ accepted vs → sheetCall t q .outcome ≡ accepted ws → SameFigures (linesOf s) (linesOf t) → s ≡ t

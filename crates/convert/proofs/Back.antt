@@ -25,7 +25,7 @@ use Rattle.order.proofs.Printed.{printed-by, read-by, length-by}
 use Rattle.convert.specs.Scale.{other, raise, lower, lettersIn, scaleOf, printIn}
 use Rattle.convert.specs.Amounts.{convertible, rescaled}
 use Rattle.convert.specs.Call.{readingIn, otherLine, afterReading, conversion}
-use Rattle.convert.specs.Call.Conversion.{turnedAway, converted}
+use Rattle.printing.specs.Lent.Text.{noText, bytes}
 use Rattle.convert.specs.declared.Scale.{Scale}
 use Rattle.convert.specs.declared.Scale.the-variants.{Cents, Thousands}
 use Rattle.convert.proofs.Scaled.{passes-convertible, rescaled-accepted, rescaled-passes, rescaled-back}
@@ -103,22 +103,30 @@ record Accepted (s t : List ℕ) : Type 0 where
   short : length s ≤ longestSheet
   multiple : length s % sheetLineBytes ≡ 0
   read : readingIn (scaleOf s) s ≡ complete lines
-  bytes : t ≡ printBy (otherLine (scaleOf s)) lines
+  text : t ≡ printBy (otherLine (scaleOf s)) lines
 
-accepted-sheet : (s t : List ℕ) → conversion s ≡ converted t → Accepted s t
+accepted-sheet : (s t : List ℕ) → conversion s ≡ bytes t → Accepted s t
 unfolding conversion
 accepted-sheet s t =
-    by-length s (λ l. afterLength l turnedAway (afterReading (scaleOf s) (readingIn (scaleOf s) s)) ≡ converted t → Accepted s t)
+    by-length s (λ l. afterLength l noText (afterReading (scaleOf s) (readingIn (scaleOf s) s)) ≡ bytes t → Accepted s t)
     (λ n p j m q. never (cc)) (λ h z. go h z (readingIn (scaleOf s) s) refl)
   where
     go : length s ≤ longestSheet → length s % sheetLineBytes ≡ 0 → (o : Reading) → readingIn (scaleOf s) s ≡ o
-        → afterReading (scaleOf s) o ≡ converted t → Accepted s t
+        → afterReading (scaleOf s) o ≡ bytes t → Accepted s t
     go h z (stopped es n i) e q = never (cc)
-    go h z (complete es) e q = record { lines = es; short = h; multiple = z; read = e; bytes = cc }
+    go h z (complete es) e q = record { lines = es; short = h; multiple = z; read = e; text = cc }
+
+-- as many bytes in the other sort
+pub lines-long : (d : Scale) (s : List ℕ) (es : List Entry) → length s % sheetLineBytes ≡ 0 → readingIn d s ≡ complete es
+    → length s ≡ length (printBy (otherLine d) es)
+lines-long d s es z r =
+    ap length (printed-by (reads d) (inverse d) s es z r) ∙ length-by (reads d) (inverse d) es
+    ∙ sym (ap length (others d es) ∙ length-by (reads (other d)) (inverse (other d)) (map (rescaled d) es)
+    ∙ ap (λ (n : ℕ). sheetLineBytes * n) (length-map es (rescaled d)))
 
 -- by its length and its lines
 pub converts : (s : List ℕ) (d : Scale) (es : List Entry) → length s ≤ longestSheet → length s % sheetLineBytes ≡ 0 → scaleOf s ≡ d
-    → readingIn d s ≡ complete es → conversion s ≡ converted (printBy (otherLine d) es)
+    → readingIn d s ≡ complete es → conversion s ≡ bytes (printBy (otherLine d) es)
 unfolding conversion
 converts s d es h z q r = rw (whole s h z, q, r)
 
@@ -126,7 +134,7 @@ other-other : (d : Scale) → other (other d) ≡ d
 other-other Cents = refl
 other-other Thousands = refl
 
-module _ (s t : List ℕ) (q : conversion s ≡ converted t) where
+module _ (s t : List ℕ) (q : conversion s ≡ bytes t) where
   abbrev A : Accepted s t
   A = accepted-sheet s t q
 
@@ -144,17 +152,13 @@ module _ (s t : List ℕ) (q : conversion s ≡ converted t) where
   sheet-is = printed-by (reads d) (inverse d) s (A .lines) (A .multiple) (A .read)
 
   converted-is : t ≡ printBy (printIn (other d)) fs
-  converted-is = A .bytes ∙ others d (A .lines)
+  converted-is = A .text ∙ others d (A .lines)
 
   pub short-sheet : length s ≤ longestSheet
   short-sheet = A .short
 
   pub same-length : length t ≡ length s
-  same-length =
-      let e = other d in
-      ap length converted-is ∙ length-by (reads e) (inverse e) fs
-      ∙ ap (λ (n : ℕ). sheetLineBytes * n) (length-map (A .lines) (rescaled d))
-      ∙ sym (ap length sheet-is ∙ length-by (reads d) (inverse d) (A .lines))
+  same-length = ap length (A .text) ∙ sym (lines-long d s (A .lines) (A .multiple) (A .read))
 
   -- the converted sheet, read in the other sort
   read-back : readingIn (other d) t ≡ complete fs
@@ -168,20 +172,20 @@ module _ (s t : List ℕ) (q : conversion s ≡ converted t) where
   bytes-back =
       others (other d) fs ∙ (λ i. printBy (printIn (other-other d i)) (others-back d (A .lines) lines-are i)) ∙ sym sheet-is
 
-  scale-back : (es : List Entry) → A .lines ≡ es → conversion t ≡ converted s
+  scale-back : (es : List Entry) → A .lines ≡ es → conversion t ≡ bytes s
   unfolding printBy
   scale-back [] e =
       let x : s ≡ [] = sheet-is ∙ ap (printBy (printIn d)) e in
-      let y : t ≡ [] = A .bytes ∙ ap (printBy (otherLine d)) e in
+      let y : t ≡ [] = A .text ∙ ap (printBy (otherLine d)) e in
       let z : t ≡ s = y ∙ sym x in
-      ap conversion z ∙ q ∙ ap converted z
+      ap conversion z ∙ q ∙ ap bytes z
   scale-back (f ∷ es) e =
       let m = same-length in
       let c : scaleOf t ≡ other d =
       ap scaleOf (converted-is ∙ ap (λ (l : List Entry). printBy (printIn (other d)) (map (rescaled d) l)) e)
       ∙ scale-printed (other d) (rescaled d f) (map (rescaled d) es) in
-      converts t (other d) fs (omega (arith, A .short)) (rw m (A .multiple)) c read-back ∙ ap converted bytes-back
+      converts t (other d) fs (omega (arith, A .short)) (rw m (A .multiple)) c read-back ∙ ap bytes bytes-back
 
   -- for every accepted sheet the converted sheet is accepted and converts back to the first one, byte for byte
-  pub back : conversion t ≡ converted s
+  pub back : conversion t ≡ bytes s
   back = scale-back (A .lines) refl

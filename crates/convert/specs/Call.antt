@@ -5,38 +5,22 @@
 use mathlib.Core.Path.{_≡_}
 use mathlib.Core.List.{List, [], _∷_, _++_}
 use Prim.Native.Nat.{ℕ}
-use lib.Dec.{ltb}
 use lib.ListN.{length, take, drop}
-use Rattle.search.specs.Pick.{pick}
 use Rattle.refusal.specs.Outcome.{Outcome}
 use Rattle.refusal.specs.Outcome.Outcome.{accepted, refused}
-use Rattle.refusal.specs.declared.Place.{Place}
-use Rattle.refusal.specs.declared.Place.the-variants as place
+use Rattle.refusal.specs.declared.Place.the-variants.{Line}
 use Rattle.sheet_length.specs.Measured.{measured, afterLength}
 use Rattle.sheet_line.specs.declared.Entry.{Entry}
 use Rattle.sheet_line.specs.declared.Line.the-variants.{Good}
 use Rattle.order.specs.Reading.{Reading, readingBy, printBy}
 use Rattle.order.specs.Reading.Reading.{complete, stopped}
-use Rattle.report.specs.Rows.{refusalLine}
+use Rattle.printing.specs.Lent.{Text, Done, lent}
+use Rattle.printing.specs.Lent.Text.{noText, bytes}
 use Rattle.convert.specs.Scale.{other, scaleOf, parseIn, printIn}
 use Rattle.convert.specs.Amounts.{convertible, rescaled}
 use Rattle.convert.specs.declared.Scale.{Scale}
-use Rattle.convert.specs.declared.ConvertAnswer.{ConvertAnswer}
-use Rattle.convert.specs.declared.ConvertAnswer.the-variants.{Accepted, Refused}
-
--- what the enum's cases say: the length written, or the refusal's number and place
-abbrev pub stated : ConvertAnswer → Outcome
-stated (Accepted n) = accepted (n ∷ [])
-stated (Refused n p) = refused n p
 
 -- ---- a sheet converted
-
--- what becomes of a sheet
-pub data Conversion : Type 0 where
-  -- the number that turns it away, and its place
-  turnedAway : ℕ → Place → Conversion
-  -- the bytes of the converted sheet
-  converted : List ℕ → Conversion
 
 -- the lines of a sheet of this sort
 abbrev pub readingIn : Scale → List ℕ → Reading
@@ -47,13 +31,13 @@ abbrev pub otherLine : Scale → Entry → List ℕ
 otherLine d e = printIn (other d) (rescaled d e)
 
 -- by what was read: the first bad line, or all lines in the other sort
-abbrev pub afterReading : Scale → Reading → Conversion
-afterReading d (stopped es n i) = turnedAway n (place.Line i)
-afterReading d (complete es) = converted (printBy (otherLine d) es)
+abbrev pub afterReading : Scale → Reading → Text
+afterReading d (stopped es n i) = noText n (Line i)
+afterReading d (complete es) = bytes (printBy (otherLine d) es)
 
 -- a sheet of either sort: by its length, then by its lines
-unfoldable pub conversion : List ℕ → Conversion
-conversion s = afterLength (measured s) turnedAway (afterReading (scaleOf s) (readingIn (scaleOf s) s))
+unfoldable pub conversion : List ℕ → Text
+conversion s = afterLength (measured s) noText (afterReading (scaleOf s) (readingIn (scaleOf s) s))
 
 -- ---- the lines written
 
@@ -67,44 +51,17 @@ LinesWritten d s r r′ = (es : List Entry) → readingIn d s ≡ complete es �
 
 -- ---- the call
 
--- the outcome, and what is in the lent room afterwards
-pub record Done : Type 0 where
-  pub outcome : Outcome
-  pub room : List ℕ
-
--- 'a refusal writes nothing'
-abbrev pub untouched : ℕ → Place → List ℕ → Done
-untouched n p r = record { outcome = refused n p; room = r }
-
--- rule 14, 'the output shorter than the sheet', and then the converted sheet t
-unfoldable pub rule14 : List ℕ → List ℕ → List ℕ → Done
-rule14 s t r =
-    pick (ltb (length r) (length s)) (untouched 14 place.Nowhere r)
-    (record { outcome = accepted (length s ∷ []); room = t ++ drop (length s) r })
-
--- by what becomes of the sheet
-unfoldable pub afterConversion : List ℕ → Conversion → List ℕ → Done
-afterConversion s (turnedAway n p) r = untouched n p r
-afterConversion s (converted t) r = rule14 s t r
-
 -- the call on the lines of a sheet s of this sort, after its length
 abbrev pub linesCall : Scale → List ℕ → List ℕ → Done
-linesCall d s r = afterConversion s (afterReading d (readingIn d s)) r
+linesCall d s r = lent (afterReading d (readingIn d s)) r
 
--- the call on a sheet s and lent room r
+-- the call on a sheet s and lent room r: 'the output shorter than the sheet', rule 14, is one shorter than the converted sheet, which is as long
 unfoldable pub convertCall : List ℕ → List ℕ → Done
-convertCall s r = afterConversion s (conversion s) r
+convertCall s r = lent (conversion s) r
 
 -- 'A converted sheet converted back is the first one, byte for byte': the bytes that an accepted call has written are a sheet that is accepted
 -- again, and converted it is the first one
 abbrev pub ConvertsBack : List ℕ → Outcome → List ℕ → Type 0
 ConvertsBack s (accepted []) r = ⊥
-ConvertsBack s (accepted (n ∷ ns)) r = conversion (take n r) ≡ converted s
+ConvertsBack s (accepted (n ∷ ns)) r = conversion (take n r) ≡ bytes s
 ConvertsBack s (refused n p) r = Unit {0}
-
--- ---- what is printed
-
--- the converted sheet, or on a refusal tsav-sheet's REF line
-unfoldable pub printout : Conversion → List ℕ
-printout (turnedAway n p) = refusalLine n p
-printout (converted t) = t

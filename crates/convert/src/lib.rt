@@ -16,15 +16,15 @@ ghost use Rattle.layout.specs.Columns.{sheetLineBytes};
 ghost use Rattle.order.specs.Entries.{markOf};
 ghost use Rattle.order.specs.Places.{table};
 ghost use Rattle.order.specs.Reading.{outcomeOf};
-ghost use Rattle.report.specs.Printing.{Printed};
-ghost use Rattle.sheet_length.specs.Measured.{longestSheet};
+ghost use Rattle.printing.specs.Lent.{stated, Done};
+ghost use Rattle.printing.specs.Printing.{printout, Printed};
 ghost use Rattle.convert.specs.Scale.{parseIn};
-ghost use Rattle.convert.specs.Call.{stated, conversion, readingIn, LineWritten, LinesWritten};
-ghost use Rattle.convert.specs.Call.{Done, linesCall, convertCall, ConvertsBack, printout};
+ghost use Rattle.convert.specs.Call.{conversion, readingIn, LineWritten, LinesWritten};
+ghost use Rattle.convert.specs.Call.{linesCall, convertCall, ConvertsBack};
 use layout::SHEET_LINE_BYTES;
 use order::PLACES;
+use printing::RoomAnswer;
 use refusal::Place;
-use report_line::REPORT_LINE_BYTES;
 use sheet_length::LONGEST_SHEET;
 use sheet_length::Length;
 use sheet_line::Line;
@@ -35,20 +35,14 @@ pub enum Scale {
     Thousands,
 }
 
-// How much was accepted, or the refusal's number and place. Of a call that is the length written.
-pub enum ConvertAnswer {
-    Accepted(usize),
-    Refused(u8, Place),
-}
-
 // A sheet of any bytes, and lent room of any length: nothing is written into it before every rule passes.
-pub fn convert_call(sheet: &[u8], room: &mut [u8]) -> ConvertAnswer
+pub fn convert_call(sheet: &[u8], room: &mut [u8]) -> RoomAnswer
     ensures { λ r. ⌜ _≡_ {A = Done} (record { outcome = stated r; room = now (room .exit) }) (convertCall (now (sheet .entry)) (now (room .entry))) ⌝ }
     ensures { λ r. ⌜ ConvertsBack (now (sheet .entry)) (stated r) (now (room .exit)) ⌝ }
 {
     let length = sheet_length::measure(sheet);
     match length {
-        Length::Refused(rule, place) => ConvertAnswer::Refused(rule, place),
+        Length::Refused(rule, place) => RoomAnswer::Refused(rule, place),
         Length::Whole => convert_lines(letters::scale_of(sheet), sheet, room),
     }
 }
@@ -58,45 +52,31 @@ pub fn convert_call(sheet: &[u8], room: &mut [u8]) -> ConvertAnswer
 pub fn print_converted(sheet: &[u8], room: &mut [u8; LONGEST_SHEET]) -> usize
     ensures { λ r. ⌜ Printed (printout (conversion (now (sheet .entry)))) r (now (room .entry)) (now (room .exit)) ⌝ }
 {
-    print_into(sheet, room)
-}
-
-// The same, of a slice.
-fn print_into(sheet: &[u8], room: &mut [u8]) -> usize
-    requires { ⌜ length (now room) ≡ longestSheet ⌝ }
-    ensures { λ r. ⌜ Printed (printout (conversion (now (sheet .entry)))) r (now (room .entry)) (now (room .exit)) ⌝ }
-{
     let answer = convert_call(sheet, room);
-    match answer {
-        ConvertAnswer::Accepted(n) => n,
-        ConvertAnswer::Refused(number, place) => {
-            report::write_refusal(&mut room[0..REPORT_LINE_BYTES], number, place);
-            REPORT_LINE_BYTES
-        }
-    }
+    printing::print_answer(answer, room)
 }
 
 // A sheet of whole lines: they are tested, then comes rule 14, and then they are written.
-fn convert_lines(scale: Scale, sheet: &[u8], room: &mut [u8]) -> ConvertAnswer
+fn convert_lines(scale: Scale, sheet: &[u8], room: &mut [u8]) -> RoomAnswer
     requires { ⌜ length (now sheet) % sheetLineBytes ≡ 0 ⌝ }
     ensures { λ r. ⌜ _≡_ {A = Done} (record { outcome = stated r; room = now (room .exit) }) (linesCall scale (now (sheet .entry)) (now (room .entry))) ⌝ }
 {
     let mut marks = [0u8; PLACES];
     let tested = test_lines(scale, sheet, &mut marks);
     match tested {
-        ConvertAnswer::Refused(rule, place) => ConvertAnswer::Refused(rule, place),
-        ConvertAnswer::Accepted(_) => {
+        RoomAnswer::Refused(rule, place) => RoomAnswer::Refused(rule, place),
+        RoomAnswer::Accepted(_) => {
             if room.len() < sheet.len() {
-                return ConvertAnswer::Refused(14, Place::Nowhere);
+                return RoomAnswer::Refused(14, Place::Nowhere);
             }
             write_lines(scale, sheet, room);
-            ConvertAnswer::Accepted(sheet.len())
+            RoomAnswer::Accepted(sheet.len())
         }
     }
 }
 
 // Tests the lines of a sheet one after the other, up to the first bad one; all good, it gives how many there are.
-fn test_lines(scale: Scale, sheet: &[u8], marks: &mut [u8; PLACES]) -> ConvertAnswer
+fn test_lines(scale: Scale, sheet: &[u8], marks: &mut [u8; PLACES]) -> RoomAnswer
     requires { ⌜ now marks ≡ table markOf [] ⌝ }
     ensures { λ r. ⌜ stated r ≡ outcomeOf (readingIn scale (now (sheet .entry))) ⌝ }
 {
@@ -109,14 +89,14 @@ fn test_lines(scale: Scale, sheet: &[u8], marks: &mut [u8; PLACES]) -> ConvertAn
         let admitted = order::admit(read, last, marks);
         let line = amounts::convertible(scale, admitted);
         match line {
-            Line::Refused(rule) => return ConvertAnswer::Refused(rule, Place::Line(i + 1)),
+            Line::Refused(rule) => return RoomAnswer::Refused(rule, Place::Line(i + 1)),
             Line::Good(e) => {
                 last = order::key_of(e);
             }
         }
         i += 1;
     }
-    ConvertAnswer::Accepted(n)
+    RoomAnswer::Accepted(n)
 }
 
 // Reads a line of a sheet of this sort: one in small letters as that with its letters raised.

@@ -107,9 +107,9 @@ module _ (call : Call) (meets : MeetsDemand3 call) where
       (FarBelow (sheetOf es) (buffer (filledIn (sheetOf es))) → ⊥) × (FarAbove (sheetOf es) (buffer (filledIn (sheetOf es))) → ⊥)
   filled-in-near filled s r vs es l j c e =
       let a = filled .accepts s r vs es l j (omega arith) e in
-      let d = subst (λ (o : Outcome). Demand3 s o (call s r .report)) a (meets s r l) in
+      let d = subst (λ (o : Outcome). Demand3 s o (call s r .room)) a (meets s r l) in
       let q : d .0 ≡ es = cc (d .1) in
-      let t = subst (λ (es : List Entry). ReportDemand es (call s r .report)) q (d .2) in
+      let t = subst (λ (es : List Entry). ReportDemand es (call s r .room)) q (d .2) in
       let n : t .buffer ≡ buffer (filledIn (sheetOf es)) = cc (t .reads-buffer, filled .reads-buffer s r vs es l j a) in
       let v = sound-accepted s es j in
       let b = subst (BufferDemand (sheetOf es)) n (t .accurate) in

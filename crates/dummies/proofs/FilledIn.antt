@@ -30,7 +30,8 @@ use Rattle.report.specs.Rows.{BLK, TOT, row, itemsFrom, blockRows, reportLength
 use Rattle.report.proofs.Reread.{all-printable, buffer-read}
 use Rattle.credits.specs.Credits.{afterCredit}
 use Rattle.judgement.specs.Sheet.{blocksTo, sheetOf}
-use Rattle.aggregate.specs.Call.{Done, untouched}
+use Rattle.printing.specs.Lent.{Done, untouched}
+use Rattle.printing.proofs.Lent.{filled}
 use Rattle.aggregate.proofs.Rows.{closed-long}
 use Rattle.dummies.specs.Dummies.{claimedReport, firstForAll, filledIn}
 use Rattle.dummies.specs.Programs.{firstFigures, filledTotals, filledRows, filledReport}
@@ -84,7 +85,7 @@ SameK d = (k₁ k₂ : ℕ) → numberAt (claimedReport d) BLK 1 5 ≡ Value k�
 
 -- the buffer that is read where it accepts is x
 unfoldable pub Reads : ℕ → Done → Type 0
-Reads x d = (vs : List ℕ) → d .outcome ≡ accepted vs → numberAt (d .report) TOT 0 3 ≡ Value x
+Reads x d = (vs : List ℕ) → d .outcome ≡ accepted vs → numberAt (d .room) TOT 0 3 ≡ Value x
 
 -- of a refusal nothing is read
 pub none-read : (n : ℕ) (p : Place) (r : List ℕ) → SameK (untouched n p r)
@@ -107,7 +108,7 @@ module _ (es : List Entry) (v : AcceptedSheet (sheetOf es)) (h : CreditsWithin (
   totals : Each FitsColumns (filledTotals es)
   totals = totals-fit (filledIn (sheetOf es)) (filled-accepted (sheetOf es) v h)
 
-  report-long : length (printRows (filledRows es)) ≡ reportLength (count (sheetOf es))
+  pub report-long : length (filledReport es) ≡ reportLength (count (sheetOf es))
   unfolding sheetOf blocksTo
   report-long = closed-long (exists es) (afterCredit es) (λ b. firstFigures es) (λ b. five .0) (filledTotals es) refl
 
@@ -120,7 +121,7 @@ module _ (es : List Entry) (v : AcceptedSheet (sheetOf es)) (h : CreditsWithin (
       (other, (other, (other, tt)))
 
   -- so that is what is read, if anything
-  k-read : (b k : ℕ) → b < 100 → numberAt (printRows (filledRows es)) BLK b 5 ≡ Value k → k ≡ K (getD (sheetOf es .blocks) 0 [])
+  k-read : (b k : ℕ) → b < 100 → numberAt (filledReport es) BLK b 5 ≡ Value k → k ≡ K (getD (sheetOf es .blocks) 0 [])
   unfolding numberAt numberIn
   k-read b k l e =
       let p = all-printable (exists es) (λ b. firstFigures es) _ _ _ [] (λ b l k t. five) totals in
@@ -128,16 +129,16 @@ module _ (es : List Entry) (v : AcceptedSheet (sheetOf es)) (h : CreditsWithin (
       k-among _ b k (filledRows es) (ks b) (sym c ∙ rw append-nil e)
 
   -- what it claims is these lines, and nothing that stood behind them
-  claimed : (r : List ℕ) → claimedReport (filledReport es r) ≡ printRows (filledRows es)
-  claimed r = cc (report-long, take-append-seam (printRows (filledRows es)) (drop (reportLength (count (sheetOf es))) r))
+  claimed : (r : List ℕ) → claimedReport (filled (filledReport es) r) ≡ filledReport es
+  claimed r = take-append-seam (filledReport es) (drop (length (filledReport es)) r)
 
-  pub k-same : (r : List ℕ) → SameK (filledReport es r)
+  pub k-same : (r : List ℕ) → SameK (filled (filledReport es) r)
   unfolding SameK
   k-same r k₁ k₂ e f =
-      let read : (b k : ℕ) → numberAt (claimedReport (filledReport es r)) BLK b 5 ≡ Value k → numberAt (printRows (filledRows es)) BLK b 5 ≡ Value k =
+      let read : (b k : ℕ) → numberAt (claimedReport (filled (filledReport es) r)) BLK b 5 ≡ Value k → numberAt (filledReport es) BLK b 5 ≡ Value k =
       λ b k e. ap (λ (m : List ℕ). numberAt m BLK b 5) (sym (claimed r)) ∙ e in
       k-read 1 k₁ (omega arith) (read 1 k₁ e) ∙ sym (k-read 2 k₂ (omega arith) (read 2 k₂ f))
 
-  pub reads-filled : (r : List ℕ) → Reads (buffer (filledIn (sheetOf es))) (filledReport es r)
+  pub reads-filled : (r : List ℕ) → Reads (buffer (filledIn (sheetOf es))) (filled (filledReport es) r)
   unfolding Reads
-  reads-filled r vs e = buffer-read (exists es) (λ b. firstFigures es) _ _ _ (drop (reportLength (count (sheetOf es))) r) (λ b l k t. five) totals
+  reads-filled r vs e = buffer-read (exists es) (λ b. firstFigures es) _ _ _ (drop (length (filledReport es)) r) (λ b l k t. five) totals

@@ -1,7 +1,7 @@
 -- The plainest program of each kind of dummy meets the premise of its kind: four by what they give. The one that fills in the first block
 -- refuses by rules 17 and 13 of its own sum of K and else as the sheet call does, and what is read of its report is in FilledIn.
 -- Assumes nothing.
-use mathlib.Core.Path.{_≡_, refl, _∙_}
+use mathlib.Core.Path.{_≡_, refl, sym, _∙_}
 use mathlib.Core.Bool.{Bool, true, false}
 use mathlib.Core.List.{List}
 use Prim.Native.Nat.{ℕ, _≤_}
@@ -17,24 +17,24 @@ use Rattle.judgement.specs.Sheet.{sheetOf}
 use Rattle.judgement.specs.Judgement.{Judgement, judgement}
 use Rattle.judgement.specs.Judgement.Judgement.{turnedAway, sound}
 use Rattle.judgement.proofs.Accepted.{sound-accepted}
-use Rattle.aggregate.specs.Call.{Done, rule14, afterJudgement, sheetCall}
+use Rattle.printing.specs.Lent.{Done, rule14, lent}
+use Rattle.aggregate.specs.Call.{reportOf, answerTo, sheetCall}
+use Rattle.aggregate.proofs.Rows as aggregate
 use Rattle.dummies.specs.Dummies.{TurnsAllAway, ConstantReport, WritesNothing, TooShortAtOnce, FirstFilledIn, filledIn, BufferOfFirst}
 use Rattle.dummies.specs.Programs.{turnsAway, writesConstant, claimsSuccess, saysTooShort}
-use Rattle.dummies.specs.Programs.{filled14, filled17, filled13, afterFilling, fillsIn}
-use Rattle.dummies.proofs.FilledIn.{SameK, Reads, none-read, none-accepted, k-same, reads-filled}
+use Rattle.dummies.specs.Programs.{filledReport, filled17, filled13, afterFilling, fillsIn}
+use Rattle.dummies.proofs.FilledIn.{SameK, Reads, none-read, none-accepted, report-long, k-same, reads-filled}
 
 pub turns-away-met : TurnsAllAway turnsAway
 turns-away-met s r l = (12, Nowhere, refl)
 
 pub constant-met : (bytes : List ℕ) → ConstantReport (writesConstant bytes)
-unfolding writesConstant
 constant-met bytes s t r vs ws l m e f = refl
 
 -- its bytes stay within the room
-pub constant-within : (bytes s r : List ℕ) → length (writesConstant bytes s r .report) ≡ length r
-unfolding writesConstant
+pub constant-within : (bytes s r : List ℕ) → length (writesConstant bytes s r .room) ≡ length r
 constant-within bytes s r =
-    by-test (λ (d : Done). length (d .report) ≡ length r) _ _ _ (λ t. refl) (λ t. simp (length-append, length-drop) (omega (arith, ltb-false (length r) (length bytes) t)))
+    by-test (λ (d : Done). length (d .room) ≡ length r) _ _ _ (λ t. refl) (λ t. simp (length-append, length-drop) (omega (arith, ltb-false (length r) (length bytes) t)))
 
 pub nothing-met : WritesNothing claimsSuccess
 nothing-met s r vs l e = refl
@@ -49,9 +49,13 @@ unfolding pick
 picked-outcome true a b c e = refl
 picked-outcome false a b c e = e
 
+-- of a report rule 14 sees the length alone
+same-outcome : (t u r : List ℕ) → length t ≡ length u → rule14 t r .outcome ≡ rule14 u r .outcome
+same-outcome t u r e = rw e (picked-outcome _ _ _ _ refl)
+
 module _ (s r : List ℕ) where
   same : (j : Judgement) → judgement s ≡ j → SameK (afterFilling j r)
-  unfolding afterFilling filled17 filled13 filled14
+  unfolding afterFilling filled17 filled13
   same (turnedAway n p) e = none-read n p r
   same (sound es) e =
       by-test SameK _ _ _ (λ d. none-read _ _ r) λ d.
@@ -59,7 +63,7 @@ module _ (s r : List ℕ) where
       by-test SameK _ _ _ (λ u. none-read _ _ r) (λ u. k-same es (sound-accepted s es e) (ltb-false _ _ d, ltb-false _ _ t) r)
 
   reads : (es : List Entry) → judgement s ≡ sound es → Reads (buffer (filledIn (sheetOf es))) (fillsIn s r)
-  unfolding fillsIn afterFilling filled17 filled13 filled14
+  unfolding fillsIn afterFilling filled17 filled13
   reads es e =
       let x = buffer (filledIn (sheetOf es)) in
       rw e
@@ -69,8 +73,8 @@ module _ (s r : List ℕ) where
 
   -- it tests rule 14 as the sheet call does
   outcome-same : (es : List Entry) → judgement s ≡ sound es → CreditsWithin (filledIn (sheetOf es)) → fillsIn s r .outcome ≡ sheetCall s r .outcome
-  unfolding fillsIn afterFilling filled17 filled13 filled14 sheetCall afterJudgement rule14
-  outcome-same es e h = rw (e, if-ge _ (h .0), if-ge _ (h .1)) (picked-outcome _ _ _ _ refl)
+  unfolding fillsIn afterFilling filled17 filled13 sheetCall answerTo lent
+  outcome-same es e h = rw (e, if-ge _ (h .0), if-ge _ (h .1)) (same-outcome (filledReport es) (reportOf es) r (report-long es (sound-accepted s es e) h ∙ sym (aggregate.report-long es)))
 
 pub first-filled-in-met : FirstFilledIn fillsIn
 unfolding SameK fillsIn

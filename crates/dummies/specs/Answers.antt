@@ -16,7 +16,8 @@ use Rattle.report.specs.Rows.{BLK, TOT, reportLength}
 use Rattle.judgement.specs.Sheet.{sheetOf}
 use Rattle.judgement.specs.Judgement.{Judgement, judgement}
 use Rattle.judgement.specs.Judgement.Judgement.{turnedAway, sound}
-use Rattle.aggregate.specs.Call.{Done, sheetCall}
+use Rattle.printing.specs.Lent.{Done}
+use Rattle.aggregate.specs.Call.{sheetCall}
 use Rattle.dummies.specs.Dummies.{areBytes, claimedReport, filledIn}
 
 -- GEN 0 4, a scalar of one
@@ -67,8 +68,8 @@ factsOf s r d =
       bytes = areBytes (s ++ r);
       amounts = amountsOf (judgement s);
       outcome = d .outcome;
-      head = getD (d .report) 0 0;
-      buffer = numberAt (d .report) TOT 0 3;
+      head = getD (d .room) 0 0;
+      buffer = numberAt (d .room) TOT 0 3;
       k₁ = numberAt (claimedReport d) BLK 1 5;
       k₂ = numberAt (claimedReport d) BLK 2 5;
     }

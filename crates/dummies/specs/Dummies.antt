@@ -18,7 +18,8 @@ use Rattle.report.specs.Rows.{BLK, TOT}
 use Rattle.judgement.specs.Sheet.{sheetOf}
 use Rattle.judgement.specs.Judgement.{judgement}
 use Rattle.judgement.specs.Judgement.Judgement.{sound}
-use Rattle.aggregate.specs.Call.{Done, sheetCall}
+use Rattle.printing.specs.Lent.{Done}
+use Rattle.aggregate.specs.Call.{sheetCall}
 use Rattle.aggregate.specs.Demand.{Demand3}
 
 -- every number of a list is a byte
@@ -40,7 +41,7 @@ MeetsContract call = (s r : List ℕ) → Lent s r → call s r ≡ sheetCall s 
 
 -- it meets demand 3
 abbrev pub MeetsDemand3 : Call → Type 0
-MeetsDemand3 call = (s r : List ℕ) → Lent s r → Demand3 s (call s r .outcome) (call s r .report)
+MeetsDemand3 call = (s r : List ℕ) → Lent s r → Demand3 s (call s r .outcome) (call s r .room)
 
 -- 'One that turns every sheet away'
 abbrev pub TurnsAllAway : Call → Type 0
@@ -50,11 +51,11 @@ TurnsAllAway call = (s r : List ℕ) → Lent s r → (n : ℕ) × (p : Place) �
 abbrev pub ConstantReport : Call → Type 0
 ConstantReport call =
     (s t r vs ws : List ℕ) → Lent s r → Lent t r → call s r .outcome ≡ accepted vs → call t r .outcome ≡ accepted ws →
-    call s r .report ≡ call t r .report
+    call s r .room ≡ call t r .room
 
 -- 'one that writes nothing and claims success': where it accepts, the room is as it was
 abbrev pub WritesNothing : Call → Type 0
-WritesNothing call = (s r vs : List ℕ) → Lent s r → call s r .outcome ≡ accepted vs → call s r .report ≡ r
+WritesNothing call = (s r vs : List ℕ) → Lent s r → call s r .outcome ≡ accepted vs → call s r .room ≡ r
 
 -- 'one that says 'report too short' at once'
 abbrev pub TooShortAtOnce : Call → Type 0
@@ -67,7 +68,7 @@ abbrev pub claimedReport : Done → List ℕ
 claimedReport d = bytesOf (d .outcome)
   where
     bytesOf : Outcome → List ℕ
-    bytesOf (accepted vs) = take (getD vs 0 0) (d .report)
+    bytesOf (accepted vs) = take (getD vs 0 0) (d .room)
     bytesOf (refused n p) = []
 
 -- where K of block 1 and of block 2 can both be read off its report, they are equal
@@ -94,7 +95,7 @@ pub record BufferOfFirst (call : Call) : Type 0 where
       sheetCall s r .outcome ≡ accepted vs → call s r .outcome ≡ accepted vs
   pub reads-buffer :
       (s r vs : List ℕ) (es : List Entry) → Lent s r → judgement s ≡ sound es → call s r .outcome ≡ accepted vs →
-      numberAt (call s r .report) TOT 0 3 ≡ Value (buffer (filledIn (sheetOf es)))
+      numberAt (call s r .room) TOT 0 3 ≡ Value (buffer (filledIn (sheetOf es)))
 
 -- ---- 'A huge 'safe' buffer'
 

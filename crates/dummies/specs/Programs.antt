@@ -4,7 +4,7 @@
 use mathlib.Core.List.{List, [], _∷_, _++_}
 use Prim.Native.Nat.{ℕ}
 use lib.Dec.{ltb}
-use lib.ListN.{length, getD, drop}
+use lib.ListN.{getD}
 use Rattle.search.specs.Pick.{pick}
 use Rattle.search.specs.Ascending.{ascending}
 use Rattle.refusal.specs.Outcome.Outcome.{accepted}
@@ -12,7 +12,7 @@ use Rattle.refusal.specs.declared.Place.the-variants.{Nowhere}
 use Rattle.guideline.specs.Sizes.{blocks}
 use Rattle.guideline.specs.Block.{figuresOf}
 use Rattle.guideline.specs.Operational.{RO}
-use Rattle.guideline.specs.Buffer.{count, sumK, free, available, buffer}
+use Rattle.guideline.specs.Buffer.{sumK, free, available, buffer}
 use Rattle.report_line.specs.Line.{Row, printRows}
 use Rattle.sheet_line.specs.declared.Entry.{Entry}
 use Rattle.order.specs.Entries.{exists}
@@ -20,7 +20,7 @@ use Rattle.report.specs.Rows.{TOT, itemsFrom, blockRows, reportLength}
 use Rattle.judgement.specs.Sheet.{sheetOf}
 use Rattle.judgement.specs.Judgement.{Judgement, judgement}
 use Rattle.judgement.specs.Judgement.Judgement.{turnedAway, sound}
-use Rattle.aggregate.specs.Call.{Done, untouched}
+use Rattle.printing.specs.Lent.{Done, untouched, rule14}
 use Rattle.dummies.specs.Dummies.{Call, filledIn}
 
 -- turns every sheet away, by rule 12
@@ -28,14 +28,12 @@ abbrev pub turnsAway : Call
 turnsAway s r = untouched 12 Nowhere r
 
 -- writes the same bytes whatever the sheet, where there is room for them, and else says 'report too short'
-unfoldable pub writesConstant : List ℕ → Call
-writesConstant bytes s r =
-    pick (ltb (length r) (length bytes)) (untouched 14 Nowhere r)
-    (record { outcome = accepted (length bytes ∷ []); report = bytes ++ drop (length bytes) r })
+abbrev pub writesConstant : List ℕ → Call
+writesConstant bytes s r = rule14 bytes r
 
 -- claims the length of a report of no block, and writes nothing
 abbrev pub claimsSuccess : Call
-claimsSuccess s r = record { outcome = accepted (reportLength 0 ∷ []); report = r }
+claimsSuccess s r = record { outcome = accepted (reportLength 0 ∷ []); room = r }
 
 -- says 'report too short' at once
 abbrev pub saysTooShort : Call
@@ -58,20 +56,14 @@ abbrev pub filledRows : List Entry → List Row
 filledRows es = ascending (exists es) (λ b. blockRows b (firstFigures es)) blocks ++ itemsFrom 1 TOT 0 (filledTotals es)
 
 -- its report
-abbrev pub filledReport : List Entry → List ℕ → Done
-filledReport es r =
-    let n = reportLength (count (sheetOf es)) in
-    record { outcome = accepted (n ∷ []); report = printRows (filledRows es) ++ drop n r }
+abbrev pub filledReport : List Entry → List ℕ
+filledReport es = printRows (filledRows es)
 
--- rule 14, and then the report
-unfoldable pub filled14 : List Entry → List ℕ → Done
-filled14 es r = pick (ltb (length r) (reportLength (count (sheetOf es)))) (untouched 14 Nowhere r) (filledReport es r)
-
--- rule 13, by its own sum of K
+-- rule 13, by its own sum of K, then rule 14 and the report
 unfoldable pub filled13 : List Entry → List ℕ → Done
 filled13 es r =
     let s = filledIn (sheetOf es) in
-    pick (ltb (available s) (free s)) (untouched 13 Nowhere r) (filled14 es r)
+    pick (ltb (available s) (free s)) (untouched 13 Nowhere r) (rule14 (filledReport es) r)
 
 -- rule 17, of all dividend credits together against that sum
 unfoldable pub filled17 : List Entry → List ℕ → Done

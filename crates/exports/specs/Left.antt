@@ -30,6 +30,10 @@ abbrev pub valuesAfter : Outcome → List ℕ → List ℕ
 valuesAfter (accepted vs) before = vs
 valuesAfter (refused n p) before = before
 
+-- no refusal has the number that an accepted call gives
+abbrev pub Never0 : Outcome → Type 0
+Never0 o = (p : Place) → o ≡ refused 0 p → ⊥
+
 -- all that a call leaves, by its outcome and what the values and the place held before
 pub record Leaves (o : Outcome) (given : ℕ) (values₀ place₀ values place : List ℕ) : Type 0 where
   pub number-is : given ≡ numberOf o

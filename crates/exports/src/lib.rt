@@ -11,16 +11,16 @@ ghost use Rattle.fluctuation.specs.Accepted.{FluctuationDemand};
 ghost use Rattle.aggregate.specs.Call.{sheetCall};
 ghost use Rattle.aggregate.specs.Demand.{Demand3};
 ghost use Rattle.convert.specs.Call.{convertCall, ConvertsBack};
-ghost use Rattle.exports.specs.Left.{placeOf, Leaves};
+ghost use Rattle.printing.specs.Lent.{stated};
+ghost use Rattle.exports.specs.Left.{placeOf, Never0, Leaves};
 ghost use Rattle.exports.specs.Version.{interfaceVersion};
-use aggregate::SheetAnswer;
 use block::BlockAnswer;
-use convert::ConvertAnswer;
 use fluctuation::FluctuationAnswer;
 use guideline::BLOCK_FIGURES;
 use guideline::BLOCK_NUMBERS;
 use guideline::GENERAL_FIGURES;
 use operational::OperationalAnswer;
+use printing::RoomAnswer;
 use refusal::Place;
 
 // Given by a call that is accepted. No refusal has this number.
@@ -121,18 +121,12 @@ pub extern "C" fn tsav_sheet(
     written: &mut [u64; 1],
     place: &mut [u64; 2],
 ) -> u64
-    ensures { λ r. ⌜ now (report .exit) ≡ sheetCall (now (sheet .entry)) (now (report .entry)) .report ⌝ }
+    ensures { λ r. ⌜ now (report .exit) ≡ sheetCall (now (sheet .entry)) (now (report .entry)) .room ⌝ }
     ensures { λ r. ⌜ Leaves (sheetCall (now (sheet .entry)) (now (report .entry)) .outcome) r (now (written .entry)) (now (place .entry)) (now (written .exit)) (now (place .exit)) ⌝ }
     ensures { λ r. ⌜ (r ≡ 0 → Demand3 (now (sheet .entry)) (accepted (now (written .exit))) (now (report .exit))) ⌝ }
 {
     let answer = aggregate::sheet_call(sheet, report);
-    match answer {
-        SheetAnswer::Accepted(bytes) => {
-            *written = [cast::word(bytes)];
-            ACCEPTED
-        }
-        SheetAnswer::Refused(number, at) => refuse(number, at, place),
-    }
+    tell(answer, written, place)
 }
 
 // Accepted, `written` holds how many bytes of the lent room are the converted sheet, from its start. Where 0 is given, it converts back.
@@ -148,12 +142,20 @@ pub extern "C" fn tsav_convert(
     ensures { λ r. ⌜ (r ≡ 0 → ConvertsBack (now (sheet .entry)) (accepted (now (written .exit))) (now (room .exit))) ⌝ }
 {
     let answer = convert::convert_call(sheet, room);
+    tell(answer, written, place)
+}
+
+// What a call has answered that was lent room: how many bytes it has written, or its refusal.
+fn tell(answer: RoomAnswer, written: &mut [u64; 1], place: &mut [u64; 2]) -> u64
+    requires { ⌜ Never0 (stated answer) ⌝ }
+    ensures { λ r. ⌜ Leaves (stated answer) r (now (written .entry)) (now (place .entry)) (now (written .exit)) (now (place .exit)) ⌝ }
+{
     match answer {
-        ConvertAnswer::Accepted(length) => {
+        RoomAnswer::Accepted(length) => {
             *written = [cast::word(length)];
             ACCEPTED
         }
-        ConvertAnswer::Refused(number, at) => refuse(number, at, place),
+        RoomAnswer::Refused(number, at) => refuse(number, at, place),
     }
 }
 

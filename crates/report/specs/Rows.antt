@@ -1,14 +1,11 @@
 -- The rows of a report, after document 01, 'The sheet and the report': 'Blocks ascend, each with five BLK lines, items 1 I and 2 D
--- (half cents), 3 U, 4 LT, 5 K (cents). Three TOT lines close it, block 0: 1 sum of K, 2 RO, 3 buffer'; and 'on a refusal one line,
--- REF, the refusal's number in 5–6, 0 in 8–9, the place in 11–28'.
+-- (half cents), 3 U, 4 LT, 5 K (cents). Three TOT lines close it, block 0: 1 sum of K, 2 RO, 3 buffer'.
 -- Assumes nothing.
 use mathlib.Core.List.{List, [], _∷_, _++_}
 use Prim.Native.Nat.{ℕ, zero, suc, _+_, _*_}
 use lib.ListN.{getD, take, drop}
-use Rattle.refusal.specs.Outcome.{printed}
-use Rattle.refusal.specs.declared.Place.{Place}
 use Rattle.guideline.specs.Sizes.{blocks, blockFigures, rowNumbers}
-use Rattle.report_line.specs.Line.{reportLineBytes, Row, reportLine, printRows}
+use Rattle.report_line.specs.Line.{reportLineBytes, Row, printRows}
 
 -- the code of a block's lines, as bytes
 abbrev pub BLK : List ℕ
@@ -17,10 +14,6 @@ BLK = 66 ∷ 76 ∷ 75 ∷ []
 -- the code of the totals
 abbrev pub TOT : List ℕ
 TOT = 84 ∷ 79 ∷ 84 ∷ []
-
--- the code of a refusal
-abbrev pub REF : List ℕ
-REF = 82 ∷ 69 ∷ 70 ∷ []
 
 -- what one line says
 abbrev pub row : List ℕ → ℕ → ℕ → ℕ → Row
@@ -61,9 +54,3 @@ reportLength n = reportLineBytes * (blockFigures * n + totals)
 -- that of all blocks, 4,727 bytes
 abbrev pub longestReport : ℕ
 longestReport = reportLength blocks
-
--- ---- the line of a refusal
-
--- its number, item 0 and its place
-unfoldable pub refusalLine : ℕ → Place → List ℕ
-refusalLine number place = reportLine REF number 0 (printed place)

@@ -1,17 +1,15 @@
-// A report, each line written into its own stretch of a lent slice; and the line of a refusal.
+// A report, each line written into its own stretch of a lent slice.
 ghost use mathlib.Core.Path.{_≡_};
 ghost use mathlib.Core.List.{_++_};
 ghost use Prim.Native.Nat.{_*_, _≤_};
 ghost use lib.ListN.{length, drop};
-ghost use Rattle.refusal.specs.Outcome.{printed};
 ghost use Rattle.guideline.specs.Sizes.{blocks, blockFigures, rowNumbers};
 ghost use Rattle.report_line.specs.Line.{reportLineBytes, printRows};
-ghost use Rattle.report.specs.Rows.{itemsFrom, tableRows, reportBytes, reportLength, refusalLine};
+ghost use Rattle.report.specs.Rows.{itemsFrom, tableRows, reportBytes, reportLength};
 use guideline::BLOCK_FIGURES;
 use guideline::BLOCKS;
 use guideline::ROW_NUMBERS;
 use guideline::TABLE_NUMBERS;
-use refusal::Place;
 use report_line::REPORT_LINE_BYTES;
 
 // Three lines close a report.
@@ -90,24 +88,5 @@ fn write_items(out: &mut [u8], code: [u8; 3], block: u64, numbers: &[u64])
             numbers[k],
         );
         k += 1;
-    }
-}
-
-// The line of a refusal.
-pub fn write_refusal(out: &mut [u8], number: u8, place: Place)
-    requires { ⌜ length (now out) ≡ reportLineBytes ⌝ }
-    ensures { λ _. ⌜ now (out .exit) ≡ refusalLine number place ⌝ }
-{
-    report_line::write_line(out, *b"REF", cast::byte(number), 0, place_number(place));
-}
-
-// What is printed of a place.
-fn place_number(place: Place) -> u64
-    ensures { λ r. ⌜ r ≡ printed place ⌝ }
-{
-    match place {
-        Place::Line(n) => cast::word(n),
-        Place::Position(n) => cast::word(n),
-        Place::Nowhere => 0,
     }
 }

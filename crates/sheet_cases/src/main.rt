@@ -2,9 +2,9 @@
 // in five digits each, and then the sheet; the file stdout beside src/ has what an independent calculation answers. The room is filled
 // with '#' before the call, and written whole after it.
 ghost use Prim.Native.Nat.{_<_};
-use aggregate::SheetAnswer;
 use libc::STDIN_FILENO;
 use libc::STDOUT_FILENO;
+use printing::RoomAnswer;
 use refusal::Place;
 use report::LONGEST_REPORT;
 use report_line::REPORT_LINE_BYTES;
@@ -103,12 +103,12 @@ fn run(sheet: &mut [u8], length: usize, room: &mut [u8], lent: usize) {
 }
 
 // The answer in the form of a report line: ACC and the length, or REF, the number, the kind of the place and the place.
-fn tell(answer: SheetAnswer) {
+fn tell(answer: RoomAnswer) {
     match answer {
-        SheetAnswer::Accepted(n) => {
+        RoomAnswer::Accepted(n) => {
             line(*b"ACC", 0, 0, cast::word(n));
         }
-        SheetAnswer::Refused(n, p) => match p {
+        RoomAnswer::Refused(n, p) => match p {
             Place::Line(at) => {
                 line(*b"REF", cast::byte(n), 1, cast::word(at));
             }

@@ -1,7 +1,7 @@
 -- The lines that were tested tell which arm it is: refused, no room, or written. Assumes nothing.
 use mathlib.Core.Path.{refl, sym, ap, _∙_}
 use Rattle.order.specs.Places.{table}
-use Rattle.convert.specs.Call.{stated}
+use Rattle.printing.specs.Lent.{stated}
 use Rattle.convert.proofs.Calls.{lines-turned, lines-short, lines-written}
 use native.Mathlib.Omega.{arith}
 use borrow.Author.Needs.{needs}
@@ -18,7 +18,8 @@ returns c =
     let e = c .before in
     let t = e .before .before in
     let s = t .before .before .before .before in
-    lines-short (s .args .scale) (s .args .sheet .now) (s .args .room .now) (sym (ap stated (e .enum-told .given .1)) ∙ t .test-lines .ensures) (omega (arith, c .if1 .taken))
+    lines-short (s .args .scale) (s .args .sheet .now) (s .args .room .now) (sym (ap stated (e .enum-told .given .1)) ∙ t .test-lines .ensures) (s .pre)
+    (omega (arith, c .if1 .taken))
 
 returns-2 : tie.Need-returns-2
 returns-2 c =
@@ -35,7 +36,7 @@ returns-3 c =
     let t = e .before .before in
     let s = t .before .before .before .before in
     let tested = sym (ap stated (e .enum-told .given .1)) ∙ t .test-lines .ensures in
-    lines-written (s .args .scale) (s .args .sheet .now) (s .args .room .now) tested (omega (arith, i .if1 .left)) (w .write-lines .ensures)
+    lines-written (s .args .scale) (s .args .sheet .now) (s .args .room .now) tested (s .pre) (omega (arith, i .if1 .left)) (w .write-lines .ensures)
 
 pub convert-lines-spec : {M : Type 1} → statement M
 convert-lines-spec =

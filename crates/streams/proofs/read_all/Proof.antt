@@ -3,17 +3,17 @@ use mathlib.Core.Path.{_≡_}
 use Prim.Native.Nat.{_-_, _≤_}
 use lib.ListN.{length}
 use borrow.Author.Needs.{needs}
-use Rattle.tsav_convert.proofs.read_sheet.Statement.{statement}
-use Rattle.tsav_convert.proofs.read_sheet.Tie as tie
+use Rattle.streams.proofs.read_all.Statement.{statement}
+use Rattle.streams.proofs.read_all.Tie as tie
 
 abbrev Inv-loop : tie.InvT-loop
-Inv-loop sheet₀ at₀ sheet at = (at ≤ length sheet) × (length sheet ≡ length sheet₀)
+Inv-loop room₀ at₀ room at = (at ≤ length room) × (length room ≡ length room₀)
 
 abbrev μ-loop : tie.MeasureT-loop
-μ-loop sheet₀ at₀ sheet at = length sheet - at
+μ-loop room₀ at₀ room at = length room - at
 
-pub read-sheet-spec : {M : Type 1} → statement M
-read-sheet-spec =
+pub read-all-spec : {M : Type 1} → statement M
+read-all-spec =
     tie.close
     (tie.spec
     Inv-loop μ-loop (λ c. search needs) (λ c. search needs) (λ c. search needs) (λ c. search needs) (λ c κs. search needs) (λ c. search needs) (λ c.

@@ -1,8 +1,8 @@
 -- The line that is written says the refusal's number and what is printed of its place. Assumes nothing.
 use borrow.Author.Needs.{needs}
-use Rattle.report.specs.Rows.{refusalLine}
-use Rattle.report.proofs.write_refusal.Statement.{statement}
-use Rattle.report.proofs.write_refusal.Tie as tie
+use Rattle.printing.specs.Printing.{refusalLine}
+use Rattle.printing.proofs.write_refusal.Statement.{statement}
+use Rattle.printing.proofs.write_refusal.Tie as tie
 
 returns : tie.Need-returns
 unfolding refusalLine

@@ -1,0 +1,3 @@
+-- A text left in lent room, and what is printed of it.
+pub mod Lent
+pub mod Printing
