@@ -7,6 +7,7 @@ ghost use lib.ListN.{length};
 ghost use Rattle.layout.specs.Columns.{sheetLineBytes};
 ghost use Rattle.sheet_line.specs.Rules.{parseLine};
 use codes::Code;
+use layout::SHEET_LINE_BYTES;
 
 // A line's code and numbers.
 pub struct Entry {
@@ -28,7 +29,8 @@ pub fn read_line(s: &[u8]) -> Line
     requires { ⌜ length (now s) ≡ sheetLineBytes ⌝ }
     ensures { λ r. ⌜ r ≡ parseLine (now (s .entry)) ⌝ }
 {
-    let layout = layout::read_layout(s);
+    // a part and not s itself: its place is handed on in words, where a slice that is handed on whole is copied, which waits
+    let layout = layout::read_layout(&s[0..SHEET_LINE_BYTES]);
     let coded = codes::read_code(s);
     rules::rule_3(layout, coded)
 }
