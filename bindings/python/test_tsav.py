@@ -13,6 +13,7 @@ SHEET = (TOP / "examples" / "example.sheet").read_bytes()
 THOUSANDS = (TOP / "examples" / "thousands.sheet").read_bytes()
 REPORT = (TOP / "crates" / "tsav_sheet" / "stdout").read_bytes()
 FLUCTUATIONS = (TOP / "tests" / "reference" / "fluctuation.cases").read_text().splitlines()
+CONVERSIONS = (TOP / "tests" / "reference" / "convert.cases").read_text().splitlines()
 
 
 class Calls(unittest.TestCase):
@@ -150,6 +151,27 @@ class Calls(unittest.TestCase):
         for wrong in (THOUSANDS.decode(), 40, None):
             with self.assertRaises(TypeError):
                 tsav.convert(wrong)
+
+    def test_stored_conversions(self):
+        """The stored conversions; the file says how a line reads."""
+        cases, given = [], b""
+        for kind, text in (line.split(" ", 1) for line in CONVERSIONS):
+            if kind in ("<", "<~"):
+                given += text.encode() + (b"\n" if kind == "<" else b"")
+            elif kind == "=":
+                cases.append((given, text, []))
+                given = b""
+            elif kind == ">":
+                cases[-1][2].append(text.encode() + b"\n")
+        self.assertGreater(len(cases), 50)
+        for given, answer, lines in cases:
+            with self.subTest(given):
+                if answer == "converted":
+                    self.assertEqual(tsav.convert(given), b"".join(lines))
+                    self.assertEqual(tsav.convert(b"".join(lines)), given)
+                else:
+                    _, number, *place = answer.split()
+                    self.refused(int(number), int(place[1]) if place else None, None, tsav.convert, given)
 
     def test_what_is_no_amount(self):
         for wrong in (1.0, "1", None):

@@ -1,8 +1,8 @@
 use super::*;
 use contract::{LINE, NOWHERE, POSITION};
 use reference::{
-    all_lines, example, fluctuation_cases, report_line, sheet_line, EXAMPLE_FIGURES, IN_THOUSANDS, WHOLE_RUN,
-    WHOLE_RUN_REPORT,
+    all_lines, convert_cases, example, fluctuation_cases, report_line, sheet_line, EXAMPLE_FIGURES, IN_THOUSANDS,
+    WHOLE_RUN, WHOLE_RUN_REPORT,
 };
 
 const OVER: u64 = LARGEST_AMOUNT + 1;
@@ -187,6 +187,25 @@ fn refusals_of_the_convert_call() {
     let mut converted = *b"any content";
     assert_eq!(convert(IN_THOUSANDS, &mut converted), refused(14, Place::Nowhere));
     assert_eq!(&converted, b"any content");
+}
+
+/// The stored conversions, refused ones too; what is converted converts back.
+#[test]
+fn stored_conversions() {
+    let of = |bytes: &[u8]| {
+        let mut converted = vec![b'#'; LONGEST_SHEET];
+        convert(bytes, &mut converted).map(|length| converted[..length].to_vec())
+    };
+    for (given, answer) in convert_cases() {
+        let answer = answer.or_else(|reference::Refusal { number, place }| match place {
+            reference::Place::Line(line) => refused(number, Place::Line(line)),
+            _ => refused(number, Place::Nowhere),
+        });
+        assert_eq!(of(&given), answer, "{}", given.escape_ascii());
+        if let Ok(converted) = answer {
+            assert_eq!(of(&converted), Ok(given));
+        }
+    }
 }
 
 #[test]

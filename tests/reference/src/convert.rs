@@ -57,3 +57,35 @@ fn with_letters_exchanged(line: &[u8]) -> Vec<u8> {
     }
     line
 }
+
+/// A stored conversion: a sheet, and the converted one or the refusal.
+pub type ConvertCase = (Vec<u8>, Result<Vec<u8>, Refusal>);
+
+/// The stored conversions of convert.cases, which says how a line reads.
+pub fn convert_cases() -> Vec<ConvertCase> {
+    let (mut cases, mut given): (Vec<ConvertCase>, _) = (Vec::new(), Vec::new());
+    for line in include_str!("../convert.cases").lines() {
+        let (kind, text) = line.split_once(' ').unwrap_or_else(|| panic!("convert.cases: {line}"));
+        match (kind, cases.last_mut()) {
+            ("#", _) => {}
+            ("<", _) => given.extend([text.as_bytes(), b"\n"].concat()),
+            ("<~", _) => given.extend(text.as_bytes()),
+            ("=", _) => cases.push((std::mem::take(&mut given), stored_answer(text))),
+            (">", Some((_, Ok(converted)))) => converted.extend([text.as_bytes(), b"\n"].concat()),
+            _ => panic!("convert.cases: {line}"),
+        }
+    }
+    assert!(given.is_empty(), "convert.cases: a sheet without an answer");
+    cases
+}
+
+/// What stands after `= `; the lines of a converted sheet follow.
+fn stored_answer(text: &str) -> Result<Vec<u8>, Refusal> {
+    let number = |word: &str| word.parse().unwrap_or_else(|_| panic!("convert.cases: {text}"));
+    match text.split(' ').collect::<Vec<&str>>()[..] {
+        ["converted"] => Ok(Vec::new()),
+        ["refused", rule] => Err(Refusal::nowhere(number(rule) as u8)),
+        ["refused", rule, "at", line] => Err(Refusal::at_line(number(rule) as u8, number(line))),
+        _ => panic!("convert.cases: {text}"),
+    }
+}

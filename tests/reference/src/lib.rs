@@ -19,7 +19,7 @@ mod operational;
 mod sheet;
 
 pub use block::block_call;
-pub use convert::{convert_call, THOUSAND_DOLLARS};
+pub use convert::{convert_call, convert_cases, ConvertCase, THOUSAND_DOLLARS};
 pub use demand3::{demand3, judge};
 pub use example::{example, EXAMPLE_FIGURES, IN_THOUSANDS, WHOLE_RUN, WHOLE_RUN_REPORT};
 pub use fluctuation::{fluctuation_call, fluctuation_cases, judge_fluctuation, FluctuationCase, FLUCTUATION_ROWS};

@@ -968,3 +968,21 @@ fn letters_of_a_sheet() {
     let differing = [("rsk", 1, 1, 0, 0), ("RSK", 33, 9, 0, 0), ("rsk", 1, 1, 0, 0)];
     assert_eq!(convert(&lines(&differing), 0), at(2).map(|_: ()| Vec::new()));
 }
+
+/// #110: the stored conversions, with room for any sheet; what is converted converts back. Both units, and every row but 1 and 14
+/// that the call has, stand among them.
+#[test]
+fn stored_conversions() {
+    let mut answers = std::collections::BTreeSet::new();
+    for (given, answer) in convert_cases() {
+        let small = given.first().is_some_and(u8::is_ascii_lowercase);
+        answers.insert((small, answer.as_ref().map_or_else(|refusal| refusal.number, |_| 0)));
+        assert_eq!(convert(&given, LONGEST_SHEET), answer, "{}", given.escape_ascii());
+        if let Ok(converted) = answer {
+            assert_eq!(convert(&converted, LONGEST_SHEET), Ok(given));
+        }
+    }
+    let numbers = |of: bool| answers.iter().filter(|(small, _)| *small == of).map(|(_, n)| *n).collect::<Vec<u8>>();
+    assert_eq!(numbers(false), [0, 2, 3, 4, 5, 8, 9, 10, 11, 20]);
+    assert_eq!(numbers(true), [0, 2, 3, 4, 6, 8, 10, 11, 19, 21]);
+}
