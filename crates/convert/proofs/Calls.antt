@@ -1,7 +1,7 @@
--- What the call gives: by the sheet's length, then by what was read, then rule 14. What an accepted call has written converts back, and with room
--- for every sheet what is printed is the conversion's own. Assumes nothing.
-use mathlib.Core.Path.{_≡_, refl, sym, ap, _∙_, subst, subst⁻¹}
-use mathlib.Core.List.{List, [], _∷_, _++_}
+-- What the call gives: by the sheet's length, then by what was read, then rule 14. What an accepted call has written is as long as the sheet and
+-- converts back, and with room for every sheet what is printed is the conversion's own. Assumes nothing.
+use mathlib.Core.Path.{_≡_, refl, ap, _∙_, subst, subst⁻¹}
+use mathlib.Core.List.{List, [], _∷_}
 use Prim.Native.Nat.{ℕ, _%_, _≤_, _<_}
 use native.Mathlib.Omega.{arith}
 use lib.ListN.{length, drop}
@@ -13,7 +13,7 @@ use Rattle.refusal.specs.declared.Place.{Place}
 use Rattle.refusal.specs.declared.Place.the-variants.{Line, Nowhere}
 use Rattle.guideline.specs.Sizes.{FitsColumns}
 use Rattle.layout.specs.Columns.{sheetLineBytes}
-use Rattle.sheet_length.specs.Measured.{mostLines, longestSheet, measured, afterLength}
+use Rattle.sheet_length.specs.Measured.{longestSheet, measured, afterLength}
 use Rattle.sheet_length.specs.declared.Length.the-variants.{Whole, Refused}
 use Rattle.sheet_length.proofs.Measures.{by-length}
 use Rattle.sheet_line.specs.declared.Entry.{Entry}
@@ -22,13 +22,14 @@ use Rattle.order.specs.Reading.Reading.{complete, stopped}
 use Rattle.order.proofs.Lines.{stopped-by}
 use Rattle.printing.specs.declared.RoomAnswer.{RoomAnswer}
 use Rattle.printing.specs.Lent.{Text, Done, stated, untouched}
-use Rattle.printing.specs.Lent.Text.{noText, bytes}
+use Rattle.printing.specs.Lent.Text.{noText}
 use Rattle.printing.specs.Printing.{printout, Printed, Shown}
 use Rattle.printing.proofs.Lent as lent
 use Rattle.printing.proofs.Lent.{RoomFor, Numbered}
 use Rattle.convert.specs.Scale.{scaleOf, parseIn}
 use Rattle.convert.specs.Amounts.{convertible}
-use Rattle.convert.specs.Call.{readingIn, afterReading, conversion, LinesWritten, linesCall, convertCall, ConvertsBack}
+use Rattle.convert.specs.Call.{readingIn, afterReading, conversion, convertCall, ConvertsBack}
+use Rattle.convert.specs.Steps.{LinesWritten, linesCall}
 use Rattle.convert.specs.declared.Scale.{Scale}
 use Rattle.convert.proofs.Reading.{judged}
 use Rattle.convert.proofs.Back.{short-sheet, same-length, lines-long, back}
@@ -75,7 +76,7 @@ module _ (s r : List ℕ) where
   unfolding convertCall
   call-back =
       lent.by-answer (conversion s) r (λ d. ConvertsBack s (d .outcome) (d .room)) (λ n p e. tt) (λ t e h. tt)
-      (λ t e. ap conversion (take-at t (drop (length t) r) (length t) refl) ∙ back s t e)
+      (λ t e. (same-length s t e, ap conversion (take-at t (drop (length t) r) (length t) refl) ∙ back s t e))
 
   -- what the call gives, and that it converts back
   pub promised : (d : Done) → d ≡ convertCall s r → (d ≡ convertCall s r) × ConvertsBack s (d .outcome) (d .room)

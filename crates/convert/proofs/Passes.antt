@@ -29,9 +29,10 @@ use Rattle.order.specs.Reading.{lineAfter, readFrom, outcomeOf, printBy}
 use Rattle.order.specs.Reading.Reading.{complete}
 use Rattle.order.proofs.Lines as lines
 use Rattle.order.proofs.Lines.{ReadTo}
-use Rattle.convert.specs.Scale.{other, otherLetter, lettersIn, parseIn}
+use Rattle.convert.specs.Scale.{other, lettersIn, parseIn}
 use Rattle.convert.specs.Amounts.{convertible, rescaled}
-use Rattle.convert.specs.Call.{readingIn, otherLine, LineWritten, LinesWritten}
+use Rattle.convert.specs.Call.{readingIn, otherLine}
+use Rattle.convert.specs.Steps.{otherLetter, LineWritten, LinesWritten}
 use Rattle.convert.specs.declared.Scale.{Scale}
 use Rattle.convert.proofs.Small.{letters-first, three-in, letters-turned}
 use Rattle.convert.proofs.Scaled.{keeps}

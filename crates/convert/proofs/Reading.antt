@@ -21,7 +21,7 @@ use Rattle.order.proofs.Admission.{refused-admitted}
 use Rattle.order.proofs.Lines.{Reads}
 use Rattle.order.proofs.Printed.{Inverse}
 use Rattle.convert.specs.Scale.{lettersIn, raised, parseIn, printIn}
-use Rattle.convert.specs.Amounts.{barredBy, rule20, convertible}
+use Rattle.convert.specs.Amounts.{barredBy, rule20or21, convertible}
 use Rattle.convert.specs.declared.Scale.{Scale}
 use Rattle.convert.specs.declared.Scale.the-variants.{Cents, Thousands}
 use Rattle.convert.proofs.Small.{three-in, length-raised, small-printed, small-read}
@@ -59,7 +59,7 @@ barred-judging Cents = judging 20 refl refl refl
 barred-judging Thousands = judging 21 refl refl refl
 
 test-judging : (d : Scale) (l : Line) → ((r : ℕ) → l ≡ Refused r → Judging r) → (r : ℕ) → convertible d l ≡ Refused r → Judging r
-unfolding rule20
+unfolding rule20or21
 test-judging d (Refused n) j r = j r
 test-judging d (Good e) j r =
     by-test (λ l. l ≡ Refused r → Judging r) _ _ _ (λ t q. let e : barredBy d ≡ r = cc in subst Judging e (barred-judging d)) (λ t q. never (cc))

@@ -14,7 +14,7 @@ use Rattle.sheet_line.specs.declared.Entry.{Entry}
 use Rattle.sheet_line.specs.declared.Line.{Line}
 use Rattle.sheet_line.specs.declared.Line.the-variants.{Good, Refused}
 use Rattle.convert.specs.Scale.{other}
-use Rattle.convert.specs.Amounts.{thousandDollars, ofScalar, barred, hasBarred, rule20, convertible, inOther, amountOf, rescaled}
+use Rattle.convert.specs.Amounts.{thousandDollars, ofScalar, barred, hasBarred, rule20or21, convertible, inOther, amountOf, rescaled}
 use Rattle.convert.specs.declared.Scale.{Scale}
 use Rattle.convert.specs.declared.Scale.the-variants.{Cents, Thousands}
 
@@ -75,12 +75,12 @@ none-barred d e q = record { fit = λ s. go (sym (if-false _ s) ∙ q) }
 
 -- a line that passes the last test is the line that was tested
 pub keeps : (d : Scale) (l : Line) (e : Entry) → convertible d l ≡ Good e → l ≡ Good e
-unfolding rule20
+unfolding rule20or21
 keeps d (Refused r) e = λ q. never (cc)
 keeps d (Good f) e = by-test (λ l. l ≡ Good e → Good f ≡ Good e) _ _ _ (λ t q. never (cc)) (λ t q. q)
 
 pub passes-convertible : (d : Scale) (e : Entry) → convertible d (Good e) ≡ Good e → Convertible d e
-unfolding rule20
+unfolding rule20or21
 passes-convertible d e = by-test (λ l. l ≡ Good e → Convertible d e) _ _ _ (λ t q. never (cc)) (λ t q. none-barred d e t)
 
 -- the scalar's line keeps its number
@@ -128,7 +128,7 @@ module _ (d : Scale) (e : Entry) (C : Convertible d e) (a : AcceptedLine e) wher
 
   -- so does its last test
   pub rescaled-passes : convertible (other d) (Good (rescaled d e)) ≡ Good (rescaled d e)
-  unfolding rule20
+  unfolding rule20or21
   rescaled-passes = if-false _ (none-barred-back (ofScalar e) refl)
 
   amount-back : (n : ℕ) → (ofScalar e ≡ false → Fits d n) → (t : Bool) → ofScalar e ≡ t → amountOf (other d) (rescaled d e) (amountOf d e n) ≡ n

@@ -23,7 +23,8 @@ use Rattle.sheet_line.specs.Rules.{parseLine, AcceptedLine}
 use Rattle.sheet_line.specs.declared.Entry.{Entry}
 use Rattle.sheet_line.specs.declared.Line.the-variants.{Good}
 use Rattle.sheet_line.proofs.Printed.{three-letters, parse-print, print-parsed}
-use Rattle.convert.specs.Scale.{other, raise, lower, otherLetter, lettersIn, raised, printIn}
+use Rattle.convert.specs.Scale.{other, raise, lower, lettersIn, raised, printIn}
+use Rattle.convert.specs.Steps.{otherLetter}
 use Rattle.convert.specs.declared.Scale.{Scale}
 use Rattle.convert.specs.declared.Scale.the-variants.{Cents, Thousands}
 

@@ -38,13 +38,13 @@ unfoldable pub hasBarred : Scale → Entry → Bool
 hasBarred d e = pick (ofScalar e) false (pick (barred d (e .first)) true (barred d (e .second)))
 
 -- rule 20 of a sheet in cents, rule 21 of one in thousands
-unfoldable pub rule20 : Scale → Entry → Line
-rule20 d e = pick (hasBarred d e) (Refused (barredBy d)) (Good e)
+unfoldable pub rule20or21 : Scale → Entry → Line
+rule20or21 d e = pick (hasBarred d e) (Refused (barredBy d)) (Good e)
 
 -- the last test of a line: both rules come after 19
 abbrev pub convertible : Scale → Line → Line
 convertible d (Refused r) = Refused r
-convertible d (Good e) = rule20 d e
+convertible d (Good e) = rule20or21 d e
 
 -- ---- what is written
 

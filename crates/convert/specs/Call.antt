@@ -3,15 +3,14 @@
 -- (the output shorter than the sheet) comes last'. 'A refusal writes nothing; accepted, they give the length written, and bytes past it keep their
 -- content.' Assumes nothing.
 use mathlib.Core.Path.{_≡_}
-use mathlib.Core.List.{List, [], _∷_, _++_}
+use mathlib.Core.List.{List, [], _∷_}
 use Prim.Native.Nat.{ℕ}
-use lib.ListN.{length, take, drop}
+use lib.ListN.{length, take}
 use Rattle.refusal.specs.Outcome.{Outcome}
 use Rattle.refusal.specs.Outcome.Outcome.{accepted, refused}
 use Rattle.refusal.specs.declared.Place.the-variants.{Line}
 use Rattle.sheet_length.specs.Measured.{measured, afterLength}
 use Rattle.sheet_line.specs.declared.Entry.{Entry}
-use Rattle.sheet_line.specs.declared.Line.the-variants.{Good}
 use Rattle.order.specs.Reading.{Reading, readingBy, printBy}
 use Rattle.order.specs.Reading.Reading.{complete, stopped}
 use Rattle.printing.specs.Lent.{Text, Done, lent}
@@ -39,29 +38,15 @@ afterReading d (complete es) = bytes (printBy (otherLine d) es)
 unfoldable pub conversion : List ℕ → Text
 conversion s = afterLength (measured s) noText (afterReading (scaleOf s) (readingIn (scaleOf s) s))
 
--- ---- the lines written
-
--- what is written for a line, where it is good
-abbrev pub LineWritten : Scale → List ℕ → List ℕ → Type 0
-LineWritten d s out = (e : Entry) → parseIn d s ≡ Good e → out ≡ otherLine d e
-
--- the room after the lines of a sheet, where all are good, and before
-abbrev pub LinesWritten : Scale → List ℕ → List ℕ → List ℕ → Type 0
-LinesWritten d s r r′ = (es : List Entry) → readingIn d s ≡ complete es → r′ ≡ printBy (otherLine d) es ++ drop (length s) r
-
 -- ---- the call
 
--- the call on the lines of a sheet s of this sort, after its length
-abbrev pub linesCall : Scale → List ℕ → List ℕ → Done
-linesCall d s r = lent (afterReading d (readingIn d s)) r
-
--- the call on a sheet s and lent room r: 'the output shorter than the sheet', rule 14, is one shorter than the converted sheet, which is as long
+-- the call on a sheet s and lent room r. Rule 14, 'the output shorter than the sheet', is tested of the converted sheet, which is as long
 unfoldable pub convertCall : List ℕ → List ℕ → Done
 convertCall s r = lent (conversion s) r
 
 -- 'A converted sheet converted back is the first one, byte for byte': the bytes that an accepted call has written are a sheet that is accepted
--- again, and converted it is the first one
+-- again, and converted it is the first one; there are as many of them as the sheet has
 abbrev pub ConvertsBack : List ℕ → Outcome → List ℕ → Type 0
 ConvertsBack s (accepted []) r = ⊥
-ConvertsBack s (accepted (n ∷ ns)) r = conversion (take n r) ≡ bytes s
+ConvertsBack s (accepted (n ∷ ns)) r = (n ≡ length s) × (conversion (take n r) ≡ bytes s)
 ConvertsBack s (refused n p) r = Unit {0}

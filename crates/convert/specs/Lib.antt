@@ -1,4 +1,5 @@
--- The two sorts of sheet, how one becomes the other, and the call that converts. Assumes nothing.
+-- The two sorts of sheet, how one becomes the other, the call that converts, and its steps. Assumes nothing.
 pub mod Scale
 pub mod Amounts
 pub mod Call
+pub mod Steps

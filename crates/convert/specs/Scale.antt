@@ -31,11 +31,6 @@ raise b = pick (ltb b 97) 0 (pick (ltb 122 b) 0 (b - 32))
 unfoldable pub lower : ℕ → ℕ
 lower b = pick (ltb b 65) 0 (pick (ltb 90 b) 0 (b + 32))
 
--- a letter of a sheet of this sort in the other's
-abbrev pub otherLetter : Scale → ℕ → ℕ
-otherLetter Cents b = lower b
-otherLetter Thousands b = raise b
-
 -- a code's letters in a sheet of this sort
 abbrev pub lettersIn : Scale → Code → List ℕ
 lettersIn Cents k = lettersOf k

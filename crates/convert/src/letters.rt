@@ -4,7 +4,8 @@ ghost use mathlib.Core.List.{map};
 ghost use Prim.Native.Nat.{_≤_};
 ghost use lib.ListN.{length, take};
 ghost use Rattle.layout.specs.Columns.{sheetLineBytes};
-ghost use Rattle.convert.specs.Scale.{raise, lower, otherLetter, scaleOf, raised};
+ghost use Rattle.convert.specs.Scale.{raise, lower, scaleOf, raised};
+ghost use Rattle.convert.specs.Steps.{otherLetter};
 use super::Scale;
 use layout::SHEET_LINE_BYTES;
 

@@ -19,8 +19,8 @@ ghost use Rattle.order.specs.Reading.{outcomeOf};
 ghost use Rattle.printing.specs.Lent.{stated, Done};
 ghost use Rattle.printing.specs.Printing.{printout, Printed};
 ghost use Rattle.convert.specs.Scale.{parseIn};
-ghost use Rattle.convert.specs.Call.{conversion, readingIn, LineWritten, LinesWritten};
-ghost use Rattle.convert.specs.Call.{linesCall, convertCall, ConvertsBack};
+ghost use Rattle.convert.specs.Call.{conversion, readingIn, convertCall, ConvertsBack};
+ghost use Rattle.convert.specs.Steps.{LineWritten, LinesWritten, linesCall};
 use layout::SHEET_LINE_BYTES;
 use order::PLACES;
 use printing::RoomAnswer;
@@ -75,7 +75,7 @@ fn convert_lines(scale: Scale, sheet: &[u8], room: &mut [u8]) -> RoomAnswer
     }
 }
 
-// Tests the lines of a sheet one after the other, up to the first bad one; all good, it gives how many there are.
+// Tests the lines of a sheet one after the other, up to the first bad one. There is no text yet: all good, it gives how many lines there are.
 fn test_lines(scale: Scale, sheet: &[u8], marks: &mut [u8; PLACES]) -> RoomAnswer
     requires { ⌜ now marks ≡ table markOf [] ⌝ }
     ensures { λ r. ⌜ stated r ≡ outcomeOf (readingIn scale (now (sheet .entry))) ⌝ }

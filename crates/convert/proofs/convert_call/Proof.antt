@@ -1,6 +1,6 @@
 -- A sheet that its length turns away is refused; any other is what its lines give, and what was written converts back. Assumes nothing.
 use mathlib.Core.Path.{sym, ap, _∙_}
-use Rattle.convert.specs.Call.{linesCall}
+use Rattle.convert.specs.Steps.{linesCall}
 use Rattle.convert.specs.declared.Scale.{Scale}
 use Rattle.convert.proofs.Calls.{whole-lines, call-turned, call-lines, promised}
 use borrow.Author.Needs.{needs}
