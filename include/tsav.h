@@ -20,6 +20,7 @@
      TSAV_NOWHERE    0
      TSAV_LINE       the line of the sheet, counted from 1
      TSAV_POSITION   the position in the call's numbers, counted from 0
+     TSAV_RISK       the risk, 1 to 7; of 22, which none of these calls gives
 
    The refusals:
 
@@ -45,7 +46,8 @@
      19  line                the line doesn't come after the one before it: lines ascend by code, in the order RSK, OTH, MOR,
                              VOL, ACQ, GEN, CRD, then by block, then by class
      20  line                converting from cents, an amount isn't whole thousands of dollars, a multiple of 100,000 cents
-     21  line                converting from thousands, an amount is above 999,999,999: in cents it has more than 14 digits */
+     21  line                converting from thousands, an amount is above 999,999,999: in cents it has more than 14 digits
+     22  risk                the program tsav-movement: raised, the component of the risk is above TSAV_LARGEST_AMOUNT */
 
 #ifndef TSAV_H
 #define TSAV_H
@@ -89,6 +91,7 @@ extern "C" {
 #define TSAV_NOWHERE 0
 #define TSAV_LINE 1
 #define TSAV_POSITION 2
+#define TSAV_RISK 3
 
 /* TSAV_VERSION, as the library was built. */
 uint64_t tsav_version(void);

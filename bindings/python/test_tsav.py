@@ -199,7 +199,7 @@ class Calls(unittest.TestCase):
         self.assertEqual(str(tsav.Refused(12)), "refusal 12")
 
     def test_a_broken_contract(self):
-        for place in ((3, 0), (0, 1), (2**64 - 1, 0)):
+        for place in ((tsav.RISK, 1), (0, 1), (2**64 - 1, 0)):
             with self.assertRaises(tsav.ContractBroken):
                 tsav._answered(7, place)
 

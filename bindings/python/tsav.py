@@ -41,10 +41,11 @@ BLOCK_LINES = 5
 LONGEST_SHEET = 629 * SHEET_LINE
 LONGEST_REPORT = REPORT_LINE * (BLOCK_LINES * MOST_BLOCKS + 3)
 
-# The kinds of a place.
+# The kinds of a place. No call gives a risk, which refusal 22 of the program tsav-movement has.
 NOWHERE = 0
 LINE = 1
 POSITION = 2
+RISK = 3
 
 
 class Figures(NamedTuple):

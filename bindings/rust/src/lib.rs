@@ -52,8 +52,8 @@ pub const fn report_length(blocks: usize) -> usize {
     REPORT_LINE * (BLOCK_LINES * blocks + 3)
 }
 
-/// The refusals are numbered from 1 to this.
-pub const LAST_REFUSAL: usize = 21;
+/// The refusals are numbered from 1 to this. 22 is of the program tsav-movement, and no call gives it.
+pub const LAST_REFUSAL: usize = 22;
 
 /// A block's figures: I and D in half cents, U, LT and K in cents; and the steps that the roots of I and of D take, at most
 /// 58 each. The roots are of hundredths of the half cent, and so is the D that K is taken at.

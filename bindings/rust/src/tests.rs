@@ -1,5 +1,5 @@
 use super::*;
-use contract::{LINE, NOWHERE, POSITION};
+use contract::{LINE, NOWHERE, POSITION, RISK};
 use reference::{
     all_lines, convert_cases, example, fluctuation_cases, report_line, sheet_line, EXAMPLE_FIGURES, IN_THOUSANDS,
     WHOLE_RUN, WHOLE_RUN_REPORT,
@@ -256,6 +256,7 @@ fn the_headers_numbers() {
         ("NOWHERE", NOWHERE),
         ("LINE", LINE),
         ("POSITION", POSITION),
+        ("RISK", RISK),
     ];
     assert_eq!(defined, ours.map(|(name, number)| (name, number.to_string())));
     // SAFETY: nothing is lent.

@@ -51,6 +51,10 @@ fn refused(n: u8, p: Place) {
             say(b" position");
             number(cast::word(at));
         }
+        Place::Risk(at) => {
+            say(b" risk");
+            number(cast::word(at));
+        }
         Place::Nowhere => {}
     }
     say(b"\n");

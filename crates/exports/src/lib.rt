@@ -26,7 +26,7 @@ use refusal::Place;
 // Given by a call that is accepted. No refusal has this number.
 const ACCEPTED: u64 = 0;
 
-// The kind of a place: nowhere, a line, a position.
+// The kind of a place: nowhere, a line, a position, a risk.
 const NOWHERE: u64 = 0;
 
 // A line of the sheet.
@@ -34,6 +34,9 @@ const LINE: u64 = 1;
 
 // A position in the call's numbers.
 const POSITION: u64 = 2;
+
+// A risk, 1 to 7.
+const RISK: u64 = 3;
 
 // What the block call gives: the figures, and the steps of its two roots.
 const BLOCK_VALUES: usize = BLOCK_FIGURES + 2;
@@ -167,7 +170,7 @@ fn refuse(number: u8, at: Place, place: &mut [u64; 2]) -> u64
     cast::byte(number)
 }
 
-// The kind of a place, and its line or position.
+// The kind of a place, and its line, position or risk.
 fn place_numbers(at: Place) -> [u64; 2]
     ensures { λ r. ⌜ r ≡ placeOf at ⌝ }
 {
@@ -175,5 +178,6 @@ fn place_numbers(at: Place) -> [u64; 2]
         Place::Nowhere => [NOWHERE, 0],
         Place::Line(line) => [LINE, cast::word(line)],
         Place::Position(position) => [POSITION, cast::word(position)],
+        Place::Risk(risk) => [RISK, cast::word(risk)],
     }
 }

@@ -73,7 +73,7 @@ digit-space : (v : ℕ) → v ≡ 0 → digitOrSpace v ≡ 32
 unfolding digitOrSpace
 digit-space v e = if-eq _ e
 
-digit-shown : (v : ℕ) → 0 < v → digitOrSpace v ≡ 48 + v % 10
+pub digit-shown : (v : ℕ) → 0 < v → digitOrSpace v ≡ 48 + v % 10
 unfolding digitOrSpace
 digit-shown v h = let n : v ≡ 0 → ⊥ = λ e. omega arith in if-ne _ n
 
@@ -124,7 +124,7 @@ unfolding leadingDigits
 space-leading zero v h = rw (digit-space v (omega arith))
 space-leading (suc n) v h = ap (λ (l : List ℕ). l ++ (digitOrSpace v ∷ [])) (space-leading n (v / 10) (omega arith))
 
-space-decimal : (n v : ℕ) → 0 < n → v < 10 ^ n → decimal (suc n) v ≡ 32 ∷ decimal n v
+pub space-decimal : (n v : ℕ) → 0 < n → v < 10 ^ n → decimal (suc n) v ≡ 32 ∷ decimal n v
 unfolding decimal
 space-decimal zero v p h = absurd (omega arith)
 space-decimal (suc n) v p h = ap (λ (l : List ℕ). l ++ ((48 + v % 10) ∷ [])) (space-leading n (v / 10) (omega arith))

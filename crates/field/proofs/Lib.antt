@@ -3,3 +3,4 @@ pub mod Reading
 pub mod Writing
 pub mod Inverse
 pub mod Put
+pub mod Minus

@@ -59,7 +59,7 @@ pub all-written : {n v : ℕ} {l : List ℕ} {i w : ℕ} → Written n v l i w �
 unfolding leadingDigits
 all-written {i = i} W h = let e : i ≡ 0 = omega arith in rw e at (W .text)
 
-length-leading : (w v : ℕ) → length (leadingDigits w v) ≡ w
+pub length-leading : (w v : ℕ) → length (leadingDigits w v) ≡ w
 unfolding leadingDigits
 length-leading zero v = refl
 length-leading (suc w) v = rw (length-append, length-leading w (v / 10), add-one)

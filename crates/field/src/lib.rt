@@ -1,4 +1,8 @@
 // A decimal number in columns: read and written.
+
+// A number that may be below 0.
+pub mod signed;
+
 ghost use mathlib.Core.Path.{_≡_};
 ghost use Prim.Native.Nat.{_+_, _-_, _*_, _%_, _≤_, _<_};
 ghost use lib.ListN.{length, drop};

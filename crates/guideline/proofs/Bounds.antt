@@ -8,7 +8,7 @@ use Rattle.search.proofs.Roots.{le-of-squares, lt-of-squares}
 use Rattle.guideline.specs.Block.{radicand, M, kNumerator, k-undiversified}
 
 -- (b − a)(d − c) is 0 or more
-cross : {a b c d : ℕ} → a ≤ b → c ≤ d → a * d + b * c ≤ b * d + a * c
+pub cross : {a b c d : ℕ} → a ≤ b → c ≤ d → a * d + b * c ≤ b * d + a * c
 cross h k = rw (← le-dest h .1, ← le-dest k .1) (omega arith)
 
 pub twice : (a b : ℕ) → 2 * (a * b) ≤ a * a + b * b
@@ -25,6 +25,9 @@ radicand-rises a h = omega (arith, mul-le-mul-left a h, mul-le-mul h h)
 pub root-thrice : (a i d : ℕ) → radicand a i ≤ d * d → a + 3 * i ≤ 3 * d
 root-thrice a i d h = le-of-squares (a + 3 * i) (3 * d) (omega arith)
 
+pub root-twice : (a i d : ℕ) → radicand a i ≤ d * d → a + 2 * i ≤ 2 * d
+root-twice a i d h = le-of-squares (a + 2 * i) (2 * d) (omega arith)
+
 -- any n/s whose square is at least the radicand is above D − 2, in the unit of D: `c` is D − 1
 module _ (a n s c : ℕ) (pos : 0 < s) where
   -- where the largest y decides I
@@ -34,7 +37,7 @@ module _ (a n s c : ℕ) (pos : 0 < s) where
   -- where the root decides I, which is j + 1
   pub near-root : (j : ℕ) → c * c < radicand a (suc j) → radicand a j * (s * s) ≤ n * n → c * s < n + s
   near-root j lt h =
-      let two = le-of-squares (a * s + 2 * (j * s)) (2 * n) (omega arith) in
+      let two = root-twice (a * s) (j * s) n (omega arith) in
       lt-of-squares (c * s) (n + s) (omega (arith, mul-lt-mul-of-pos-right lt (mul-pos pos pos), mul-le-mul-right s two))
 
 -- ---- M

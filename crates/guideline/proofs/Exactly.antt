@@ -108,6 +108,10 @@ module _ (b : List ℕ) (v : AcceptedBlock b) where
         | no h ↦ absurd (f .within (record { smaller = hundredths (fineD b) 0; less = omega arith; at = fine-d-at }))
       ]
 
+  -- and at most V, as D is
+  pub fits-high : (d : Fraction) → Fits b d → d ≤ᶠ whole (Vh b) 0
+  fits-high d f = ≤ᶠ-trans d (hundredths (fineD b) 0) (whole (Vh b) 0) (fits-below d f) (omega (arith, fine-d-high b v))
+
   -- ---- and so for the reported ones, which are no lower
 
   i-reported : hundredths (fineI b) 0 ≤ᶠ whole (I b) 0
@@ -145,7 +149,7 @@ module _ (b : List ℕ) (v : AcceptedBlock b) where
   -- ---- K − 1.01 is strictly below it
 
   -- what is at or above the exact D is at least V/3 ..
-  at-third : (e : Fraction) → AtOrAboveD b e → Vh b * e .denominator ≤ 3 * nat e
+  pub at-third : (e : Fraction) → AtOrAboveD b e → Vh b * e .denominator ≤ 3 * nat e
   at-third e h =
       let c = 2 * PC b in
       elim (decLe 1 (seven (y b))) [

@@ -58,7 +58,7 @@ module _ (b : List ℕ) where
   unfolding sum ys
   summed = ap pos (omega arith)
 
-  formed : form (λ i. pos (getD (ys b) i 0)) ≡ pos (q b)
+  pub formed : form (λ i. pos (getD (ys b) i 0)) ≡ pos (q b)
   unfolding Q4
   formed = sym (quarter-form (ys b)) ∙ q-is b
 

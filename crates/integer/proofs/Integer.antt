@@ -1,12 +1,12 @@
 -- The integers as differences of two naturals: an equation of ℤ becomes one of ℕ, which omega proves. Then the laws of the
--- ring that lib.IntN leaves out, and the ruleset `ring` for simp. Assumes nothing.
+-- ring that lib.IntN leaves out, the ruleset `ring` for simp, and the sizes of sums and products. Assumes nothing.
 use mathlib.Core.Path.{_≡_, refl, sym, ap, _∙_, subst}
 use mathlib.Core.Bool.{Bool, cond}
 use Prim.Native.Nat.{ℕ, zero, suc, _+_, _-_, _*_, _≤_, _<_}
-use native.Mathlib.Nat.{lt-of-not-le, le-dest, mul-add, add-mul, mul-assoc, mul-comm, mul-left-comm, add-assoc, add-comm, add-left-comm}
+use native.Mathlib.Nat.{lt-of-not-le, le-trans, le-dest, mul-add, add-mul, mul-assoc, mul-comm, mul-left-comm, add-assoc, add-comm, add-left-comm}
 use native.Mathlib.Decide.{decLe}
 use native.Mathlib.Omega.{arith}
-use lib.IntN.{ℤ, pos, negsuc, negℤ, subℕ, _+ℤ_, _*ℤ_, *ℤ-comm, +ℤ-comm, +ℤ-assoc}
+use lib.IntN.{ℤ, pos, negsuc, negℤ, natAbs, subℕ, _+ℤ_, _*ℤ_, *ℤ-comm, +ℤ-comm, +ℤ-assoc}
 use borrow.Author.Tests.{lt-ltb, le-ltb}
 
 -- a difference below 0, and one that is not
@@ -113,3 +113,25 @@ pub +ℤ-left-comm : (a b c : ℤ) → a +ℤ (b +ℤ c) ≡ b +ℤ (a +ℤ c)
 
 -- for simp: sums and products are multiplied out and sorted
 pub ruleset ring = (*ℤ-+ℤ, +ℤ-*ℤ, *ℤ-assoc, *ℤ-comm, *ℤ-left-comm, +ℤ-assoc, +ℤ-comm, +ℤ-left-comm)
+
+-- ---- the size of a negative, of a sum and of a product
+
+pub abs-neg : (z : ℤ) → natAbs (negℤ z) ≡ natAbs z
+abs-neg (pos zero) = refl
+abs-neg (pos (suc n)) = refl
+abs-neg (negsuc n) = refl
+
+abs-diff : (a b : ℕ) → natAbs (subℕ a b) ≤ a + b
+abs-diff a b = elim (decLe b a) [ yes h ↦ rw (above h) (omega arith) | no n ↦ rw (below (lt-of-not-le n)) (omega arith) ]
+
+pub abs-add : (a b : ℤ) → natAbs (a +ℤ b) ≤ natAbs a + natAbs b
+abs-add (pos a) (pos b) = omega arith
+abs-add (pos a) (negsuc b) = abs-diff a (suc b)
+abs-add (negsuc a) (pos b) = le-trans (abs-diff b (suc a)) (omega arith)
+abs-add (negsuc a) (negsuc b) = omega arith
+
+pub abs-mul : (a b : ℤ) → natAbs (a *ℤ b) ≡ natAbs a * natAbs b
+abs-mul (pos a) (pos b) = refl
+abs-mul (pos a) (negsuc b) = abs-neg (pos (a * suc b))
+abs-mul (negsuc a) (pos b) = abs-neg (pos (suc a * b))
+abs-mul (negsuc a) (negsuc b) = refl

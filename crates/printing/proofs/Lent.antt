@@ -4,8 +4,8 @@ use mathlib.Core.Path.{_≡_, refl, sym, ap, subst, subst⁻¹, _∙_}
 use mathlib.Core.List.{List, [], _∷_, _++_}
 use Prim.Native.Nat.{ℕ, _≤_, _<_}
 use native.Mathlib.Omega.{arith}
-use lib.ListN.{length, drop}
-use borrow.Author.Tests.{ltb-true}
+use lib.ListN.{length, drop, length-append, length-drop}
+use borrow.Author.Tests.{ltb-true, ltb-false}
 use Rattle.search.proofs.Picks.{if-lt, if-ge, by-test, never}
 use Rattle.refusal.specs.Outcome.{Outcome, Judging, printed}
 use Rattle.refusal.specs.Outcome.Outcome.{accepted, refused}
@@ -34,6 +34,17 @@ module _ (x : Text) (r : List ℕ) where
       go : (y : Text) → x ≡ y → P (lent y r)
       go (noText n p) e = turned n p e
       go (bytes t) e = by-test P _ _ _ (λ u. short t e (ltb-true _ _ u)) (λ u. full t e)
+
+  -- the room stays as long as it was
+  pub lent-long : length (lent x r .room) ≡ length r
+  unfolding lent
+  lent-long = go x
+    where
+      go : (y : Text) → length (lent y r .room) ≡ length r
+      go (noText n p) = refl
+      go (bytes t) =
+          by-test (λ (d : Done). length (d .room) ≡ length r) _ _ _ (λ u. refl)
+          (λ u. length-append t (drop (length t) r) ∙ omega (arith, length-drop (length t) r, ltb-false (length r) (length t) u))
 
   -- each answer by itself
   pub lent-turned : {n : ℕ} {p : Place} → x ≡ noText n p → untouched n p r ≡ lent x r

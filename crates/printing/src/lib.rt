@@ -30,7 +30,7 @@ pub fn print_answer(answer: RoomAnswer, room: &mut [u8]) -> usize
 }
 
 // The line of a refusal.
-fn write_refusal(out: &mut [u8], number: u8, place: Place)
+pub fn write_refusal(out: &mut [u8], number: u8, place: Place)
     requires { ⌜ length (now out) ≡ reportLineBytes ⌝ }
     ensures { λ _. ⌜ now (out .exit) ≡ refusalLine number place ⌝ }
 {
@@ -44,6 +44,7 @@ fn place_number(place: Place) -> u64
     match place {
         Place::Line(n) => cast::word(n),
         Place::Position(n) => cast::word(n),
+        Place::Risk(n) => cast::word(n),
         Place::Nowhere => 0,
     }
 }

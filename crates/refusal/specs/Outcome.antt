@@ -1,6 +1,6 @@
 -- What a call gives, in document 01's terms: 'A refusal is its number with a line, a position, or no place', and 'A refused call
--- gives no figure'. Every call's answer is an enum of its own; beside it a definition turns each case into one of these.
--- Assumes nothing.
+-- gives no figure'. Document 02, #111, adds a risk: 'as number 22 with its risk'. Every call's answer is an enum of its own; beside it a
+-- definition turns each case into one of these. Assumes nothing.
 use mathlib.Core.Path.{_≡_}
 use mathlib.Core.Bool.{true, false}
 use mathlib.Core.List.{List}
@@ -9,7 +9,7 @@ use native.Mathlib.Omega.{arith}
 use lib.Dec.{eqb, ltb}
 use borrow.Author.Tests.{eqb-false, ltb-true}
 use Rattle.refusal.specs.declared.Place.{Place}
-use Rattle.refusal.specs.declared.Place.the-variants.{Line, Position, Nowhere}
+use Rattle.refusal.specs.declared.Place.the-variants.{Line, Position, Risk, Nowhere}
 
 -- accepted with its values, or refused by number and place
 pub data Outcome : Type 0 where
@@ -22,6 +22,7 @@ pub data Outcome : Type 0 where
 abbrev pub printed : Place → ℕ
 printed (Line n) = n
 printed (Position n) = n
+printed (Risk n) = n
 printed Nowhere = 0
 
 -- a number that judging a sheet refuses by: never 0, which an exported call gives where it accepts, never 14, which speaks of the lent

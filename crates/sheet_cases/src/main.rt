@@ -115,6 +115,9 @@ fn tell(answer: RoomAnswer) {
             Place::Position(at) => {
                 line(*b"REF", cast::byte(n), 2, cast::word(at));
             }
+            Place::Risk(at) => {
+                line(*b"REF", cast::byte(n), 3, cast::word(at));
+            }
             Place::Nowhere => {
                 line(*b"REF", cast::byte(n), 0, 0);
             }

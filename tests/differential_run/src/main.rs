@@ -128,6 +128,7 @@ fn refused(refusal: reference::Refusal) -> tsav::Error {
         reference::Place::Line(line) => tsav::Place::Line(line),
         reference::Place::Position(position) => tsav::Place::Position(position),
         reference::Place::Nowhere => tsav::Place::Nowhere,
+        other => panic!("no call has a place {other:?}"),
     };
     tsav::Error::Refused(tsav::Refusal { number: refusal.number, place })
 }

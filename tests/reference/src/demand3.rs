@@ -128,7 +128,7 @@ fn judge_buffer(sheet: &Sheet, blocks: &[(Big, Big)], buffer: u64) -> Result<boo
 }
 
 /// What a cent is where numbers are times SCALE², and a hundredth of it.
-fn cent() -> Big {
+pub(crate) fn cent() -> Big {
     Big::from(SCALE) * Big::from(SCALE)
 }
 fn hundredth_of_a_cent() -> Big {
@@ -147,7 +147,7 @@ fn within(reported: Big, (lower, upper): (Big, Big), allowance: Big) -> Result<b
 }
 
 /// The ends of the exact K, in cents × SCALE². None when no d fits: "3 × d is at least V" fails at the exact D.
-fn exact_k(t: &Terms) -> Option<(Big, Big)> {
+pub(crate) fn exact_k(t: &Terms) -> Option<(Big, Big)> {
     if t.u == 0 {
         return Some((Big::from(0), Big::from(0)));
     }

@@ -10,6 +10,9 @@ pub const WHOLE_RUN_REPORT: &str = include_str!("../../../crates/tsav_sheet/stdo
 /// #110: a sheet in thousands of dollars, with the lines of the whole run.
 pub const IN_THOUSANDS: &[u8] = include_bytes!("../../../examples/thousands.sheet");
 
+/// #111: the example's block, and a raise of 10,000 dollars.
+pub const EXAMPLE_MOVEMENT: &[u8] = include_bytes!("../../../examples/example.movement");
+
 /// I, D, U, LT and K of the example, as "Calibration points" has them; then the steps of #107, by #109 of the finer roots: that of
 /// I, PC not yet added, is 15,288,417,185 hundredths of the half cent, between 2^33 and 2^34, and that of D 19,140,543,664, above
 /// 2^34.

@@ -1,5 +1,5 @@
-//! A seeded generator of sheets, sound and damaged, and of rooms for their reports; of sheets to convert; and of numbers for
-//! the other three calls.
+//! A seeded generator of sheets, sound and damaged, and of rooms for their reports; of sheets to convert; of numbers for the
+//! other three calls; and of inputs for the program of #111.
 //! The same seed and index always give the same case.
 
 use crate::block::{EXPENSES_LT, PC};
@@ -166,6 +166,71 @@ fn next_to_a_step(random: &mut Random) -> [u64; BLOCK_NUMBERS] {
         numbers[2] = random.from(0, y / 4);
     }
     numbers
+}
+
+/// #111: input `index` of `seed` of the movement program: a block's numbers and t, sound, with faults, or of any bytes.
+pub fn movement_input(seed: u64, index: u64) -> Vec<u8> {
+    let mut random = Random::new(seed, index);
+    let mut numbers = if random.one_in(8) { next_to_a_step(&mut random) } else { sound_block(&mut random) };
+    if random.one_in(8) {
+        falling(&mut random, &mut numbers);
+    }
+    let t = raise(&mut random, &numbers);
+    for _ in 0..random.pick(&[0, 0, 0, 0, 1, 2]) {
+        let risk = random.at(RISKS - 1);
+        match random.below(3) {
+            // 8
+            0 => numbers[EXPENSES_LT] = some_amount(&mut random),
+            // 9
+            _ => numbers[2 * risk + 1] = (numbers[2 * risk] + 1).min(LARGEST_AMOUNT),
+        }
+    }
+    let mut input: Vec<u8> = numbers.iter().chain([&t]).flat_map(|n| format!("{n:>14}\n").into_bytes()).collect();
+    for _ in 0..random.pick(&[0, 0, 0, 0, 1, 2]) {
+        damage_input(&mut random, &mut input);
+    }
+    input
+}
+
+/// Lapse-sensitive business, little or nothing of lapse-supported, and some other risks: K may fall as the latter is raised.
+fn falling(random: &mut Random, numbers: &mut [u64; BLOCK_NUMBERS]) {
+    let most = 1 << random.from(1, 40);
+    numbers[8] = random.from(1, most);
+    numbers[9] = 0;
+    numbers[10] = part_of(random, numbers[8] / 8);
+    numbers[11] = 0;
+}
+
+/// t: nothing, little, a part of an IR, what takes one to the limit or just above it, any.
+fn raise(random: &mut Random, numbers: &[u64; BLOCK_NUMBERS]) -> u64 {
+    let style = random.below(STYLES + 1);
+    let (any, ir) = (amount(random, style), numbers[2 * random.at(RISKS)]);
+    let to_the_limit = LARGEST_AMOUNT - ir;
+    let part = part_of(random, ir);
+    random.pick(&[0, 1, 2, 100, part, to_the_limit, (to_the_limit + 1).min(LARGEST_AMOUNT), any, any, any])
+}
+
+/// 2: a byte, a line or more too many or too few, or carriage returns. 3: a wrong byte, a number that isn't right-justified, or none.
+fn damage_input(random: &mut Random, input: &mut Vec<u8>) {
+    let line_bytes = MOVEMENT_INPUT_BYTES / (BLOCK_NUMBERS + 1);
+    match random.below(8) {
+        0 => input.truncate(random.at(input.len() + 1)),
+        1 => input.extend_from_within(..random.at(input.len() + 1).min(2 * line_bytes)),
+        2 => *input = with_carriage_returns(input),
+        _ if input.len() < line_bytes => {}
+        3 | 4 => {
+            let at = random.at(input.len());
+            input[at] = random.pick(&STRANGE);
+        }
+        5 => {
+            let any = random.at(input.len() / line_bytes);
+            input[line_bytes * (any + 1) - 1] = random.pick(b" 0\r\0");
+        }
+        _ => {
+            let at = line_bytes * random.at(input.len() / line_bytes);
+            move_number(random, &mut input[at..at + line_bytes - 1]);
+        }
+    }
 }
 
 /// The volumes and the general figures of operational call `index` of `seed`: sound, with faults, or of any size.

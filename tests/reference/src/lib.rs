@@ -1,4 +1,4 @@
-//! The calculator of document 01, with requests #101, #102 and #104 to #110 of document 02, in plain Rust with u128: no
+//! The calculator of document 01, with requests #101, #102 and #104 to #111 of document 02, in plain Rust with u128: no
 //! dependency, nothing clever, and no code shared with the calculator itself. It is a test oracle: what it answers is
 //! compared with what the calculator answers.
 //!
@@ -15,17 +15,19 @@ mod example;
 mod fluctuation;
 pub mod generate;
 mod mortality;
+mod movement;
 mod operational;
 mod sheet;
 
 pub use block::block_call;
 pub use convert::{convert_call, convert_cases, ConvertCase, THOUSAND_DOLLARS};
 pub use demand3::{demand3, judge};
-pub use example::{example, EXAMPLE_FIGURES, IN_THOUSANDS, WHOLE_RUN, WHOLE_RUN_REPORT};
+pub use example::{example, EXAMPLE_FIGURES, EXAMPLE_MOVEMENT, IN_THOUSANDS, WHOLE_RUN, WHOLE_RUN_REPORT};
 pub use fluctuation::{fluctuation_call, fluctuation_cases, judge_fluctuation, FluctuationCase, FLUCTUATION_ROWS};
 pub use mortality::{aggregate, mortality_credit};
+pub use movement::{judge_movements, movement_call, print_movements, Moved, MOVEMENT_INPUT_BYTES};
 pub use operational::operational_call;
-pub use sheet::{all_lines, report_length, report_line, sheet_call, sheet_line};
+pub use sheet::{all_lines, print_sheet, report_length, report_line, sheet_call, sheet_line};
 
 /// "What the calculator holds": all amounts are whole cents, 0 to 99,999,999,999,999.
 pub const LARGEST_AMOUNT: u64 = 99_999_999_999_999;
@@ -85,7 +87,8 @@ pub const LONGEST_SHEET: usize = MOST_LINES * LINE_BYTES;
 /// "The sheet and the report": room for all blocks.
 pub const LONGEST_REPORT: usize = report_length(MOST_BLOCKS);
 
-/// "What is turned away": a refusal is its number with a line (from 1), a position (from 0) or no place.
+/// "What is turned away": a refusal is its number with a line (from 1), a position (from 0) or no place; by #111 also with its
+/// risk.
 #[derive(Clone, Copy, Debug, PartialEq, Eq)]
 pub struct Refusal {
     pub number: u8,
@@ -96,6 +99,7 @@ pub struct Refusal {
 pub enum Place {
     Line(usize),
     Position(usize),
+    Risk(usize),
     Nowhere,
 }
 
@@ -108,7 +112,20 @@ impl Refusal {
         Refusal { number, place: Place::Position(position) }
     }
 
+    pub fn at_risk(number: u8, risk: usize) -> Refusal {
+        Refusal { number, place: Place::Risk(risk) }
+    }
+
     pub fn nowhere(number: u8) -> Refusal {
         Refusal { number, place: Place::Nowhere }
+    }
+
+    /// "one line, REF, the refusal's number in 5–6, 0 in 8–9, the place in 11–28"; "printed, no place is 0".
+    pub fn line(self) -> Vec<u8> {
+        let place = match self.place {
+            Place::Line(at) | Place::Position(at) | Place::Risk(at) => at as u64,
+            Place::Nowhere => 0,
+        };
+        report_line("REF", self.number.into(), 0, place)
     }
 }

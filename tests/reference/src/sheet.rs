@@ -136,6 +136,15 @@ pub fn sheet_call(sheet: &[u8], report: &mut [u8]) -> Result<usize, Refusal> {
     Ok(length)
 }
 
+/// What tsav-sheet is to print: the report, or the line of the refusal.
+pub fn print_sheet(sheet: &[u8]) -> Vec<u8> {
+    let mut report = vec![0; LONGEST_REPORT];
+    match sheet_call(sheet, &mut report) {
+        Ok(length) => report[..length].to_vec(),
+        Err(refusal) => refusal.line(),
+    }
+}
+
 /// 29 × (5n + 3) bytes for n blocks.
 pub const fn report_length(blocks: usize) -> usize {
     REPORT_LINE_BYTES * (FIGURES * blocks + 3)

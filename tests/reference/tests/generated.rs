@@ -1,6 +1,8 @@
 //! Generated sheets.
 
-use reference::generate::{accepted, block_numbers, case, convert_case, fluctuation_numbers, operational_numbers};
+use reference::generate::{
+    accepted, block_numbers, case, convert_case, fluctuation_numbers, movement_input, operational_numbers,
+};
 use reference::*;
 use std::collections::{BTreeMap, BTreeSet};
 
@@ -142,6 +144,43 @@ fn conversions_of_every_kind() {
     // The first amount alone, the second alone, both; never neither.
     assert_eq!(seconds.len(), 6, "{seconds:?}");
     assert!(seconds.iter().all(|&(_, first, second)| first || second));
+}
+
+/// #111: the movements reach every row that the program has, and movements of every kind; both of the theorem's bounds hold of all
+/// that is printed, and K moves by t itself and falls.
+#[test]
+fn movements_of_every_kind() {
+    let (mut counts, mut kinds) = (BTreeMap::new(), BTreeMap::<&str, u64>::new());
+    let (mut moved, mut decided) = (0, 0);
+    for index in 0..20_000 {
+        let input = movement_input(5, index);
+        let answer = movement_call(&input);
+        let number = answer.as_ref().map_or_else(|refusal| refusal.number, |_| 0);
+        *counts.entry(number).or_insert(0) += 1;
+        let Ok(movements) = answer else { continue };
+        let judged = judge_movements(&input, &print_movements(&input));
+        let judged = judged.unwrap_or_else(|why| panic!("input {index}: {why}"));
+        moved += judged.movements;
+        decided += judged.decided;
+        let t: i64 = std::str::from_utf8(&input[255..269]).unwrap().trim().parse().unwrap();
+        let refused = movements.iter().filter(|movement| movement.is_err()).count();
+        assert_eq!(judged.movements + refused, RISKS);
+        let some = |holds: &dyn Fn(i64) -> bool| movements.iter().flatten().any(|&movement| holds(movement));
+        for (kind, holds) in [
+            ("no raise", t == 0),
+            ("by t", t > 0 && some(&|movement| movement == t)),
+            ("a fall", some(&|movement| movement < 0)),
+            ("a fall by more than a cent", some(&|movement| movement < -1)),
+            ("some risks refused", 0 < refused && refused < RISKS),
+            ("all risks refused", refused == RISKS),
+        ] {
+            *kinds.entry(kind).or_default() += u64::from(holds);
+        }
+    }
+    println!("answers of 20,000 inputs, 0 for accepted: {counts:?}; {moved} movements, {decided} decided; {kinds:?}");
+    assert!(counts.keys().eq(&[0, 2, 3, 8, 9]) && counts.values().all(|&count| count >= 100), "{counts:?}");
+    assert!(kinds.values().all(|&count| count >= 20), "{kinds:?}");
+    assert!(decided * 100 >= moved * 99, "{decided} of {moved}");
 }
 
 /// The numbers of the other three calls reach every row that these can give, and 7 at positions of every size.

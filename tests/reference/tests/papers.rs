@@ -986,3 +986,132 @@ fn stored_conversions() {
     assert_eq!(numbers(false), [0, 2, 3, 4, 5, 8, 9, 10, 11, 20]);
     assert_eq!(numbers(true), [0, 2, 3, 4, 6, 8, 10, 11, 19, 21]);
 }
+
+/// #111: the program's input: zeros but for these positions of the block, and t.
+fn movement_input(amounts: &[(usize, u64)], t: u64) -> Vec<u8> {
+    let mut numbers = [0; BLOCK_NUMBERS + 1];
+    for &(position, amount) in amounts {
+        numbers[position] = amount;
+    }
+    numbers[BLOCK_NUMBERS] = t;
+    numbers.iter().flat_map(|number| format!("{number:>14}\n").into_bytes()).collect()
+}
+
+/// #111: the movements as they are printed, a REF line as its number, 0 and the place.
+fn movements(input: &[u8]) -> Vec<String> {
+    let printed = String::from_utf8(print_movements(input)).unwrap();
+    printed.lines().map(|line| line.split_whitespace().collect::<Vec<&str>>().join(" ")).collect()
+}
+
+/// #111, worked out by hand. One risk alone has K = U, and so moves by t. With IR(1) 100 and IR(2) 10 the floor of I is 200, so D is
+/// 200, V 220 and K the least number at or above 1,336,400 / 13,200 = 101.2; with IR(1) 110 alone it is 110.
+#[test]
+fn one_input_moved() {
+    let alone = movements(&movement_input(&[(0, 100)], 10));
+    assert_eq!(alone[..2], ["MOV 0 1 10", "MOV 0 2 2"]);
+    // Nothing is moved by nothing, and of no block every risk moves by t.
+    let seven = |movement: &str| (1..=RISKS).map(|risk| format!("MOV 0 {risk} {movement}")).collect::<Vec<String>>();
+    assert_eq!(movements(&movement_input(&[], 0)), seven("0"));
+    assert_eq!(movements(&movement_input(&[(0, 5), (1, 5), (8, 70), (15, 3)], 0)), seven("0"));
+    assert_eq!(movements(&movement_input(&[], 1)), seven("1"));
+    assert_eq!(movements(&movement_input(&[], LARGEST_AMOUNT)), seven("99999999999999"));
+    // Nor by PC, credit and market, which are added whole where they stand alone beside nothing.
+    assert_eq!(print_movements(&movement_input(&[], 7)).len(), RISKS * REPORT_LINE_BYTES);
+}
+
+/// #111: "a minus right before a fall". Morbidity incidence of 2 and lapse-sensitive of 20 have 4Q = 7,104, D = 42.15 half cents, V 44
+/// and K the least number at or above 55,822.075 / 2,640 = 21.1, which is 22. With lapse-supported of 1 it is 4Q = 6,800, D = 41.24, V
+/// 46 and K the least at or above 57,809.888 / 2,760 = 20.9, which is 21.
+#[test]
+fn a_fall_has_a_minus() {
+    let printed = print_movements(&movement_input(&[(4, 2), (8, 20)], 1));
+    assert_eq!(printed[5 * REPORT_LINE_BYTES..6 * REPORT_LINE_BYTES], *b"MOV  0  6                 -1\n");
+    assert_eq!(printed[4 * REPORT_LINE_BYTES..5 * REPORT_LINE_BYTES], *b"MOV  0  5                  1\n");
+}
+
+/// #111: the example of document 000 with a risk raised, beside the block call on the raised block.
+#[test]
+fn the_example_moved() {
+    let (numbers, t) = (example(), 1_000_000);
+    let input: Vec<u8> = numbers.iter().chain([&t]).flat_map(|n| format!("{n:>14}\n").into_bytes()).collect();
+    assert_eq!(input, EXAMPLE_MOVEMENT);
+    let expected: Vec<String> = (1..=RISKS)
+        .map(|risk| {
+            let mut raised = numbers;
+            raised[2 * (risk - 1)] += t;
+            format!("MOV 0 {risk} {}", block_call(&raised).unwrap()[4] - EXAMPLE_FIGURES[4])
+        })
+        .collect();
+    assert_eq!(movements(&input), expected);
+    assert_eq!(judge_movements(&input, &print_movements(&input)).map(|moved| moved.movements), Ok(RISKS));
+}
+
+/// #111: "as number 22 with its risk, a raise that takes IR(i) above the limit: its REF line stands in that MOV line's place, and the
+/// other risks are printed". At the limit it is none.
+#[test]
+fn a_raise_above_the_limit() {
+    let most = LARGEST_AMOUNT;
+    let at = |ir: u64, t: u64| movements(&movement_input(&[(4, ir)], t));
+    assert_eq!(at(most - 5, 5)[2], "MOV 0 3 5");
+    let above = at(most - 5, 6);
+    assert_eq!(above.len(), RISKS);
+    assert_eq!(above[2], "REF 22 0 3");
+    assert!(above.iter().enumerate().all(|(at, line)| at == 2 || line.starts_with(&format!("MOV 0 {} ", at + 1))));
+    // Each risk, and all of them.
+    for risk in 1..=RISKS {
+        let lines = movements(&movement_input(&[(2 * (risk - 1), 1)], most));
+        assert_eq!(lines[risk - 1], format!("REF 22 0 {risk}"));
+        assert_eq!(lines.iter().filter(|line| line.starts_with("REF")).count(), 1);
+    }
+    let all: Vec<(usize, u64)> = (0..RISKS).map(|risk| (2 * risk, 1)).collect();
+    let lines = movements(&movement_input(&all, most));
+    assert_eq!(lines, (1..=RISKS).map(|risk| format!("REF 22 0 {risk}")).collect::<Vec<String>>());
+}
+
+/// #111: "another length is refused as 2, a broken line as 3, then what the block call refuses, each by tsav-sheet's REF line alone":
+/// each alone, and beside what comes before and after it.
+#[test]
+fn refusals_of_the_movement_program() {
+    let whole = |input: &[u8], line: &str| {
+        assert_eq!(movements(input), [line], "{}", input.escape_ascii());
+        assert_eq!(print_movements(input).len(), REPORT_LINE_BYTES);
+    };
+    let sound = movement_input(&[(0, 100), (1, 40)], 5);
+    assert_eq!(sound.len(), MOVEMENT_INPUT_BYTES);
+    let put = |input: &[u8], at: usize, bytes: &[u8]| {
+        let mut input = input.to_vec();
+        input[at..at + bytes.len()].copy_from_slice(bytes);
+        input
+    };
+    // 2, beside broken lines and what the block call refuses.
+    whole(b"", "REF 2 0 0");
+    for length in [1, 15, 255, 269] {
+        whole(&sound[..length], "REF 2 0 0");
+    }
+    whole(&[&sound[..], b"\n"].concat(), "REF 2 0 0");
+    whole(&[&sound[..], &sound[..15]].concat(), "REF 2 0 0");
+    whole(&put(&sound, 0, b"x")[..269], "REF 2 0 0");
+    let saved: Vec<u8> = sound.chunks(15).flat_map(|line| [&line[..14], b"\r\n"].concat()).collect();
+    whole(&saved, "REF 2 0 0");
+    // 3, at the first broken line: every line, t's too.
+    for line in 1..=18 {
+        whole(&put(&sound, 15 * (line - 1), b"x"), &format!("REF 3 0 {line}"));
+        whole(&put(&sound, 15 * line - 1, b" "), &format!("REF 3 0 {line}"));
+        whole(&put(&sound, 15 * (line - 1), b"              "), &format!("REF 3 0 {line}"));
+    }
+    whole(&put(&put(&sound, 30, b"x"), 15, b"x"), "REF 3 0 2");
+    for broken in [&b"00"[..], b"-1", b"+1", b"1 ", b"\t1", b".1"] {
+        whole(&put(&sound, 14 - broken.len(), broken), "REF 3 0 1");
+    }
+    // 3 before 8 and 9; 8 before 9; 9 at its first position.
+    let (eight, nine) = (movement_input(&[(12, 9), (13, 1)], 0), movement_input(&[(3, 1), (5, 1)], 0));
+    whole(&eight, "REF 8 0 13");
+    whole(&nine, "REF 9 0 3");
+    whole(&put(&eight, 255, b"x"), "REF 3 0 18");
+    whole(&movement_input(&[(3, 1), (13, 1)], 0), "REF 8 0 13");
+    // All of these before 22.
+    let most = LARGEST_AMOUNT;
+    whole(&movement_input(&[(0, most), (12, 9), (13, 1)], most), "REF 8 0 13");
+    whole(&movement_input(&[(0, most), (3, 1)], 1), "REF 9 0 3");
+    whole(&put(&movement_input(&[(0, most)], 1), 45, b"x"), "REF 3 0 4");
+}

@@ -859,6 +859,7 @@ fn expected(case: &Case) -> Result<Vec<u8>, String> {
                 Place::Nowhere => (0, 0),
                 Place::Line(line) => (1, line),
                 Place::Position(position) => (2, position),
+                other => return Err(format!("the sheet call has no place {other:?}")),
             };
             report_line("REF", number.into(), kind, place as u64)
         }

@@ -1,0 +1,2 @@
+-- The input's lines as they are read.
+pub mod Numbers
