@@ -2,7 +2,7 @@
    libtsav.so, as the install script names them; in a checkout `bindings/library` writes the archive, as
    target/staticlib/libexports.a.
 
-   Five calls, and the version of the five. Each is proved to answer every input as is said here; none allocates, keeps
+   Six calls, and the version of the six. Each is proved to answer every input as is said here; none allocates, keeps
    anything between calls, or can fail in another way, and several threads may call at once.
 
    What is asked of a caller: every pointer is valid for the numbers or bytes that its parameter names, pointers to numbers
@@ -47,7 +47,8 @@
                              VOL, ACQ, GEN, CRD, then by block, then by class
      20  line                converting from cents, an amount isn't whole thousands of dollars, a multiple of 100,000 cents
      21  line                converting from thousands, an amount is above 999,999,999: in cents it has more than 14 digits
-     22  risk                the program tsav-movement: raised, the component of the risk is above TSAV_LARGEST_AMOUNT */
+     22  risk                the program tsav-movement: raised, the component of the risk is above TSAV_LARGEST_AMOUNT
+     23  nowhere             shares: a part's margin is negative, or the margins are all zero */
 
 #ifndef TSAV_H
 #define TSAV_H
@@ -71,6 +72,9 @@ extern "C" {
 /* The block call's numbers, and its figures: five amounts and, from version 2 on, two numbers of steps. */
 #define TSAV_BLOCK_NUMBERS 17
 #define TSAV_BLOCK_FIGURES 7
+
+/* The parts that the shares call divides K among: the seven risks, property and casualty, credit, market. */
+#define TSAV_PARTS 10
 
 /* The operational call's volumes of a territory, its volumes at most, and its general figures. */
 #define TSAV_TERRITORY_NUMBERS 16
@@ -114,6 +118,22 @@ uint64_t tsav_version(void);
    Refusals, tested in this order: 7 at the first amount that is too large; 8 at position 13, where level and trend of
    expenses isn't 0; 9 at the first level and trend part above its component. */
 uint64_t tsav_block(const uint64_t numbers[TSAV_BLOCK_NUMBERS], uint64_t figures[TSAV_BLOCK_FIGURES], uint64_t place[2]);
+
+/* The shares call: K of a block divided among ten parts, by the marginal method.
+
+   numbers: those of the block call.
+
+   Accepted, shares holds TSAV_PARTS numbers, the share of each part in cents: of risks 1 to 7, property and casualty, credit,
+   market. They total K.
+
+   A part's margin is K less the K of the same block with the part's amounts zero, of a risk both; each K is as the block call
+   gives it. The share is K times the margin over the sum of the margins, rounded down; the cents that are left over go one each
+   to the parts with the largest remainders, of equal ones to the lower number first. So each share is less than a cent from the
+   unrounded one, and a part without margin has none.
+
+   Refusals, tested in this order: 7, 8 and 9 as in the block call; 23, where a part brings less than nothing, or where no part
+   alone brings anything: of zeros, and of some blocks of a few cents. */
+uint64_t tsav_shares(const uint64_t numbers[TSAV_BLOCK_NUMBERS], uint64_t shares[TSAV_PARTS], uint64_t place[2]);
 
 /* The operational call, section 8.2.
 

@@ -61,6 +61,31 @@ class Calls(unittest.TestCase):
         self.refused(8, None, 13, tsav.block, with_number(13, 1))
         self.refused(9, None, 3, tsav.block, with_number(3, 300_001))
 
+    def test_shares(self):
+        """The example; two alike, of which the lower number has the odd cent; a block with the capital of
+        document 001's illustration, which prints 18.6, 9.8, 36.4 and 2.8."""
+        shares = tsav.shares(BLOCK)
+        self.assertEqual(len(shares), tsav.PARTS)
+        self.assertEqual(sum(shares), tsav.block(BLOCK).k)
+        self.assertEqual(
+            shares, (93277020, 226114, 4113667, 152552, 22670757, 5632096, 783103, 2402284, 16262059, 6245681)
+        )
+        self.assertEqual(tsav.shares([3, 0, 3] + [0] * 14), (3, 2) + (0,) * 8)
+        illustration = [0] * 8 + [1505, 610, 4292, 82, 469, 0, 0, 0, 2091]
+        self.assertEqual(tsav.shares(illustration), (0, 0, 0, 0, 977, 3643, 279, 0, 0, 1856))
+
+    def test_shares_refused(self):
+        self.refused(23, None, None, tsav.shares, [0] * tsav.BLOCK_NUMBERS)
+        self.refused(23, None, None, tsav.shares, [0, 0, 0, 0, 2, 0, 0, 0, 20, 0, 1] + [0] * 6)
+        self.refused(7, None, 16, tsav.shares, BLOCK[:16] + [2**64])
+        self.refused(8, None, 13, tsav.shares, [0] * 13 + [1, 0, 0, 0])
+        self.refused(9, None, 1, tsav.shares, [0, 1] + [0] * 15)
+        for numbers in (BLOCK[1:], BLOCK + [0], []):
+            with self.assertRaises(ValueError):
+                tsav.shares(numbers)
+        with self.assertRaises(TypeError):
+            tsav.shares([1.0] + BLOCK[1:])
+
     def test_operational(self):
         volumes = [15_000, 10_000] + [0] * 14
         self.assertEqual(tsav.operational(volumes, [200_000_000, 0, 0]), 11_500_450)

@@ -1,4 +1,4 @@
-"""The TSAV aggregation calculator (chapters 8 and 11 of the 2023 guideline): the five calls of the proved library.
+"""The TSAV aggregation calculator (chapters 8 and 11 of the 2023 guideline): the six calls of the proved library.
 
 What each call takes, gives and refuses is written in tsav.h. All amounts are whole cents, 0 to LARGEST_AMOUNT,
 but for a sheet in thousands of dollars that is converted. A refusal is the exception Refused, with its number and place.
@@ -24,6 +24,9 @@ LARGEST_AMOUNT = 99_999_999_999_999
 # The block call's numbers: seven pairs and three more. Its figures are I, D, U, LT and K, and the steps of two roots.
 BLOCK_NUMBERS = 17
 BLOCK_FIGURES = 7
+
+# The parts that the shares call divides K among: the seven risks, property and casualty, credit, market.
+PARTS = 10
 
 # The operational call's volumes of a territory, its volumes at most, and its general figures.
 TERRITORY_NUMBERS = 16
@@ -89,6 +92,17 @@ def block(numbers) -> Figures:
     figures, place = (ctypes.c_uint64 * BLOCK_FIGURES)(), (ctypes.c_uint64 * 2)()
     _answered(_library.tsav_block(lent, figures, place), place)
     return Figures(*figures)
+
+
+def shares(numbers) -> tuple:
+    """The shares call, of the block call's numbers: K divided among the seven risks, property and casualty, credit and
+    market, by what each adds to the K of the others. The ten shares, in cents, total K."""
+    lent = _lend(numbers)
+    if len(lent) != BLOCK_NUMBERS:
+        raise ValueError(f"{BLOCK_NUMBERS} numbers are asked for, not {len(lent)}")
+    parts, place = (ctypes.c_uint64 * PARTS)(), (ctypes.c_uint64 * 2)()
+    _answered(_library.tsav_shares(lent, parts, place), place)
+    return tuple(parts)
 
 
 def operational(volumes, general) -> int:
@@ -176,6 +190,7 @@ def _load() -> ctypes.CDLL:
         ("tsav_fluctuation", [word, word, word, numbers, numbers]),
         ("tsav_sheet", [ctypes.c_char_p, size, ctypes.c_char_p, size, numbers, numbers]),
         ("tsav_convert", [ctypes.c_char_p, size, ctypes.c_char_p, size, numbers, numbers]),
+        ("tsav_shares", [numbers, numbers, numbers]),
     ):
         # A call that is added leaves the version as it was, so that an older library may lack it.
         if not hasattr(library, name):

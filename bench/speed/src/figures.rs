@@ -3,7 +3,7 @@
 
 use reference::{
     all_lines, sheet_line, BLOCK_NUMBERS, CREDITS, EXPENSES, FLUCTUATION_ROWS, LARGEST_AMOUNT, LARGEST_SCALAR,
-    MOST_BLOCKS, RISKS, SCALAR,
+    MOST_BLOCKS, RISKS, SCALAR, THOUSAND_DOLLARS,
 };
 
 /// Code, block and class of a line.
@@ -61,6 +61,20 @@ impl Draws {
     /// A row, a requirement and a face amount of a fluctuation call that is accepted.
     pub fn fluctuation(&mut self, size: Size) -> [u64; 3] {
         [1 + self.below(FLUCTUATION_ROWS as u64), self.amount(size), self.amount(size)]
+    }
+
+    /// A sheet of these lines, its amounts in whole thousands of dollars: such a one in cents, which can be converted.
+    pub fn whole_thousands(&mut self, lines: &[Line], size: Size) -> Vec<u8> {
+        let line = |&(code, block, class): &Line| {
+            let first = self.amount(size) / THOUSAND_DOLLARS * THOUSAND_DOLLARS;
+            let (first, second) = match (code, class) {
+                ("GEN", SCALAR) => (1 + self.below(LARGEST_SCALAR), 0),
+                ("RSK", EXPENSES) | ("OTH" | "ACQ" | "GEN" | "CRD", _) => (first, 0),
+                _ => (first, self.part(first) / THOUSAND_DOLLARS * THOUSAND_DOLLARS),
+            };
+            sheet_line(code, block, class, first, second)
+        };
+        lines.iter().flat_map(line).collect()
     }
 
     /// A sheet that is accepted, of these lines, among which RSK 1 of a block stands before MOR, and OTH 3 before CRD.

@@ -2,6 +2,8 @@
 //! that change (figures.rs). Its time and the ratio are those with one binary digit a step, the plain way; the ratios to it
 //! with the same root without jumps, as ours goes, and with Newton's stand beside.
 //!
+//! A conversion takes no root, so that there are two sides alone.
+//!
 //! A sample is one pass over all the calls of a kind. Samples of the four sides take turns, and so do the kinds and
 //! the side that is first, so that whatever else the machine does falls on all of them; the shortest of each is printed. The
 //! answers are compared first.
@@ -17,7 +19,7 @@ use peer::{root_by_digits, root_by_newton, root_without_jumps, Root};
 use reference::{all_lines, BLOCK_NUMBERS, BLOCK_VALUES};
 use std::hint::black_box;
 use std::time::Instant;
-use tsav::{LONGEST_REPORT, MOST_BLOCKS};
+use tsav::{LONGEST_REPORT, LONGEST_SHEET, MOST_BLOCKS};
 
 /// Samples of each side.
 const SAMPLES: usize = 400;
@@ -26,9 +28,10 @@ const SAMPLES: usize = 400;
 const SIDES: usize = 1 + ROOTS.len();
 const ROOTS: [Root; 3] = [root_by_digits, root_without_jumps, root_by_newton];
 
-/// How many there are of each kind: blocks, fluctuation calls, full sheets, small sheets, and sheets for each line of the
-/// table.
+/// How many there are of each kind: blocks, shares calls, fluctuation calls, full sheets, small sheets, and sheets for each line
+/// of the table.
 const BLOCKS: usize = 4096;
+const SHARES: usize = 512;
 const FLUCTUATIONS: usize = 4096;
 const FULL_SHEETS: usize = 64;
 const SMALL_SHEETS: usize = 1024;
@@ -56,6 +59,13 @@ fn main() {
         let name = format!("full sheet without ACQ, {} lines{size_name}", lines.len());
         named.push((name, sheets(&mut draws, FULL_SHEETS, &lines, size)));
     }
+    for (size_name, size) in SIZES {
+        named.push((format!("shares call{size_name}"), shares(&mut draws, size)));
+    }
+    for (size_name, size) in SIZES {
+        named.push((format!("full sheet to thousands{size_name}"), conversions(&mut draws, size, false)));
+        named.push((format!("full sheet to cents{size_name}"), conversions(&mut draws, size, true)));
+    }
     for round in 0..SAMPLES {
         for (_, kind) in &mut named {
             kind.sample(round);
@@ -67,8 +77,11 @@ fn main() {
     for (name, kind) in &named {
         let [ours, digits, no_jumps, newton] = kind.shortest();
         let ratios = [digits, no_jumps, newton].map(|peer| format!("{:.3}", ours / peer));
-        print!("{name}: ours {ours:.3} us, u128 {digits:.3} us, ratio {}; ", ratios[0]);
-        println!("to a root without jumps {}, to Newton's {}", ratios[1], ratios[2]);
+        print!("{name}: ours {ours:.3} us, u128 {digits:.3} us, ratio {}", ratios[0]);
+        if kind.sides == SIDES {
+            print!("; to a root without jumps {}, to Newton's {}", ratios[1], ratios[2]);
+        }
+        println!();
     }
     println!("\nblocks  lines  ours us  u128 us  ratio");
     for (blocks, kind) in TABLE.iter().zip(&table) {
@@ -84,19 +97,26 @@ struct Kind {
     /// How many calls a pass has, and the lines of one's sheet.
     calls: usize,
     lines: usize,
+    /// How many of the sides there are.
+    sides: usize,
     /// The shortest pass of each side, in microseconds.
     best: [f64; SIDES],
 }
 
 impl Kind {
     fn new(calls: usize, lines: usize, pass: impl FnMut(usize) + 'static) -> Kind {
-        Kind { pass: Box::new(pass), calls, lines, best: [f64::INFINITY; SIDES] }
+        Kind { pass: Box::new(pass), calls, lines, sides: SIDES, best: [f64::INFINITY; SIDES] }
+    }
+
+    /// Ours and one other side, without a root.
+    fn without_roots(calls: usize, lines: usize, pass: impl FnMut(usize) + 'static) -> Kind {
+        Kind { sides: 2, ..Kind::new(calls, lines, pass) }
     }
 
     /// A pass of each side, another one first in each round.
     fn sample(&mut self, round: usize) {
-        for turn in 0..SIDES {
-            let side = (round + turn) % SIDES;
+        for turn in 0..self.sides {
+            let side = (round + turn) % self.sides;
             let start = Instant::now();
             (self.pass)(side);
             self.best[side] = self.best[side].min(start.elapsed().as_secs_f64() * 1e6);
@@ -140,6 +160,50 @@ fn blocks(draws: &mut Draws, size: Size) -> Kind {
         1 => each(&blocks, |numbers| peer::block(numbers, root_by_digits).ok()),
         2 => each(&blocks, |numbers| peer::block(numbers, root_without_jumps).ok()),
         _ => each(&blocks, |numbers| peer::block(numbers, root_by_newton).ok()),
+    })
+}
+
+fn shares(draws: &mut Draws, size: Size) -> Kind {
+    // Some blocks have none, by 23.
+    let drawn = std::iter::repeat_with(|| draws.block(size)).filter(|numbers| tsav::shares(numbers).is_ok());
+    let blocks: Vec<[u64; BLOCK_NUMBERS]> = drawn.take(SHARES).collect();
+    for numbers in &blocks {
+        let ours = tsav::shares(numbers).expect("the block has shares");
+        for root in ROOTS {
+            assert_eq!(peer::shares(numbers, root), Ok(ours), "the same shares");
+        }
+    }
+    Kind::new(SHARES, 0, move |side| match side {
+        0 => each(&blocks, |numbers| tsav::shares(numbers).ok()),
+        1 => each(&blocks, |numbers| peer::shares(numbers, root_by_digits).ok()),
+        2 => each(&blocks, |numbers| peer::shares(numbers, root_without_jumps).ok()),
+        _ => each(&blocks, |numbers| peer::shares(numbers, root_by_newton).ok()),
+    })
+}
+
+/// Full sheets converted from cents, or, where they are small, from thousands of dollars.
+fn conversions(draws: &mut Draws, size: Size, small: bool) -> Kind {
+    let lines = all_lines(MOST_BLOCKS);
+    let (mut one, mut two) = ([0; LONGEST_SHEET], [0; LONGEST_SHEET]);
+    let sheet = |_| {
+        let cents = draws.whole_thousands(&lines, size);
+        let length = tsav::convert(&cents, &mut one).expect("the sheet is converted");
+        if small {
+            one[..length].to_vec()
+        } else {
+            cents
+        }
+    };
+    let sheets: Vec<Vec<u8>> = (0..FULL_SHEETS).map(sheet).collect();
+    for sheet in &sheets {
+        assert_eq!(tsav::convert(sheet, &mut one), Ok(sheet.len()));
+        assert_eq!(peer::convert(sheet, &mut two), Ok(sheet.len()));
+        assert_eq!(one[..sheet.len()], two[..sheet.len()], "the same sheet");
+    }
+    let mut converted = [0; LONGEST_SHEET];
+    Kind::without_roots(FULL_SHEETS, lines.len(), move |side| match side {
+        0 => each(&sheets, |sheet| tsav::convert(sheet, black_box(&mut converted)).ok()),
+        _ => each(&sheets, |sheet| peer::convert(sheet, black_box(&mut converted)).ok()),
     })
 }
 

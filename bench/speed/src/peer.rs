@@ -1,5 +1,5 @@
-//! The calculator of document 01, with requests #101, #102 and #104 to #109 of document 02, as a good programmer writes it with
-//! u128: no allocation, every figure worked out once, and everything tested that the papers have tested. It is here for its
+//! The calculator of document 01, with requests #101, #102, #104 to #110 and #112 of document 02, as a good programmer writes it
+//! with u128: no allocation, every figure worked out once, and everything tested that the papers have tested. It is here for its
 //! speed; tests/reference, written to be plain, is the independent calculation.
 //!
 //! The root is left to the caller, and there are three: one binary digit a step with a jump on it, as it is mostly written;
@@ -9,7 +9,7 @@
 use reference::{
     Refusal, ADJUSTABLE_PRODUCTS, BLOCK_NUMBERS, BLOCK_VALUES, FIGURES, GENERAL_CLASSES, GENERAL_NUMBERS,
     LARGEST_AMOUNT, LARGEST_SCALAR, LINE_BYTES, LONGEST_SHEET, MOST_BLOCKS, MOST_TERRITORIES, MOST_VOLUMES,
-    NON_PARTICIPATING, REPORT_LINE_BYTES, RISKS, TERRITORY_NUMBERS, VOLUME_CLASSES,
+    NON_PARTICIPATING, PARTS, REPORT_LINE_BYTES, RISKS, TERRITORY_NUMBERS, THOUSAND_DOLLARS, VOLUME_CLASSES,
 };
 
 /// The least whole number whose square is at least the radicand.
@@ -75,6 +75,14 @@ const FACTORS: [[i128; RISKS]; RISKS] = [
 
 /// The block call: the figures, and the steps of the two roots.
 pub fn block(b: &[u64; BLOCK_NUMBERS], root: Root) -> Result<[u64; BLOCK_VALUES], Refusal> {
+    test_block(b)?;
+    let ([i, d, u, lt, k], radicands) = figures(b, root);
+    let [steps_i, steps_d] = radicands.map(|radicand| u64::from(129 - radicand.leading_zeros()) / 2);
+    Ok([i, d, u, lt, k, steps_i, steps_d])
+}
+
+/// Rules 7, 8 and 9 of a block.
+fn test_block(b: &[u64; BLOCK_NUMBERS]) -> Result<(), Refusal> {
     if let Some(position) = b.iter().position(|&amount| amount > LARGEST_AMOUNT) {
         return Err(Refusal::at_position(7, position));
     }
@@ -84,9 +92,42 @@ pub fn block(b: &[u64; BLOCK_NUMBERS], root: Root) -> Result<[u64; BLOCK_VALUES]
     if let Some(risk) = (0..RISKS).find(|&i| b[2 * i] < b[2 * i + 1]) {
         return Err(Refusal::at_position(9, 2 * risk + 1));
     }
-    let ([i, d, u, lt, k], radicands) = figures(b, root);
-    let [steps_i, steps_d] = radicands.map(|radicand| u64::from(129 - radicand.leading_zeros()) / 2);
-    Ok([i, d, u, lt, k, steps_i, steps_d])
+    Ok(())
+}
+
+/// The shares call: eleven blocks, the whole one and each without a part.
+pub fn shares(b: &[u64; BLOCK_NUMBERS], root: Root) -> Result<[u64; PARTS], Refusal> {
+    test_block(b)?;
+    let k_of = |b: &[u64; BLOCK_NUMBERS]| figures(b, root).0[4];
+    let k = k_of(b);
+    let mut margins = [0; PARTS];
+    for (part, margin) in margins.iter_mut().enumerate() {
+        let mut without = *b;
+        if part < RISKS {
+            without[2 * part..2 * part + 2].fill(0);
+        } else {
+            without[RISKS + part] = 0;
+        }
+        *margin = k.checked_sub(k_of(&without)).ok_or(Refusal::nowhere(23))?;
+    }
+    let sum: u64 = margins.iter().sum();
+    if sum == 0 {
+        return Err(Refusal::nowhere(23));
+    }
+    let (mut shares, mut remainders, mut left_over) = ([0; PARTS], [0; PARTS], k);
+    for part in 0..PARTS {
+        let product = u128::from(k) * u128::from(margins[part]);
+        (shares[part], remainders[part]) = ((product / u128::from(sum)) as u64, (product % u128::from(sum)) as u64);
+        left_over -= shares[part];
+    }
+    // A part gets a cent where fewer come before it than there are cents.
+    for part in 0..PARTS {
+        let before = |other: usize| {
+            remainders[other] > remainders[part] || (remainders[other] == remainders[part] && other < part)
+        };
+        shares[part] += u64::from(((0..PARTS).filter(|&other| before(other)).count() as u64) < left_over);
+    }
+    Ok(shares)
 }
 
 /// I, D, U, LT and K of a block that rules 7, 8 and 9 let pass, and the radicands of I and D.
@@ -194,14 +235,19 @@ struct Sheet {
     /// The dividend credit of each block, and the sum of the credits of adjustable products.
     dividends: [u64; MOST_BLOCKS],
     adjustable: u64,
+    before: Before,
+}
+
+/// The lines that were read.
+struct Before {
     /// A bit for each class: of RSK, then OTH, then VOL, MOR and ACQ or CRD, for each block; of GEN and CRD in the last.
     seen: [u32; MOST_BLOCKS + 1],
     /// What the line before is compared by: its code's place in their order, from 1, its block and its class; 0 before any.
     last: usize,
 }
 
-/// The sheet call.
-pub fn sheet(bytes: &[u8], report: &mut [u8], root: Root) -> Result<usize, Refusal> {
+/// Rules 1 and 2, and the 3 before 2.
+fn measure(bytes: &[u8]) -> Result<(), Refusal> {
     if bytes.len() > LONGEST_SHEET {
         return Err(Refusal::nowhere(1));
     }
@@ -209,6 +255,55 @@ pub fn sheet(bytes: &[u8], report: &mut [u8], root: Root) -> Result<usize, Refus
         let broken = bytes.chunks_exact(LINE_BYTES).position(|line| fields(line.try_into().unwrap()).is_none());
         return Err(broken.map_or(Refusal::nowhere(2), |at| Refusal::at_line(3, at + 1)));
     }
+    Ok(())
+}
+
+/// The converting call. The lines are written into a room of its own first, because a refusal leaves the lent one as it was.
+pub fn convert(bytes: &[u8], converted: &mut [u8]) -> Result<usize, Refusal> {
+    measure(bytes)?;
+    let small = bytes.get(..3).is_some_and(|code| code.iter().all(u8::is_ascii_lowercase));
+    let (mut room, mut before) = ([b' '; LONGEST_SHEET], Before { seen: [0; MOST_BLOCKS + 1], last: 0 });
+    for (at, (line, out)) in bytes.chunks_exact(LINE_BYTES).zip(room.chunks_exact_mut(LINE_BYTES)).enumerate() {
+        if let Err(number) = convert_line(line.try_into().unwrap(), out, small, &mut before) {
+            return Err(Refusal::at_line(number, at + 1));
+        }
+    }
+    if converted.len() < bytes.len() {
+        return Err(Refusal::nowhere(14));
+    }
+    converted[..bytes.len()].copy_from_slice(&room[..bytes.len()]);
+    Ok(bytes.len())
+}
+
+/// One line, into a stretch of spaces.
+fn convert_line(line: &[u8; LINE_BYTES], out: &mut [u8], small: bool, before: &mut Before) -> Result<(), u8> {
+    let numbers = fields(line).ok_or(3)?;
+    let code = [line[0], line[1], line[2]];
+    let exchanged = code.map(|letter| letter ^ 0x20);
+    before.admit(if small { &exchanged } else { &code }, numbers)?;
+    let [block, class, first, second] = numbers;
+    let scaled = |amount: u64| {
+        if line[0] | 0x20 == b'g' && class == 4 {
+            Ok(amount)
+        } else if small {
+            (amount <= LARGEST_AMOUNT / THOUSAND_DOLLARS).then(|| amount * THOUSAND_DOLLARS).ok_or(21)
+        } else {
+            (amount % THOUSAND_DOLLARS == 0).then(|| amount / THOUSAND_DOLLARS).ok_or(20)
+        }
+    };
+    let (first, second) = (scaled(first)?, scaled(second)?);
+    out[..3].copy_from_slice(&exchanged);
+    write_number(&mut out[4..6], block);
+    write_number(&mut out[7..9], class);
+    write_number(&mut out[10..24], first);
+    write_number(&mut out[25..39], second);
+    out[39] = b'\n';
+    Ok(())
+}
+
+/// The sheet call.
+pub fn sheet(bytes: &[u8], report: &mut [u8], root: Root) -> Result<usize, Refusal> {
+    measure(bytes)?;
     let mut sheet = Sheet {
         blocks: [[0; BLOCK_NUMBERS]; MOST_BLOCKS],
         volumes: [0; MOST_VOLUMES],
@@ -216,11 +311,10 @@ pub fn sheet(bytes: &[u8], report: &mut [u8], root: Root) -> Result<usize, Refus
         sums: [[0; 2]; NON_PARTICIPATING],
         dividends: [0; MOST_BLOCKS],
         adjustable: 0,
-        seen: [0; MOST_BLOCKS + 1],
-        last: 0,
+        before: Before { seen: [0; MOST_BLOCKS + 1], last: 0 },
     };
     for (at, line) in bytes.chunks_exact(LINE_BYTES).enumerate() {
-        if let Some(number) = sheet.enter(line.try_into().unwrap()) {
+        if let Err(number) = sheet.enter(line.try_into().unwrap()) {
             return Err(Refusal::at_line(number, at + 1));
         }
     }
@@ -236,14 +330,13 @@ const SUMS_FROM: usize = VOLUMES_FROM + VOLUME_CLASSES;
 const ACQUIRED_FROM: usize = SUMS_FROM + 1;
 const CREDITS_FROM: usize = VOLUMES_FROM;
 
-impl Sheet {
-    /// A line: the number of the rule that turns it away, if there is one.
-    fn enter(&mut self, line: &[u8; LINE_BYTES]) -> Option<u8> {
-        let Some([block, class, first, second]) = fields(line) else {
-            return Some(3);
-        };
+impl Before {
+    /// One line more, which keeps the layout: its row, or the number of the rule that turns it away.
+    // Compiled into both of its calls, so that the sheet call is as quick as with one.
+    #[inline(always)]
+    fn admit(&mut self, code: &[u8; 3], [block, class, first, second]: [u64; 4]) -> Result<usize, u8> {
         let (block, class) = (block as usize, class as usize);
-        let (rank, blocks, classes, bits_from) = match &line[..3] {
+        let (rank, blocks, classes, bits_from) = match code {
             b"RSK" => (1, 1..=MOST_BLOCKS, RISKS, 0),
             b"OTH" => (2, 1..=MOST_BLOCKS, 3, OTHERS_FROM),
             b"MOR" => (3, 1..=NON_PARTICIPATING, 1, SUMS_FROM),
@@ -252,31 +345,41 @@ impl Sheet {
             b"GEN" => (6, 0..=0, GENERAL_CLASSES, 0),
             b"CRD" if block == 0 => (7, 0..=0, ADJUSTABLE_PRODUCTS, CREDITS_FROM),
             b"CRD" => (7, NON_PARTICIPATING + 1..=MOST_BLOCKS, 1, CREDITS_FROM),
-            _ => return Some(4),
+            _ => return Err(4),
         };
         if !blocks.contains(&block) {
-            return Some(5);
+            return Err(5);
         }
         if class < 1 || classes < class {
-            return Some(6);
+            return Err(6);
         }
-        if let Some(rule) = amounts_refused(line[0], class, first, second) {
-            return Some(rule);
+        if let Some(rule) = amounts_refused(code[0], class, first, second) {
+            return Err(rule);
         }
         let row = block.wrapping_sub(1).min(MOST_BLOCKS);
         let bit = 1 << (bits_from + class - 1);
         if self.seen[row] & bit != 0 {
-            return Some(11);
+            return Err(11);
         }
         // Block and class have two digits.
         let key = (rank << 16) + (block << 8) + class;
         if key <= self.last {
-            return Some(19);
+            return Err(19);
         }
         self.last = key;
         self.seen[row] |= bit;
-        self.store(line[0], row, class - 1, [first, second]);
-        None
+        Ok(row)
+    }
+}
+
+impl Sheet {
+    /// A line, or the number of the rule that turns it away.
+    fn enter(&mut self, line: &[u8; LINE_BYTES]) -> Result<(), u8> {
+        let numbers = fields(line).ok_or(3)?;
+        let row = self.before.admit(&[line[0], line[1], line[2]], numbers)?;
+        let [_, class, first, second] = numbers;
+        self.store(line[0], row, class as usize - 1, [first, second]);
+        Ok(())
     }
 
     /// The amounts of a line at their places, by the first letter of its code, its block and its class, both from 0; block 0 of
@@ -299,7 +402,7 @@ impl Sheet {
 
     /// Rule 16: IR(1) and LT(1) of each block that has S and T become those after the credit.
     fn take_credits(&mut self, root: Root) -> Result<(), Refusal> {
-        for ((numbers, &sums), seen) in self.blocks.iter_mut().zip(&self.sums).zip(self.seen) {
+        for ((numbers, &sums), seen) in self.blocks.iter_mut().zip(&self.sums).zip(self.before.seen) {
             if seen & (1 << SUMS_FROM) != 0 {
                 let credit = credit(sums, root);
                 if numbers[1] < credit {
@@ -321,7 +424,7 @@ impl Sheet {
         self.take_credits(root)?;
         let mut rows = [(0, [0; FIGURES]); MOST_BLOCKS];
         let (mut blocks, mut sum, mut dividends) = (0, 0, 0);
-        for (number, (numbers, seen)) in self.blocks.iter().zip(self.seen).enumerate() {
+        for (number, (numbers, seen)) in self.blocks.iter().zip(self.before.seen).enumerate() {
             if seen & EXISTS != 0 {
                 rows[blocks] = (number as u64 + 1, figures(numbers, root).0);
                 let k = rows[blocks].1[4];
@@ -432,12 +535,19 @@ mod tests {
             let numbers = generate::block_numbers(1, index);
             let [row, requirement, face] = generate::fluctuation_numbers(1, index);
             let result = reference::fluctuation_call(row, requirement, face);
+            let parts = generate::shares_numbers(1, index);
+            let divided = reference::shares_call(&parts);
+            let (given, lent) = generate::convert_case(1, index);
+            let (mut one, mut two) = (vec![0; lent], vec![0; lent]);
+            assert_eq!(convert(&given, &mut one), reference::convert_call(&given, &mut two), "conversion {index}");
+            assert_eq!(one, two, "converted sheet {index}");
             for root in [root_by_digits, root_without_jumps, root_by_newton] {
                 let (mut one, mut two) = (vec![0; room], vec![0; room]);
                 assert_eq!(sheet(&lines, &mut one, root), reference::sheet_call(&lines, &mut two), "sheet {index}");
                 assert_eq!(one, two, "report {index}");
                 assert_eq!(block(&numbers, root), reference::block_call(&numbers), "block {index}");
                 assert_eq!(fluctuation(row, requirement, face, root), result, "fluctuation {index}");
+                assert_eq!(shares(&parts, root), divided, "shares {index}");
             }
         }
     }

@@ -35,6 +35,14 @@ pub(crate) fn block(answer: u64, place: [u64; 2]) -> Result<(), Error> {
     Err(refused(answer, place, listed.map(Place::Position)))
 }
 
+/// The shares call's answer: those of the block call, and 23.
+pub(crate) fn shares(answer: u64, place: [u64; 2]) -> Result<(), Error> {
+    match answer {
+        23 => Err(refused(answer, place, nowhere(place))),
+        _ => block(answer, place),
+    }
+}
+
 /// The operational call's answer, on so many volumes.
 pub(crate) fn operational(answer: u64, place: [u64; 2], volumes: usize) -> Result<(), Error> {
     let listed = match answer {
@@ -128,9 +136,10 @@ mod tests {
 
     const VOLUMES: usize = 32;
 
-    /// The five calls, on what is lent in these tests.
-    const CALLS: [(&str, Call); 5] = [
+    /// The six calls, on what is lent in these tests.
+    const CALLS: [(&str, Call); 6] = [
         ("block", block),
+        ("shares", shares),
         ("operational", |answer, place| operational(answer, place, VOLUMES)),
         ("fluctuation", fluctuation),
         ("sheet", |answer, place| sheet(answer, place, LONGEST_SHEET)),
@@ -164,10 +173,11 @@ mod tests {
     #[test]
     fn each_call_has_its_refusals() {
         // Of each call: nowhere, at a line, at a position, at a risk.
-        let listed: [[&[u64]; 4]; 5] = [
-            [&[], &[], &[7, 8, 9], &[]], // block
-            [&[15], &[], &[7], &[]],     // operational
-            [&[18], &[], &[7], &[]],     // fluctuation
+        let listed: [[&[u64]; 4]; 6] = [
+            [&[], &[], &[7, 8, 9], &[]],   // block
+            [&[23], &[], &[7, 8, 9], &[]], // shares
+            [&[15], &[], &[7], &[]],       // operational
+            [&[18], &[], &[7], &[]],       // fluctuation
             [&[1, 2, 12, 13, 14, 16, 17], &[3, 4, 5, 6, 8, 9, 10, 11, 19], &[], &[]],
             [&[1, 2, 14], &[3, 4, 5, 6, 8, 9, 10, 11, 19, 20, 21], &[], &[]],
         ];
@@ -187,6 +197,8 @@ mod tests {
         assert_eq!(block(7, [POSITION, 16]), refused(7, Place::Position(16)));
         assert_eq!(block(8, [POSITION, 13]), refused(8, Place::Position(13)));
         assert_eq!(block(9, [POSITION, 11]), refused(9, Place::Position(11)));
+        assert_eq!(shares(9, [POSITION, 11]), refused(9, Place::Position(11)));
+        assert_eq!(shares(23, [NOWHERE, 0]), refused(23, Place::Nowhere));
         assert_eq!(operational(7, [POSITION, 34], VOLUMES), refused(7, Place::Position(34)));
         assert_eq!(operational(15, [NOWHERE, 0], 1), refused(15, Place::Nowhere));
         assert_eq!(fluctuation(7, [POSITION, 1]), refused(7, Place::Position(1)));
@@ -204,7 +216,7 @@ mod tests {
     #[test]
     fn numbers_that_no_refusal_has() {
         // 263 is 7 in its lowest byte.
-        for number in [22, 255, 256, 263, u64::MAX] {
+        for number in [22, 24, 255, 256, 263, u64::MAX] {
             for place in [[NOWHERE, 0], [LINE, 1], [POSITION, 0], [RISK, 1]] {
                 for (name, call) in CALLS {
                     assert_eq!(call(number, place), broken(number, place), "{name}");
@@ -217,12 +229,15 @@ mod tests {
     fn places_that_no_refusal_has() {
         for kind in [RISK, 258, u64::MAX] {
             assert_eq!(block(7, [kind, 0]), broken(7, [kind, 0]));
+            assert_eq!(shares(23, [kind, 0]), broken(23, [kind, 0]));
             assert_eq!(operational(15, [kind, 0], VOLUMES), broken(15, [kind, 0]));
             assert_eq!(fluctuation(18, [kind, 0]), broken(18, [kind, 0]));
             assert_eq!(sheet(3, [kind, 1], LONGEST_SHEET), broken(3, [kind, 1]));
         }
         assert_eq!(sheet(12, [NOWHERE, 1], LONGEST_SHEET), broken(12, [NOWHERE, 1]));
         assert_eq!(block(7, [LINE, 1]), broken(7, [LINE, 1]));
+        assert_eq!(shares(23, [NOWHERE, 1]), broken(23, [NOWHERE, 1]));
+        assert_eq!(shares(23, [POSITION, 0]), broken(23, [POSITION, 0]));
         assert_eq!(fluctuation(18, [POSITION, 0]), broken(18, [POSITION, 0]));
         assert_eq!(sheet(9, [POSITION, 1], LONGEST_SHEET), broken(9, [POSITION, 1]));
         assert_eq!(sheet(19, [NOWHERE, 0], LONGEST_SHEET), broken(19, [NOWHERE, 0]));
@@ -232,6 +247,7 @@ mod tests {
     fn places_outside_what_was_lent() {
         for at in [17, u64::MAX] {
             assert_eq!(block(7, [POSITION, at]), broken(7, [POSITION, at]));
+            assert_eq!(shares(7, [POSITION, at]), broken(7, [POSITION, at]));
         }
         assert_eq!(block(8, [POSITION, 12]), broken(8, [POSITION, 12]));
         for at in [0, 12, 13, 15] {

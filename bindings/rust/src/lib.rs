@@ -1,4 +1,4 @@
-//! The TSAV aggregation calculator (chapters 8 and 11 of the 2023 guideline): a safe wrapper of the five calls of the
+//! The TSAV aggregation calculator (chapters 8 and 11 of the 2023 guideline): a safe wrapper of the six calls of the
 //! proved static library. What each call takes, gives and refuses is written in include/tsav.h.
 //!
 //! All amounts are whole cents, 0 to [`LARGEST_AMOUNT`], but for a sheet in thousands of dollars, which [`convert`] takes. Any
@@ -20,6 +20,9 @@ pub const BLOCK_NUMBERS: usize = 17;
 
 /// What the block call gives: I, D, U, LT and K, and the steps of the roots of I and of D.
 const BLOCK_FIGURES: usize = 7;
+
+/// The parts that the shares call divides K among: the seven risks, property and casualty, credit, market.
+pub const PARTS: usize = 10;
 
 /// The operational call's volumes of a territory, and its volumes at most.
 pub const TERRITORY_NUMBERS: usize = 16;
@@ -53,7 +56,7 @@ pub const fn report_length(blocks: usize) -> usize {
 }
 
 /// The refusals are numbered from 1 to this. 22 is of the program tsav-movement, and no call gives it.
-pub const LAST_REFUSAL: usize = 22;
+pub const LAST_REFUSAL: usize = 23;
 
 /// A block's figures: I and D in half cents, U, LT and K in cents; and the steps that the roots of I and of D take, at most
 /// 58 each. The roots are of hundredths of the half cent, and so is the D that K is taken at.
@@ -78,6 +81,17 @@ pub fn block(numbers: &[u64; BLOCK_NUMBERS]) -> Result<Figures, Error> {
     contract::block(answer, place)?;
     let [i, d, u, lt, k, steps_i, steps_d] = figures;
     Ok(Figures { i, d, u, lt, k, steps_i, steps_d })
+}
+
+/// The shares call, of the block call's numbers: K divided among the seven risks, property and casualty, credit and market, by
+/// what each adds to the K of the others. The shares, in cents, total K.
+pub fn shares(numbers: &[u64; BLOCK_NUMBERS]) -> Result<[u64; PARTS], Error> {
+    compare_versions()?;
+    let (mut shares, mut place) = ([0; PARTS], [0; 2]);
+    // SAFETY: each reference is to as many numbers as the call names.
+    let answer = unsafe { library::tsav_shares(numbers, &mut shares, &mut place) };
+    contract::shares(answer, place)?;
+    Ok(shares)
 }
 
 /// The operational call: 16 numbers for each territory, eight pairs of current and prior volume; then gross components,
@@ -138,7 +152,7 @@ fn compare_versions() -> Result<(), Error> {
 
 /// include/tsav.h.
 mod library {
-    use crate::{BLOCK_FIGURES, BLOCK_NUMBERS, GENERAL_NUMBERS};
+    use crate::{BLOCK_FIGURES, BLOCK_NUMBERS, GENERAL_NUMBERS, PARTS};
 
     extern "C" {
         pub fn tsav_version() -> u64;
@@ -147,6 +161,7 @@ mod library {
             figures: &mut [u64; BLOCK_FIGURES],
             place: &mut [u64; 2],
         ) -> u64;
+        pub fn tsav_shares(numbers: &[u64; BLOCK_NUMBERS], shares: &mut [u64; PARTS], place: &mut [u64; 2]) -> u64;
         pub fn tsav_operational(
             volumes: *const u64,
             count: usize,

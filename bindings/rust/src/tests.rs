@@ -1,8 +1,8 @@
 use super::*;
 use contract::{LINE, NOWHERE, POSITION, RISK};
 use reference::{
-    all_lines, convert_cases, example, fluctuation_cases, report_line, sheet_line, EXAMPLE_FIGURES, IN_THOUSANDS,
-    WHOLE_RUN, WHOLE_RUN_REPORT,
+    all_lines, convert_cases, example, fluctuation_cases, report_line, sheet_line, EXAMPLE_FIGURES, EXAMPLE_SHARES,
+    IN_THOUSANDS, WHOLE_RUN, WHOLE_RUN_REPORT,
 };
 
 const OVER: u64 = LARGEST_AMOUNT + 1;
@@ -45,6 +45,26 @@ fn finer_roots() {
     let mut numbers = [0; BLOCK_NUMBERS];
     (numbers[0], numbers[2], numbers[15]) = (2, 3, 8);
     assert_eq!(block(&numbers), Ok(Figures { i: 7, d: 20, u: 13, lt: 0, k: 11, steps_i: 10, steps_d: 11 }));
+}
+
+/// The example; two alike, of which the lower number has the odd cent; a block with the capital of document 001's illustration, which
+/// prints 18.6, 9.8, 36.4 and 2.8.
+#[test]
+fn the_shares_call() {
+    assert_eq!(shares(&example()), Ok(EXAMPLE_SHARES));
+    let of = |amounts: &[(usize, u64)]| {
+        let mut numbers = [0; BLOCK_NUMBERS];
+        amounts.iter().for_each(|&(position, amount)| numbers[position] = amount);
+        shares(&numbers)
+    };
+    assert_eq!(of(&[(0, 3), (2, 3)]), Ok([3, 2, 0, 0, 0, 0, 0, 0, 0, 0]));
+    let illustration = [(16, 2091), (8, 1505), (9, 610), (10, 4292), (11, 82), (12, 469)];
+    assert_eq!(of(&illustration), Ok([0, 0, 0, 0, 977, 3643, 279, 0, 0, 1856]));
+    assert_eq!(of(&[]), refused(23, Place::Nowhere));
+    assert_eq!(of(&[(4, 2), (8, 20), (10, 1)]), refused(23, Place::Nowhere));
+    assert_eq!(of(&[(16, OVER)]), refused(7, Place::Position(16)));
+    assert_eq!(of(&[(13, 1)]), refused(8, Place::Position(13)));
+    assert_eq!(of(&[(3, 1)]), refused(9, Place::Position(3)));
 }
 
 #[test]
@@ -245,6 +265,7 @@ fn the_headers_numbers() {
         ("LARGEST_AMOUNT", LARGEST_AMOUNT),
         ("BLOCK_NUMBERS", BLOCK_NUMBERS as u64),
         ("BLOCK_FIGURES", BLOCK_FIGURES as u64),
+        ("PARTS", PARTS as u64),
         ("TERRITORY_NUMBERS", TERRITORY_NUMBERS as u64),
         ("MOST_VOLUMES", MOST_VOLUMES as u64),
         ("GENERAL_FIGURES", GENERAL_NUMBERS as u64),
@@ -277,6 +298,19 @@ fn untouched_by_the_block_call() {
     };
     assert_eq!(call(&example()), (0, EXAMPLE_FIGURES, [KEPT; 2]));
     assert_eq!(call(&[OVER; BLOCK_NUMBERS]), (7, [KEPT; BLOCK_FIGURES], [POSITION, 0]));
+}
+
+#[test]
+fn untouched_by_the_shares_call() {
+    let call = |numbers: &[u64; BLOCK_NUMBERS]| {
+        let (mut shares, mut place) = ([KEPT; PARTS], [KEPT; 2]);
+        // SAFETY: as in `shares`.
+        let answer = unsafe { library::tsav_shares(numbers, &mut shares, &mut place) };
+        (answer, shares, place)
+    };
+    assert_eq!(call(&example()), (0, EXAMPLE_SHARES, [KEPT; 2]));
+    assert_eq!(call(&[0; BLOCK_NUMBERS]), (23, [KEPT; PARTS], [NOWHERE, 0]));
+    assert_eq!(call(&[OVER; BLOCK_NUMBERS]), (7, [KEPT; PARTS], [POSITION, 0]));
 }
 
 #[test]

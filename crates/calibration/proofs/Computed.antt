@@ -6,7 +6,9 @@ use Prim.Native.Nat.{ℕ, suc}
 use lib.Dec.{T, eqb}
 use Rattle.search.specs.Pick.{pick}
 use Rattle.search.specs.Least.{leastFrom}
-use Rattle.search.specs.First.{firstFrom, first}
+use Rattle.search.specs.First.{firstFrom, first, anyTo}
+use Rattle.search.specs.Total.{sumTo, one}
+use Rattle.search.specs.Ascending.{ascending}
 use Rattle.refusal.specs.Outcome.Outcome.{accepted}
 use Rattle.amount.specs.Amount.{firstAbove}
 use Rattle.guideline.specs.Sizes.{risks}
@@ -22,6 +24,9 @@ use Rattle.operational.specs.Call.{rule7, operationalCall}
 use Rattle.fluctuation.specs.Rows.{rows, rowOf, baseOf}
 use Rattle.fluctuation.specs.Result.{reaches, result}
 use Rattle.fluctuation.specs.Call.{rule7 as fluctuationRule7, fluctuationCall}
+use Rattle.apportion.specs.Shares.{base, remainder, leftOver, before, rank, cent, share, shares}
+use Rattle.shares.specs.Margins.{without, kWithout, margin}
+use Rattle.shares.specs.Call.{afterBlock, unlessZero, rule23, sharesCall}
 use Rattle.order.specs.Entries.{hasKey, lookup}
 use Rattle.ledger.specs.Numbers.{pairs, volumesBy}
 use Rattle.calibration.specs.Points.{nothing, gives, allGiven, points}
@@ -64,6 +69,7 @@ unfolding
     pick leastFrom firstFrom firstAbove factors sumℤ A U LT Vh y ys Q4 largestOf largest root fineI a fineD reported I D requirement K figuresOf
     total volume growth operationalNumerator RO binaryLength steps radicandI radicandD stepsOf firstLtAbove rule9 rule8 blockCall rule7 operationalCall
     rows rowOf baseOf reaches result fluctuationRule7 fluctuationCall
+    anyTo sumTo one ascending base remainder leftOver before rank cent share shares without kWithout margin afterBlock unlessZero rule23 sharesCall
     hasKey lookup pairs volumesBy twiceRadicand aggregated credit gives allGiven pcInRisk netted eachRounded
 computed =
     record {

@@ -1,17 +1,21 @@
 -- Document 01's calibration points: the rows marked †, one table, with document 02's worked figures. Cents; I and D in half cents. A row
 -- has the outcome that the call's contract equates its answer with, or where no call gives the figures the definitions' values, and the
--- figures that the paper's row gives, no others. Assumes nothing.
+-- figures that the paper's row gives, no others. Where a row is refused, its figures are the refusal's number and what place it has.
+-- Assumes nothing.
 use mathlib.Core.Bool.{Bool, true, false, _&&_}
 use mathlib.Core.List.{List, [], _∷_}
-use Prim.Native.Nat.{ℕ, suc}
+use Prim.Native.Nat.{ℕ, suc, _-_}
 use lib.Dec.{eqb}
 use lib.ListN.{getD}
 use Rattle.refusal.specs.Outcome.{Outcome}
 use Rattle.refusal.specs.Outcome.Outcome.{accepted, refused}
+use Rattle.refusal.specs.declared.Place.{Place}
+use Rattle.refusal.specs.declared.Place.the-variants.{Line, Position, Risk, Nowhere}
 use Rattle.mortality.specs.Credit.{aggregated, credit}
 use Rattle.block.specs.Call.{blockCall}
 use Rattle.operational.specs.Call.{operationalCall}
 use Rattle.fluctuation.specs.Call.{fluctuationCall}
+use Rattle.shares.specs.Call.{sharesCall}
 use Rattle.codes.specs.declared.Code.the-variants.{Vol, Acq}
 use Rattle.sheet_line.specs.declared.Entry.{Entry}
 use Rattle.ledger.specs.Numbers.{volumesOf}
@@ -56,6 +60,26 @@ mortalityCredit n = record { place = 1; figure = n }
 -- the fluctuation call's one value
 abbrev result : ℕ → Figure
 result n = record { place = 0; figure = n }
+
+-- the share of part p, from 1 to 10
+abbrev share : ℕ → ℕ → Figure
+share p n = record { place = p - 1; figure = n }
+
+-- a place in two figures: 0, 0 for none, else its kind and where it is
+abbrev placed : Place → List ℕ
+placed Nowhere = 0 ∷ 0 ∷ []
+placed (Line i) = 1 ∷ i ∷ []
+placed (Position i) = 2 ∷ i ∷ []
+placed (Risk i) = 3 ∷ i ∷ []
+
+-- a refusal's figures, its number and its place; none where the call accepts
+abbrev turned : Outcome → Outcome
+turned (accepted vs) = accepted []
+turned (refused n p) = accepted (n ∷ placed p)
+
+-- refused by number n 'with no place'
+abbrev withNoPlace : ℕ → List Figure
+withNoPlace n = record { place = 0; figure = n } ∷ record { place = 1; figure = 0 } ∷ record { place = 2; figure = 0 } ∷ []
 
 -- a row: the outcome of the call at the row's input, and the figures that the row prints
 pub record Point : Type 0 where
@@ -134,4 +158,23 @@ points =
     ∷ record { outcome = fluctuationCall 2 10000000000 0; figures = result 9330000000 ∷ [] }
     -- and critical illness 1,000,000 on a face of 400,000,000
     ∷ record { outcome = fluctuationCall 7 100000000 40000000000; figures = result 88610000 ∷ [] }
+    -- document 02, #112: the shares of the example of document 000, which total its K
+    ∷ record {
+      outcome =
+          sharesCall
+          (100000000 ∷ 70000000 ∷ 300000 ∷ 300000 ∷ 5000000 ∷ 1000000 ∷ 250000 ∷ 100000 ∷ 30000000 ∷ 15000000 ∷ 10000000 ∷ 4000000 ∷ 1000000 ∷ 0
+          ∷ 2500000 ∷ 20000000 ∷ 7500000 ∷ []);
+      figures =
+          share 1 93277020 ∷ share 2 226114 ∷ share 3 4113667 ∷ share 4 152552 ∷ share 5 22670757 ∷ share 6 5632096 ∷ share 7 783103
+          ∷ share 8 2402284 ∷ share 9 16262059 ∷ share 10 6245681 ∷ [];
+    }
+    -- document 001, section 2.2.2, a block with its illustration's capital: it prints 18.6, 9.8, 36.4 and 2.8 of 68, here in cents of 67.55 dollars
+    ∷ record {
+      outcome = sharesCall (0 ∷ 0 ∷ 0 ∷ 0 ∷ 0 ∷ 0 ∷ 0 ∷ 0 ∷ 1505 ∷ 610 ∷ 4292 ∷ 82 ∷ 469 ∷ 0 ∷ 0 ∷ 0 ∷ 2091 ∷ []);
+      figures = share 10 1856 ∷ share 5 977 ∷ share 6 3643 ∷ share 7 279 ∷ [];
+    }
+    -- a cent of each of five risks: K is 4 with and without any one of them
+    ∷ record { outcome = turned (sharesCall (1 ∷ 0 ∷ 1 ∷ 0 ∷ 0 ∷ 0 ∷ 1 ∷ 0 ∷ 0 ∷ 0 ∷ 1 ∷ 0 ∷ 1 ∷ 0 ∷ 0 ∷ 0 ∷ 0 ∷ [])); figures = withNoPlace 23 }
+    -- a little longevity beside much mortality lowers K
+    ∷ record { outcome = turned (sharesCall (1000000 ∷ 0 ∷ 100 ∷ 0 ∷ 0 ∷ 0 ∷ 0 ∷ 0 ∷ 0 ∷ 0 ∷ 0 ∷ 0 ∷ 100 ∷ 0 ∷ 0 ∷ 0 ∷ 0 ∷ [])); figures = withNoPlace 23 }
     ∷ []

@@ -1,6 +1,6 @@
-// Runs the block, the operational and the fluctuation call on figures that others printed, and on bad input. What it writes is compared with
-// the file stdout beside src/: document 000's and 003's figures as they stand there, the answers that document 01's table names, and document
-// 02's steps and fluctuation factors.
+// Runs the block, the operational, the fluctuation and the shares call on figures that others printed, and on bad input. What it writes is
+// compared with the file stdout beside src/: document 000's, 001's and 003's figures as they stand there, the answers that document 01's table
+// names, document 02's steps, fluctuation factors and shares.
 use amount::LARGEST_AMOUNT;
 use block::BlockAnswer;
 use fluctuation::FluctuationAnswer;
@@ -11,6 +11,7 @@ use guideline::VOLUME_NUMBERS;
 use libc::STDOUT_FILENO;
 use operational::OperationalAnswer;
 use refusal::Place;
+use shares::SharesAnswer;
 
 // The largest word: an amount far above the limit.
 const MOST: u64 = 18446744073709551615;
@@ -25,6 +26,9 @@ fn main() {
     root_steps();
     fluctuations();
     bad_fluctuations();
+    printed_illustration();
+    printed_shares();
+    bad_shares();
 }
 
 // Text as it stands.
@@ -375,4 +379,167 @@ fn bad_fluctuations() {
     fluctuation_row(1, MOST, MOST);
     fluctuation_row(1, 10000000000, LARGEST_AMOUNT);
     fluctuation_row(7, 10000000000, 0);
+}
+
+// What the shares call gives, on a line.
+fn shares_row(b: &[u64; BLOCK_NUMBERS]) {
+    let answer = shares::shares_call(b);
+    match answer {
+        SharesAnswer::Accepted(s) => {
+            say(b"shares:");
+            number(s.risk1);
+            number(s.risk2);
+            number(s.risk3);
+            number(s.risk4);
+            number(s.risk5);
+            number(s.risk6);
+            number(s.risk7);
+            number(s.pc);
+            number(s.credit);
+            number(s.market);
+            say(b"\n");
+        }
+        SharesAnswer::Refused(n, p) => {
+            refused(n, p);
+        }
+    }
+}
+
+// A block with the capital that document 001's illustration has, section 2.2.2, in dollars: 67.55 as a whole, 51.24 without market, 58.96
+// without risk 5, 35.54 without risk 6 and 65.10 without risk 7.
+fn illustration() -> [u64; BLOCK_NUMBERS] {
+    let mut b = [0u64; BLOCK_NUMBERS];
+    b[8] = 1505;
+    b[9] = 610;
+    b[10] = 4292;
+    b[11] = 82;
+    b[12] = 469;
+    b[16] = 2091;
+    b
+}
+
+// K in whole dollars, of a block with the numbers at two positions zero.
+fn coalition(b: &[u64; BLOCK_NUMBERS], one: usize, two: usize) {
+    let mut less = *b;
+    if one < BLOCK_NUMBERS {
+        less[one] = 0;
+    }
+    if two < BLOCK_NUMBERS {
+        less[two] = 0;
+    }
+    let answer = block::block_call(&less);
+    let BlockAnswer::Accepted(f, _) = answer else {
+        return;
+    };
+    number(dollars(plus(f.k, f.k)));
+}
+
+// A number of tenths with a decimal comma.
+fn tenths(n: u64) {
+    number(n / 10);
+    say(b",");
+    io::print_decimal(STDOUT_FILENO, n % 10);
+}
+
+// Cents in tenths of a dollar, rounded to the nearest.
+fn share_in_tenths(cents: u64) {
+    tenths(cents / 10 + (cents % 10 + 5) / 10);
+}
+
+// A share of k in tenths of a percent, rounded to the nearest.
+fn percentage(share: u64, k: u64) {
+    if k == 0 {
+        return;
+    }
+    if share <= LARGEST_AMOUNT {
+        tenths(plus(2000 * share / k, 1) / 2);
+    }
+}
+
+// Document 001's illustration: the capital of all four segments and of each three of them, the shares and their percentages, as they are
+// printed there. Segment 1 is market, 2 to 4 are risks 5 to 7; at position 0 stands nothing, so that the first is all four.
+fn printed_illustration() {
+    say(b"document 001\nSCR");
+    let b = illustration();
+    coalition(&b, 0, 0);
+    coalition(&b, 16, 16);
+    coalition(&b, 8, 9);
+    coalition(&b, 10, 11);
+    coalition(&b, 12, 13);
+    let answer = shares::shares_call(&b);
+    let SharesAnswer::Accepted(s) = answer else {
+        return;
+    };
+    say(b"\nshares");
+    share_in_tenths(s.market);
+    share_in_tenths(s.risk5);
+    share_in_tenths(s.risk6);
+    share_in_tenths(s.risk7);
+    say(b"\npercent");
+    let k = plus(plus(s.market, s.risk5), plus(s.risk6, s.risk7));
+    percentage(s.market, k);
+    percentage(s.risk5, k);
+    percentage(s.risk6, k);
+    percentage(s.risk7, k);
+    say(b"\n");
+}
+
+// The same shares in cents; then those of document 000's example, of a cent alone, and of ten equal amounts, where the lower numbers have the
+// cents.
+fn printed_shares() {
+    say(b"document 02, shares\n");
+    block_row(&illustration());
+    shares_row(&illustration());
+    shares_row(&example());
+    let mut b = [0u64; BLOCK_NUMBERS];
+    b[0] = 1;
+    b[1] = 1;
+    shares_row(&b);
+    let mut d = [LARGEST_AMOUNT; BLOCK_NUMBERS];
+    d[1] = 0;
+    d[3] = 0;
+    d[5] = 0;
+    d[7] = 0;
+    d[9] = 0;
+    d[11] = 0;
+    d[13] = 0;
+    shares_row(&d);
+}
+
+// 23: no amount at all, a cent of each of five risks, whose margins are all zero, and a negative margin. 7, 8 and 9 come before it: 9 and 8
+// beside margins of zero, then each of the three alone beside the negative margin, and together.
+fn bad_shares() {
+    say(b"bad shares\n");
+    let mut b = [0u64; BLOCK_NUMBERS];
+    shares_row(&b);
+    b[0] = 1;
+    b[2] = 1;
+    b[6] = 1;
+    b[10] = 1;
+    b[12] = 1;
+    shares_row(&b);
+    let mut c = [0u64; BLOCK_NUMBERS];
+    c[0] = 1000000;
+    c[2] = 100;
+    c[12] = 100;
+    shares_row(&c);
+    b[3] = 2;
+    shares_row(&b);
+    b[3] = 0;
+    b[13] = 1;
+    shares_row(&b);
+    c[3] = 101;
+    shares_row(&c);
+    c[3] = 0;
+    c[13] = 1;
+    shares_row(&c);
+    c[13] = 0;
+    c[16] = LARGEST_AMOUNT + 1;
+    shares_row(&c);
+    c[3] = 101;
+    shares_row(&c);
+    c[13] = 1;
+    shares_row(&c);
+    c[16] = 0;
+    shares_row(&c);
 }

@@ -1,4 +1,4 @@
-// The five calls for C and Rust: a number is given back, and the rest is written into what the caller lends. An accepted call gives
+// The calls for C and Rust: a number is given back, and the rest is written into what the caller lends. An accepted call gives
 // 0 and leaves the lent place as it was; a refused one gives its number and leaves all but the place as it was. Beside them the version of
 // these calls, for a caller to compare before it lends anything.
 ghost use mathlib.Core.Path.{_≡_};
@@ -8,6 +8,8 @@ ghost use Rattle.block.specs.Accepted.{BlockDemand3, FewSteps};
 ghost use Rattle.operational.specs.Call.{operationalCall};
 ghost use Rattle.fluctuation.specs.Call.{fluctuationCall};
 ghost use Rattle.fluctuation.specs.Accepted.{FluctuationDemand};
+ghost use Rattle.shares.specs.Call.{sharesCall};
+ghost use Rattle.shares.specs.Accepted.{SharesDemand};
 ghost use Rattle.aggregate.specs.Call.{sheetCall};
 ghost use Rattle.aggregate.specs.Demand.{Demand3};
 ghost use Rattle.convert.specs.Call.{convertCall, ConvertsBack};
@@ -19,9 +21,11 @@ use fluctuation::FluctuationAnswer;
 use guideline::BLOCK_FIGURES;
 use guideline::BLOCK_NUMBERS;
 use guideline::GENERAL_FIGURES;
+use guideline::PARTS;
 use operational::OperationalAnswer;
 use printing::RoomAnswer;
 use refusal::Place;
+use shares::SharesAnswer;
 
 // Given by a call that is accepted. No refusal has this number.
 const ACCEPTED: u64 = 0;
@@ -113,6 +117,38 @@ pub extern "C" fn tsav_fluctuation(
             ACCEPTED
         }
         FluctuationAnswer::Refused(number, at) => refuse(number, at, place),
+    }
+}
+
+// The shares of K in cents: risks 1 to 7, then PC, credit and market. Where 0 is given, they total K, and each is within a cent of its
+// unrounded share.
+#[no_mangle]
+pub extern "C" fn tsav_shares(
+    numbers: &[u64; BLOCK_NUMBERS],
+    shares: &mut [u64; PARTS],
+    place: &mut [u64; 2],
+) -> u64
+    ensures { λ r. ⌜ Leaves (sharesCall (now (numbers .entry))) r (now (shares .entry)) (now (place .entry)) (now (shares .exit)) (now (place .exit)) ⌝ }
+    ensures { λ r. ⌜ (r ≡ 0 → SharesDemand (now (numbers .entry)) (accepted (now (shares .exit)))) ⌝ }
+{
+    let answer = shares::shares_call(numbers);
+    match answer {
+        SharesAnswer::Accepted(s) => {
+            *shares = [
+                s.risk1,
+                s.risk2,
+                s.risk3,
+                s.risk4,
+                s.risk5,
+                s.risk6,
+                s.risk7,
+                s.pc,
+                s.credit,
+                s.market,
+            ];
+            ACCEPTED
+        }
+        SharesAnswer::Refused(number, at) => refuse(number, at, place),
     }
 }
 

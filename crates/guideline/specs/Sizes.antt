@@ -30,6 +30,10 @@ otherAmounts = 3
 abbrev pub blockNumbers : ℕ
 blockNumbers = 2 * risks + otherAmounts
 
+-- the parts that K is divided among (document 02, #112): risks 1 to 7, then 8 PC, 9 credit, 10 market
+abbrev pub parts : ℕ
+parts = risks + otherAmounts
+
 -- the figures that are reported of a block: I, D, U, LT, K
 abbrev pub blockFigures : ℕ
 blockFigures = 5

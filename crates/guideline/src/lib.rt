@@ -27,6 +27,9 @@ pub const OTHER_AMOUNTS: usize = 3;
 // The block call's numbers: seven pairs IR, LT, then PC, credit, market.
 pub const BLOCK_NUMBERS: usize = 2 * RISKS + OTHER_AMOUNTS;
 
+// The parts that K is divided among: the risks, then PC, credit, market.
+pub const PARTS: usize = RISKS + OTHER_AMOUNTS;
+
 // The figures that are reported of a block: I, D, U, LT, K.
 pub const BLOCK_FIGURES: usize = 5;
 

@@ -1,5 +1,5 @@
 -- Whether one of the numbers 1 to n passes a test: one number more, and what follows where none does. Assumes nothing.
-use mathlib.Core.Path.{_≡_, refl, sym}
+use mathlib.Core.Path.{_≡_, refl, sym, _∙_}
 use mathlib.Core.Bool.{Bool, true, false, true≢false}
 use Prim.Native.Nat.{ℕ, zero, suc, _-_, _≤_}
 use native.Mathlib.Decide.{ℕ-discrete}
@@ -44,6 +44,11 @@ module _ (P : ℕ → Bool) where
         | yes q ↦ rw q (none-of-both n e .1)
         | no q ↦ none-to n (none-before n e) b l (omega arith)
       ]
+
+  -- and where each doesn't, none passes
+  pub none-of : (n : ℕ) → ((b : ℕ) → 1 ≤ b → b ≤ n → P b ≡ false) → anyTo P n ≡ false
+  none-of zero h = none-yet
+  none-of (suc n) h = next-decides n (none-of n (λ b l k. h b l (omega arith))) ∙ h (suc n) (omega arith) (omega arith)
 
   -- one number more
   pub any-next : (n : ℕ) → 1 ≤ n → anyTo P n ≡ pick (anyTo P (n - 1)) true (P n)

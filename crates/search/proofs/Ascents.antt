@@ -1,15 +1,20 @@
--- What is gathered of the numbers that pass a test, ascending: one number more, how many there are, and what holds of each. Assumes nothing.
-use mathlib.Core.Path.{_≡_, ap, _∙_}
+-- What is gathered of the numbers that pass a test, ascending: one number more, how many there are, and what holds of each. The list of a
+-- function's values from 1 on: one value more, the value at a place, and a loop that writes them. Assumes nothing.
+use mathlib.Core.Path.{_≡_, refl, sym, ap, _∙_}
 use mathlib.Core.Bool.{Bool, true, false}
 use mathlib.Core.List.{List, [], _∷_, _++_, append-nil}
-use Prim.Native.Nat.{ℕ, zero, suc, _-_, _≤_}
+use Prim.Native.Nat.{ℕ, zero, suc, _+_, _-_, _≤_, _<_}
+use native.Mathlib.Decide.{decLe}
+use native.Mathlib.Numerals.{add-one}
 use native.Mathlib.Omega.{arith}
-use lib.ListN.{length, length-append}
+use lib.ListN.{length, getD, set, length-append, List·getD-append}
+use lib.Seq.{getD-at}
 use Rattle.search.specs.Pick.{pick}
 use Rattle.search.specs.Each.{Each}
-use Rattle.search.specs.Ascending.{ascending}
+use Rattle.search.specs.Ascending.{ascending, listTo}
 use Rattle.search.proofs.Picks.{if-true, if-false, by-test}
 use Rattle.search.proofs.Eaches.{each-append, each-picked}
+use Rattle.search.proofs.Stretches.{Wrote, nothing, front, next, all-written, from-front}
 
 -- what n adds to the numbers before it, where it passes and where it doesn't
 module _ {ℓ} {A : Type ℓ} (passes : ℕ → Bool) (f : ℕ → List A) where
@@ -40,3 +45,53 @@ few passes f (suc n) =
     by-test (λ l. length (ascending passes (λ b. f b ∷ []) n ++ l) ≤ suc n) (passes (suc n)) _ _
     (λ t. omega (arith, few passes f n, length-append (ascending passes (λ b. f b ∷ []) n) (f (suc n) ∷ [])))
     (λ t. omega (arith, few passes f n, length-append (ascending passes (λ b. f b ∷ []) n) []))
+
+-- ---- a function's values from 1 on
+
+module _ (f : ℕ → ℕ) where
+  -- as a loop writes
+  list-step : (i : ℕ) → listTo f (i + 1) ≡ listTo f i ++ (f (i + 1) ∷ [])
+  unfolding ascending pick
+  list-step i = rw add-one refl
+
+  pub list-long : (n : ℕ) → length (listTo f n) ≡ n
+  unfolding ascending pick
+  list-long zero = refl
+  list-long (suc n) = length-append (listTo f n) (f (suc n) ∷ []) ∙ omega (arith, list-long n)
+
+  pub list-at : (n i : ℕ) → i < n → getD (listTo f n) i 0 ≡ f (suc i)
+  unfolding ascending pick
+  list-at zero i h = absurd (omega arith)
+  list-at (suc n) i h =
+      elim (decLe n i) [
+        | yes l ↦ let e : i ≡ n = omega arith in rw e (getD-at (listTo f n) (f (suc n)) [] 0 n (list-long n))
+        | no l ↦ List·getD-append (listTo f n) (f (suc n) ∷ []) 0 i (omega (arith, list-long n)) ∙ list-at n i (omega arith)
+      ]
+
+pub list-same : (f g : ℕ → ℕ) (n : ℕ) → ((k : ℕ) → 1 ≤ k → k ≤ n → f k ≡ g k) → listTo f n ≡ listTo g n
+unfolding ascending pick
+list-same f g zero e = refl
+list-same f g (suc n) e = λ i. list-same f g n (λ k l h. e k l (omega arith)) i ++ (e (suc n) (omega arith) (omega arith) i ∷ [])
+
+-- a loop that writes them: the first i of n places hold f 1, .., f i
+pub record Listed (f : ℕ → ℕ) (n : ℕ) (l : List ℕ) (i : ℕ) : Type 0 where
+  pub long : length l ≡ n
+  pub within : i ≤ n
+  pub wrote : Wrote l i (listTo f i) l
+
+module _ (f : ℕ → ℕ) (n : ℕ) (l : List ℕ) where
+  pub listed-start : length l ≡ n → Listed f n l 0
+  unfolding ascending
+  listed-start e = record { long = e; within = omega arith; wrote = nothing l }
+
+  pub listed-more : (i v : ℕ) → i < n → v ≡ f (i + 1) → Listed f n l i → Listed f n (set l i v) (i + 1)
+  listed-more i v h e s =
+      let w = next (s .wrote) v (omega (arith, s .long)) in
+      let t = w .long ∙ s .long in
+      let p : listTo f i ++ (v ∷ []) ≡ listTo f (i + 1) = (λ j. listTo f i ++ (e j ∷ [])) ∙ sym (list-step f i) in
+      record { long = t; within = omega arith; wrote = rw add-one (from-front (rw add-one at (front w ∙ p)) (omega (arith, t))) }
+
+  pub listed-all : (i : ℕ) → n ≤ i → Listed f n l i → l ≡ listTo f n
+  listed-all i h s =
+      let e : i ≡ n = omega (arith, s .within) in
+      rw e at (all-written (s .wrote) (omega (arith, s .long)))

@@ -1,11 +1,11 @@
-//! `differential_run SEED COUNT [FIRST]`: the library's five calls, through the wrapper, against the reference's, on
-//! COUNT generated sheets, block calls, operational calls, fluctuation calls and conversions from number FIRST on (0 where it
-//! isn't given).
+//! `differential_run SEED COUNT [FIRST]`: the library's six calls, through the wrapper, against the reference's, on
+//! COUNT generated sheets, block calls, operational calls, fluctuation calls, conversions and shares calls from number FIRST on
+//! (0 where it isn't given).
 //!
 //! Compared are the answers and every byte of the lent room, and some bytes on both sides of it, which nobody may
 //! write. On each accepted sheet the library's report must also satisfy demand 3, with each K within 1.01 cents of the exact
 //! one, and each result of a fluctuation call document 02's rule of one cent; each converted sheet must convert back to the first
-//! one. The same words give the same cases and the same output, however many processors share them.
+//! one; shares must total K and be those of the largest remainders. The same words give the same cases and the same output, however many processors share them.
 
 use std::env;
 use std::fmt::{Debug, Write};
@@ -14,7 +14,7 @@ use std::thread;
 
 use reference::generate;
 
-const KINDS: [&str; 5] = ["sheet", "block call", "operational call", "fluctuation call", "conversion"];
+const KINDS: [&str; 6] = ["sheet", "block call", "operational call", "fluctuation call", "conversion", "shares call"];
 
 fn main() -> ExitCode {
     let words: Option<Vec<u64>> = env::args().skip(1).map(|word| word.parse().ok()).collect();
@@ -55,6 +55,7 @@ fn compare(seed: u64, count: u64, first: u64) -> Found {
             found.add(index, 2, operational_case(seed, index));
             found.add(index, 3, fluctuation_case(seed, index));
             found.add(index, 4, convert_case(seed, index));
+            found.add(index, 5, shares_case(seed, index));
         }
         found
     };
@@ -112,6 +113,8 @@ impl Found {
         writeln!(text, "one cent: {results} results of fluctuation calls, all decided by whole numbers").unwrap();
         let converted = self.answers[4][0];
         writeln!(text, "both ways: {converted} converted sheets, each converted back").unwrap();
+        let divided = self.answers[5][0];
+        writeln!(text, "shares: {divided} blocks, of each the shares total K, all decided by whole numbers").unwrap();
         if let Some((index, kind, about)) = &self.first {
             writeln!(text, "first difference: {} {index} of seed {seed}", KINDS[*kind]).unwrap();
             writeln!(text, "{about}again: tests/differential {seed} 1 {index}").unwrap();
@@ -204,6 +207,17 @@ fn block_case(seed: u64, index: u64) -> Result<Agreed, String> {
     let values = |tsav::Figures { i, d, u, lt, k, steps_i, steps_d }| [i, d, u, lt, k, steps_i, steps_d];
     let ours = tsav::block(&numbers).map(values);
     agree(|| format!("numbers: {numbers:?}\n"), ours, reference::block_call(&numbers))
+}
+
+fn shares_case(seed: u64, index: u64) -> Result<Agreed, String> {
+    let numbers = generate::shares_numbers(seed, index);
+    let case = || format!("numbers: {numbers:?}\n");
+    let ours = tsav::shares(&numbers);
+    let agreed = agree(case, ours, reference::shares_call(&numbers))?;
+    if let Ok(shares) = ours {
+        reference::judge_shares(&numbers, &shares).map_err(|why| format!("{}shares: {why}\n", case()))?;
+    }
+    Ok(agreed)
 }
 
 fn operational_case(seed: u64, index: u64) -> Result<Agreed, String> {

@@ -1,7 +1,7 @@
 //! The example that the papers carry through: document 000's block, and document 01's whole run, where it is block 1.
 
 use crate::sheet::read_sheet;
-use crate::{BLOCK_NUMBERS, BLOCK_VALUES};
+use crate::{BLOCK_NUMBERS, BLOCK_VALUES, PARTS};
 
 /// Document 01's whole run: the sheet and the report.
 pub const WHOLE_RUN: &[u8] = include_bytes!("../../../examples/example.sheet");
@@ -18,6 +18,11 @@ pub const EXAMPLE_MOVEMENT: &[u8] = include_bytes!("../../../examples/example.mo
 /// 2^34.
 pub const EXAMPLE_FIGURES: [u64; BLOCK_VALUES] =
     [157_884_172, 191_405_437, 176_550_000, 90_400_000, 151_765_333, 34, 35];
+
+/// #112: the shares of the example. Its margins are 88,485,333, 214,498, 3,902,346, 144,715, 21,506,149, 5,342,772, 742,875,
+/// 2,278,878, 15,426,669 and 5,924,837, together 143,969,072, and four cents are left over.
+pub const EXAMPLE_SHARES: [u64; PARTS] =
+    [93_277_020, 226_114, 4_113_667, 152_552, 22_670_757, 5_632_096, 783_103, 2_402_284, 16_262_059, 6_245_681];
 
 /// The example of document 000, in cents: seven pairs IR, LT, then PC, credit, market.
 pub fn example() -> [u64; BLOCK_NUMBERS] {

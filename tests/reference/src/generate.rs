@@ -1,5 +1,5 @@
 //! A seeded generator of sheets, sound and damaged, and of rooms for their reports; of sheets to convert; of numbers for the
-//! other three calls; and of inputs for the program of #111.
+//! other four calls; and of inputs for the program of #111.
 //! The same seed and index always give the same case.
 
 use crate::block::{EXPENSES_LT, PC};
@@ -144,6 +144,35 @@ fn sound_block(random: &mut Random) -> [u64; BLOCK_NUMBERS] {
         if random.below(8) < density && random.one_in(2) {
             numbers[position] = amount(random, style);
         }
+    }
+    numbers
+}
+
+/// #112: the numbers of shares call `index` of `seed`: as of a block call; of a few cents, where margins are often zero; or with
+/// lapse-supported business beside others, where one may be negative.
+pub fn shares_numbers(seed: u64, index: u64) -> [u64; BLOCK_NUMBERS] {
+    let mut random = Random::new(seed, index);
+    let kind = random.below(4);
+    if kind >= 2 {
+        return block_numbers(seed, index);
+    }
+    let mut numbers = sound_block(&mut random);
+    if kind == 0 {
+        let most = random.from(1, 3);
+        for number in &mut numbers {
+            *number = random.below(most + 1);
+        }
+        (0..RISKS).for_each(|risk| numbers[2 * risk + 1] = numbers[2 * risk + 1].min(numbers[2 * risk]));
+        numbers[EXPENSES_LT] = 0;
+    } else {
+        falling(&mut random, &mut numbers);
+    }
+    // Beside 23, sometimes one of the block's own tests.
+    match random.below(8) {
+        0 => numbers[random.at(BLOCK_NUMBERS)] = too_large(&mut random),
+        1 => numbers[EXPENSES_LT] = 1,
+        2 => numbers[1] = numbers[0].saturating_add(1),
+        _ => {}
     }
     numbers
 }

@@ -1,4 +1,4 @@
-//! The calculator of document 01, with requests #101, #102 and #104 to #111 of document 02, in plain Rust with u128: no
+//! The calculator of document 01, with requests #101, #102 and #104 to #112 of document 02, in plain Rust with u128: no
 //! dependency, nothing clever, and no code shared with the calculator itself. It is a test oracle: what it answers is
 //! compared with what the calculator answers.
 //!
@@ -17,16 +17,20 @@ pub mod generate;
 mod mortality;
 mod movement;
 mod operational;
+mod shares;
 mod sheet;
 
 pub use block::block_call;
 pub use convert::{convert_call, convert_cases, ConvertCase, THOUSAND_DOLLARS};
 pub use demand3::{demand3, judge};
-pub use example::{example, EXAMPLE_FIGURES, EXAMPLE_MOVEMENT, IN_THOUSANDS, WHOLE_RUN, WHOLE_RUN_REPORT};
+pub use example::{
+    example, EXAMPLE_FIGURES, EXAMPLE_MOVEMENT, EXAMPLE_SHARES, IN_THOUSANDS, WHOLE_RUN, WHOLE_RUN_REPORT,
+};
 pub use fluctuation::{fluctuation_call, fluctuation_cases, judge_fluctuation, FluctuationCase, FLUCTUATION_ROWS};
 pub use mortality::{aggregate, mortality_credit};
 pub use movement::{judge_movements, movement_call, print_movements, Moved, MOVEMENT_INPUT_BYTES};
 pub use operational::operational_call;
+pub use shares::{judge_shares, shares_call, PARTS};
 pub use sheet::{all_lines, print_sheet, report_length, report_line, sheet_call, sheet_line};
 
 /// "What the calculator holds": all amounts are whole cents, 0 to 99,999,999,999,999.

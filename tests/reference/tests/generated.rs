@@ -2,6 +2,7 @@
 
 use reference::generate::{
     accepted, block_numbers, case, convert_case, fluctuation_numbers, movement_input, operational_numbers,
+    shares_numbers,
 };
 use reference::*;
 use std::collections::{BTreeMap, BTreeSet};
@@ -181,6 +182,74 @@ fn movements_of_every_kind() {
     assert!(counts.keys().eq(&[0, 2, 3, 8, 9]) && counts.values().all(|&count| count >= 100), "{counts:?}");
     assert!(kinds.values().all(|&count| count >= 20), "{kinds:?}");
     assert!(decided * 100 >= moved * 99, "{decided} of {moved}");
+}
+
+/// #112: the shares reach every row that the call has, and shares of every kind; what is promised of them holds of all of them, and
+/// shares with a cent moved are found out.
+#[test]
+fn shares_of_every_kind() {
+    let (mut counts, mut kinds) = (BTreeMap::new(), BTreeMap::<&str, u64>::new());
+    for index in 0..20_000 {
+        let numbers = shares_numbers(5, index);
+        let answer = shares_call(&numbers);
+        let number = answer.map_or_else(|refusal| refusal.number, |_| 0);
+        *counts.entry(number).or_insert(0) += 1;
+        // What is left out has its amounts zero; the margins may be below 0.
+        let k = |part: usize| {
+            let mut numbers = numbers;
+            match part {
+                0..RISKS => (numbers[2 * part], numbers[2 * part + 1]) = (0, 0),
+                RISKS..PARTS => numbers[RISKS + part] = 0,
+                _ => {}
+            }
+            block_call(&numbers).map(|values| values[4] as i128)
+        };
+        let Ok(whole) = k(PARTS) else {
+            assert!(number != 0 && number != 23, "call {index}");
+            continue;
+        };
+        let margins: Vec<i128> = (0..PARTS).map(|part| whole - k(part).unwrap()).collect();
+        let (negative, zero) = (margins.iter().any(|&m| m < 0), margins.iter().all(|&m| m == 0));
+        assert_eq!(number == 23, negative || zero, "call {index}: {margins:?}");
+        let mut held = vec![
+            ("a negative margin", negative),
+            ("all margins zero, and K isn't", zero && whole > 0),
+            ("no block", whole == 0),
+        ];
+        if let Ok(shares) = answer {
+            assert_eq!(judge_shares(&numbers, &shares), Ok(()), "call {index}");
+            let sum: i128 = margins.iter().sum();
+            let down: i128 = margins.iter().map(|margin| whole * margin / sum).sum();
+            let rests: Vec<i128> = margins.iter().map(|margin| whole * margin % sum).collect();
+            let up = |part: usize| shares[part] as i128 > whole * margins[part] / sum;
+            let between = (0..PARTS).any(|p| (p + 1..PARTS).any(|q| rests[p] == rests[q] && up(p) && !up(q)));
+            held.extend([
+                ("no cent left over", whole == down),
+                ("one", whole == down + 1),
+                ("four and more", whole >= down + 4),
+                ("the last cent between equal remainders", between),
+                ("margins above K together", sum > whole),
+                ("margins below K together", sum < whole),
+            ]);
+            // A cent from one part to another.
+            let (from, to) =
+                ((0..PARTS).find(|&part| shares[part] > 0), (0..PARTS).rev().find(|&part| shares[part] == 0));
+            if let (Some(from), Some(to)) = (from, to) {
+                let mut other = shares;
+                other[from] -= 1;
+                other[to] += 1;
+                assert!(judge_shares(&numbers, &other).is_err(), "call {index}");
+                other[to] -= 1;
+                assert!(judge_shares(&numbers, &other).is_err(), "call {index}");
+            }
+        }
+        for (kind, holds) in held {
+            *kinds.entry(kind).or_default() += u64::from(holds);
+        }
+    }
+    println!("answers of 20,000 shares calls, 0 for accepted: {counts:?}; {kinds:?}");
+    assert!(counts.keys().eq(&[0, 7, 8, 9, 23]) && counts.values().all(|&count| count >= 100), "{counts:?}");
+    assert!(kinds.len() == 9 && kinds.values().all(|&count| count >= 20), "{kinds:?}");
 }
 
 /// The numbers of the other three calls reach every row that these can give, and 7 at positions of every size.

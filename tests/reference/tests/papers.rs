@@ -1100,8 +1100,8 @@ fn refusals_of_the_movement_program() {
         whole(&put(&sound, 15 * (line - 1), b"              "), &format!("REF 3 0 {line}"));
     }
     whole(&put(&put(&sound, 30, b"x"), 15, b"x"), "REF 3 0 2");
-    for broken in [&b"00"[..], b"-1", b"+1", b"1 ", b"\t1", b".1"] {
-        whole(&put(&sound, 14 - broken.len(), broken), "REF 3 0 1");
+    for broken in ["00", "-1", "+1", "1 ", "\t1", ".1", "1x"] {
+        whole(&put(&sound, 0, format!("{broken:>14}").as_bytes()), "REF 3 0 1");
     }
     // 3 before 8 and 9; 8 before 9; 9 at its first position.
     let (eight, nine) = (movement_input(&[(12, 9), (13, 1)], 0), movement_input(&[(3, 1), (5, 1)], 0));
@@ -1114,4 +1114,100 @@ fn refusals_of_the_movement_program() {
     whole(&movement_input(&[(0, most), (12, 9), (13, 1)], most), "REF 8 0 13");
     whole(&movement_input(&[(0, most), (3, 1)], 1), "REF 9 0 3");
     whole(&put(&movement_input(&[(0, most)], 1), 45, b"x"), "REF 3 0 4");
+}
+
+/// #112: the shares of zeros but for these positions.
+fn shares(amounts: &[(usize, u64)]) -> Result<[u64; PARTS], Refusal> {
+    let mut b = [0; BLOCK_NUMBERS];
+    for &(position, amount) in amounts {
+        b[position] = amount;
+    }
+    let shares = shares_call(&b);
+    if let Ok(shares) = shares {
+        assert_eq!(judge_shares(&b, &shares), Ok(()));
+    }
+    shares
+}
+
+/// #112, worked out by hand: a part alone has all of K, and two alike have half each, "equal ones by lower number". Lapse-sensitive and
+/// lapse-supported of 100 have K 160, and 100 without the other: margins of 60. Mortality and longevity of 3 have K 4.8, rounded up, and
+/// 3 without the other: margins of 2 for 5 cents. Mortality and credit of 100 have K 178 and margins of 78.
+#[test]
+fn shares_of_the_capital() {
+    let parts = |given: &[(usize, u64)]| {
+        let mut shares = [0; PARTS];
+        given.iter().for_each(|&(part, share)| shares[part - 1] = share);
+        Ok(shares)
+    };
+    assert_eq!(shares(&[(0, 1), (1, 1)]), parts(&[(1, 1)]));
+    assert_eq!(shares(&[(14, LARGEST_AMOUNT)]), parts(&[(8, LARGEST_AMOUNT)]));
+    assert_eq!(shares(&[(15, 7)]), parts(&[(9, 7)]));
+    assert_eq!(shares(&[(16, 7)]), parts(&[(10, 7)]));
+    assert_eq!(shares(&[(8, 100), (10, 100)]), parts(&[(5, 80), (6, 80)]));
+    assert_eq!(shares(&[(0, 100), (2, 100)]), parts(&[(1, 80), (2, 80)]));
+    assert_eq!(shares(&[(0, 3), (2, 3)]), parts(&[(1, 3), (2, 2)]));
+    assert_eq!(shares(&[(0, 100), (15, 100)]), parts(&[(1, 89), (9, 89)]));
+    // Credit and market add up.
+    assert_eq!(shares(&[(15, 5), (16, 5)]), parts(&[(9, 5), (10, 5)]));
+    // LT of a risk is taken off with its IR: the part has no margin but what both bring.
+    assert_eq!(shares(&[(0, 9), (1, 9), (14, 4)]), parts(&[(1, 9), (8, 4)]));
+}
+
+/// #112: the illustration of source document 001, section 2.2.2, has segments of 25, 15, 40 and 5. With the correlations of section 2.2.1
+/// they have 67.546, and 51.235, 58.949, 35.532 and 65.096 without one of them; it prints whole numbers of these, and of them the
+/// shares 18.6, 9.8, 36.4 and 2.8, which are 27.5, 14.5, 53.9 and 4.1 %. A block that has these figures, in dollars: market 20.91,
+/// lapse-sensitive 15.05 with a level and trend part of 6.10, lapse-supported 42.92 with one of 0.82, expenses 4.69.
+#[test]
+fn illustration_of_document_001() {
+    let numbers = [(16, 2091), (8, 1505), (9, 610), (10, 4292), (11, 82), (12, 469)];
+    let k = |without: &[usize]| {
+        let left: Vec<(usize, u64)> = numbers.into_iter().filter(|(position, _)| !without.contains(position)).collect();
+        block(&left)[4]
+    };
+    let capital = [k(&[]), k(&[16]), k(&[8, 9]), k(&[10, 11]), k(&[12])];
+    assert_eq!(capital, [6755, 6755 - 1631, 6755 - 859, 6755 - 3201, 6755 - 245]);
+    assert_eq!(capital.map(|k| (k + 50) / 100), [68, 51, 59, 36, 65]);
+    assert_eq!(shares(&numbers), Ok([0, 0, 0, 0, 977, 3643, 279, 0, 0, 1856]));
+    let parts = [1856, 977, 3643, 279];
+    assert_eq!(parts.map(|share| (share + 5) / 10), [186, 98, 364, 28]);
+    assert_eq!(parts.map(|share| (2000 * share / 6755 + 1) / 2), [275, 145, 539, 41]);
+}
+
+/// #112: a K of 68 by margins of 17, 9, 32 and 3, the whole numbers that the illustration shows. By the formula that is 18.95, 10.03, 35.67
+/// and 3.34, and two cents are left over, for 0.95 and 0.67. A block that has them: morbidity termination 23, PC 9, lapse-sensitive 39
+/// with a level and trend part of 1, longevity 5 with one of 1.
+#[test]
+fn shares_of_whole_margins() {
+    let numbers = [(6, 23), (14, 9), (8, 39), (9, 1), (2, 5), (3, 1)];
+    assert_eq!(block(&numbers)[4], 68);
+    assert_eq!(shares(&numbers), Ok([0, 3, 0, 19, 36, 0, 0, 10, 0, 0]));
+}
+
+/// #112: the example of document 000.
+#[test]
+fn shares_of_the_example() {
+    assert_eq!(shares_call(&example()), Ok(EXAMPLE_SHARES));
+    assert_eq!(EXAMPLE_SHARES.iter().sum::<u64>(), EXAMPLE_FIGURES[4]);
+    assert_eq!(judge_shares(&example(), &EXAMPLE_SHARES), Ok(()));
+}
+
+/// #112: "as number 23 with no place, a block with a negative margin or with all margins zero, after the block's own tests".
+#[test]
+fn refusals_of_the_shares_call() {
+    let none = Err(Refusal::nowhere(23));
+    // No block; five risks of a cent, with K 4, and 4 without any one of them.
+    assert_eq!(shares(&[]), none);
+    let cents = [(0, 1), (2, 1), (6, 1), (10, 1), (12, 1)];
+    assert_eq!(block(&cents)[4], 4);
+    assert_eq!(shares(&cents), none);
+    // Morbidity incidence of 2 and lapse-sensitive of 20 have K 22, and with lapse-supported of 1 it is 21: a margin of -1.
+    assert_eq!((block(&[(4, 2), (8, 20)])[4], block(&[(4, 2), (8, 20), (10, 1)])[4]), (22, 21));
+    assert_eq!(shares(&[(4, 2), (8, 20), (10, 1)]), none);
+    // 7, 8 and 9 come before it.
+    let at = |number: u8, position: usize| Err(Refusal::at_position(number, position));
+    assert_eq!(shares(&[(16, LARGEST_AMOUNT + 1)]), at(7, 16));
+    assert_eq!(shares(&[(13, 1)]), at(8, 13));
+    assert_eq!(shares(&[(3, 1)]), at(9, 3));
+    assert_eq!(shares(&[(4, 2), (8, 20), (9, 21), (10, 1)]), at(9, 9));
+    assert_eq!(shares(&[(4, 2), (8, 20), (10, 1), (14, u64::MAX)]), at(7, 14));
 }

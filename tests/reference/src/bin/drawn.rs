@@ -15,12 +15,15 @@ struct Answer {
     judged: usize,
 }
 
+/// A drawn input and its answer, or what was promised of it and doesn't hold.
+type Drawn = (Vec<u8>, Result<Answer, String>);
+
 fn main() -> Result<(), Box<dyn Error>> {
     let words: Vec<String> = env::args().skip(1).collect();
     let [program, seed, count, folder] = &words[..] else {
         return Err("usage: drawn PROGRAM SEED COUNT FOLDER".into());
     };
-    let draw: fn(u64, u64) -> (Vec<u8>, Result<Answer, String>) = match program.as_str() {
+    let draw: fn(u64, u64) -> Drawn = match program.as_str() {
         "tsav-movement" => movements,
         _ => return Err(format!("no inputs are drawn for {program}").into()),
     };
@@ -41,7 +44,7 @@ fn main() -> Result<(), Box<dyn Error>> {
 }
 
 /// #111: each movement is judged.
-fn movements(seed: u64, index: u64) -> (Vec<u8>, Result<Answer, String>) {
+fn movements(seed: u64, index: u64) -> Drawn {
     let input = generate::movement_input(seed, index);
     let printed = print_movements(&input);
     let answer = match movement_call(&input) {
