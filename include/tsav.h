@@ -2,7 +2,7 @@
    libtsav.so, as the install script names them; in a checkout `bindings/library` writes the archive, as
    target/staticlib/libexports.a.
 
-   Six calls, and the version of the six. Each is proved to answer every input as is said here; none allocates, keeps
+   The calls, and their version. Each is proved to answer every input as is said here; none allocates, keeps
    anything between calls, or can fail in another way, and several threads may call at once.
 
    What is asked of a caller: every pointer is valid for the numbers or bytes that its parameter names, pointers to numbers
@@ -38,7 +38,8 @@
      12  nowhere             there is no scalar line
      13  nowhere             the credits that belong to no block (CRD of block 0, GEN class 5) are above what is left: sum of K,
                              less the dividend credits, + guarantee requirement + RO
-     14  nowhere             the lent report is shorter than the report; converting, the lent room is shorter than the sheet
+     14  nowhere             the lent report is shorter than the report; converting, the lent room is shorter than the sheet;
+                             checking, it is shorter than the listing
      15  nowhere             the list of volumes is longer than TSAV_MOST_VOLUMES, or no multiple of TSAV_TERRITORY_NUMBERS
      16  nowhere             the credit of a MOR line is above level and trend of its block's mortality
      17  nowhere             a dividend credit (CRD of a block) is above its block's K, or the block has no RSK or OTH line
@@ -91,6 +92,10 @@ extern "C" {
 
 /* The report of 32 blocks. With this room a sheet is never refused by 14; with less, only one whose report is longer. */
 #define TSAV_LONGEST_REPORT 4727
+
+/* The bytes of a listing's line, and the listing of 176 lines. With this room a check is never refused by 14. */
+#define TSAV_LISTING_LINE 20
+#define TSAV_LONGEST_LISTING 3520
 
 #define TSAV_NOWHERE 0
 #define TSAV_LINE 1
@@ -203,6 +208,27 @@ uint64_t tsav_sheet(const uint8_t *sheet, size_t bytes, uint8_t *report, size_t 
    16 and 17 are not tested: the converted sheet may still be refused by them in the sheet call. */
 uint64_t tsav_convert(const uint8_t *sheet, size_t bytes, uint8_t *converted, size_t room, uint64_t written[1],
                       uint64_t place[2]);
+
+/* The check call: lists the lines of an accepted sheet that need another line, which is absent or has first amount 0.
+
+     VOL class 5          needs  GEN class 2
+     MOR                  needs  RSK class 1 of its block
+     ACQ                  needs  VOL of its block and class
+     CRD of block 17-32   needs  an RSK line of its block, of which any with a first amount above 0 will do
+
+   A line with amounts all zero needs nothing, and neither does any other.
+
+   sheet: bytes bytes, as of the sheet call.
+   listing: room bytes, of any content.
+
+   Accepted, written holds the listing's length, TSAV_LISTING_LINE for each line that is listed, 0 where none is; so many bytes of
+   listing, from its start, are the listing, and those behind them are untouched. It follows the sheet's order. A line has the code,
+   block and class of the sheet's line in its columns 1 to 9, those of the line that it needs in 11 to 13, 15 to 16 and 18 to
+   19, where the class is 0 for a CRD line, spaces between, a line feed.
+
+   Refusals, tested in this order: those of the sheet call but for its 14; then 14, where room is less than the listing. */
+uint64_t tsav_check(const uint8_t *sheet, size_t bytes, uint8_t *listing, size_t room, uint64_t written[1],
+                    uint64_t place[2]);
 
 #ifdef __cplusplus
 }

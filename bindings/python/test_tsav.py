@@ -10,6 +10,7 @@ TOP = Path(__file__).resolve().parents[2]
 OVER = tsav.LARGEST_AMOUNT + 1
 BLOCK = [int(word) for word in (TOP / "examples" / "block.numbers").read_text().split()]
 SHEET = (TOP / "examples" / "example.sheet").read_bytes()
+UNMET = (TOP / "examples" / "unmet.sheet").read_bytes()
 THOUSANDS = (TOP / "examples" / "thousands.sheet").read_bytes()
 REPORT = (TOP / "crates" / "tsav_sheet" / "stdout").read_bytes()
 FLUCTUATIONS = (TOP / "tests" / "reference" / "fluctuation.cases").read_text().splitlines()
@@ -197,6 +198,22 @@ class Calls(unittest.TestCase):
                 else:
                     _, number, *place = answer.split()
                     self.refused(int(number), int(place[1]) if place else None, None, tsav.convert, given)
+
+    def test_check(self):
+        listing = b"MOR  1  1 RSK  1  1\nVOL  1  5 GEN  0  2\nACQ  1  2 VOL  1  2\nCRD 17  1 RSK 17  0\n"
+        for kind in (bytes, bytearray, memoryview):
+            self.assertEqual(tsav.check(kind(UNMET)), listing)
+        self.assertEqual(tsav.check(SHEET), b"")
+        lines = [b"ACQ %2d %2d              1              0\n" % (n // 8 + 1, n % 8 + 1) for n in range(128)]
+        lines += [b"GEN  0  4          10000              0\n"]
+        self.assertEqual(len(tsav.check(b"".join(lines))), 128 * tsav.LISTING_LINE)
+        self.refused(12, None, None, tsav.check, b"")
+        self.refused(4, 1, None, tsav.check, THOUSANDS)
+        self.refused(19, 13, None, tsav.check, UNMET + b"VOL  2  1              1              1\n")
+        self.refused(17, None, None, tsav.check, UNMET + b"CRD 18  1              0              0\n")
+        for wrong in (UNMET.decode(), 40, None):
+            with self.assertRaises(TypeError):
+                tsav.check(wrong)
 
     def test_what_is_no_amount(self):
         for wrong in (1.0, "1", None):

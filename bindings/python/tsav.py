@@ -1,4 +1,4 @@
-"""The TSAV aggregation calculator (chapters 8 and 11 of the 2023 guideline): the six calls of the proved library.
+"""The TSAV aggregation calculator (chapters 8 and 11 of the 2023 guideline): the calls of the proved library.
 
 What each call takes, gives and refuses is written in tsav.h. All amounts are whole cents, 0 to LARGEST_AMOUNT,
 but for a sheet in thousands of dollars that is converted. A refusal is the exception Refused, with its number and place.
@@ -43,6 +43,10 @@ BLOCK_LINES = 5
 # 629 lines; five report lines for each block, and three of totals.
 LONGEST_SHEET = 629 * SHEET_LINE
 LONGEST_REPORT = REPORT_LINE * (BLOCK_LINES * MOST_BLOCKS + 3)
+
+# The bytes of a listing's line, and the listing of 176 lines.
+LISTING_LINE = 20
+LONGEST_LISTING = 176 * LISTING_LINE
 
 # The kinds of a place. No call gives a risk, which refusal 22 of the program tsav-movement has.
 NOWHERE = 0
@@ -147,6 +151,17 @@ def convert(sheet) -> bytes:
     return converted.raw[: written[0]]
 
 
+def check(sheet) -> bytes:
+    """The check call: the listing of the lines of an accepted sheet that need another one, which is absent or has first amount
+    0; both as bytes, and empty where every need is met."""
+    lent = bytes(memoryview(sheet))
+    listing, written, place = ctypes.create_string_buffer(LONGEST_LISTING), (ctypes.c_uint64 * 1)(), (ctypes.c_uint64 * 2)()
+    _answered(_library.tsav_check(lent, len(lent), listing, LONGEST_LISTING, written, place), place)
+    if written[0] > LONGEST_LISTING:
+        raise ContractBroken(f"a listing of {written[0]} bytes where {LONGEST_LISTING} were lent")
+    return listing.raw[: written[0]]
+
+
 def _lend(numbers) -> ctypes.Array:
     """Whole numbers as the library takes them. ctypes would cut a longer one off and turn a negative one round; what passes
     64 bits is above the largest amount and the last row all the same, and is refused as such."""
@@ -191,6 +206,7 @@ def _load() -> ctypes.CDLL:
         ("tsav_sheet", [ctypes.c_char_p, size, ctypes.c_char_p, size, numbers, numbers]),
         ("tsav_convert", [ctypes.c_char_p, size, ctypes.c_char_p, size, numbers, numbers]),
         ("tsav_shares", [numbers, numbers, numbers]),
+        ("tsav_check", [ctypes.c_char_p, size, ctypes.c_char_p, size, numbers, numbers]),
     ):
         # A call that is added leaves the version as it was, so that an older library may lack it.
         if not hasattr(library, name):

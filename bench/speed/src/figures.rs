@@ -115,6 +115,12 @@ pub fn lines_without_bought() -> Vec<Line> {
     all_lines(MOST_BLOCKS).into_iter().filter(|&(code, ..)| code != "ACQ").collect()
 }
 
+/// Every line but those that another one needs: without RSK a MOR line has no credit, as T is a part of an LT(1) of 0.
+pub fn lines_with_needs() -> Vec<Line> {
+    let needed = |&(code, _, class): &Line| matches!(code, "RSK" | "VOL") || (code == "GEN" && class == 2);
+    all_lines(MOST_BLOCKS).into_iter().filter(|line| !needed(line)).collect()
+}
+
 /// The lines of document 01's whole run: one block, one volume, the first general figure and the scalar.
 pub fn small_lines() -> Vec<Line> {
     let in_run = |&(code, _, class): &Line| match code {

@@ -14,12 +14,12 @@
 mod figures;
 mod peer;
 
-use figures::{lines_without_bought, small_lines, Draws, Line, Size};
+use figures::{lines_with_needs, lines_without_bought, small_lines, Draws, Line, Size};
 use peer::{root_by_digits, root_by_newton, root_without_jumps, Root};
 use reference::{all_lines, BLOCK_NUMBERS, BLOCK_VALUES};
 use std::hint::black_box;
 use std::time::Instant;
-use tsav::{LONGEST_REPORT, LONGEST_SHEET, MOST_BLOCKS};
+use tsav::{LONGEST_LISTING, LONGEST_REPORT, LONGEST_SHEET, MOST_BLOCKS};
 
 /// Samples of each side.
 const SAMPLES: usize = 400;
@@ -66,6 +66,8 @@ fn main() {
         named.push((format!("full sheet to thousands{size_name}"), conversions(&mut draws, size, false)));
         named.push((format!("full sheet to cents{size_name}"), conversions(&mut draws, size, true)));
     }
+    named.push(("check of a full sheet".into(), checks(&mut draws, &all_lines(MOST_BLOCKS))));
+    named.push(("check of a full sheet without RSK, VOL and GEN 2".into(), checks(&mut draws, &lines_with_needs())));
     for round in 0..SAMPLES {
         for (_, kind) in &mut named {
             kind.sample(round);
@@ -204,6 +206,25 @@ fn conversions(draws: &mut Draws, size: Size, small: bool) -> Kind {
     Kind::without_roots(FULL_SHEETS, lines.len(), move |side| match side {
         0 => each(&sheets, |sheet| tsav::convert(sheet, black_box(&mut converted)).ok()),
         _ => each(&sheets, |sheet| peer::convert(sheet, black_box(&mut converted)).ok()),
+    })
+}
+
+fn checks(draws: &mut Draws, lines: &[Line]) -> Kind {
+    let sheets: Vec<Vec<u8>> = (0..FULL_SHEETS).map(|_| draws.sheet(lines, Size::Middling)).collect();
+    let (mut one, mut two) = ([0; LONGEST_LISTING], [0; LONGEST_LISTING]);
+    for sheet in &sheets {
+        let ours = tsav::check(sheet, &mut one).expect("the sheet is accepted");
+        for root in ROOTS {
+            assert_eq!(peer::check(sheet, &mut two, root), Ok(ours));
+            assert_eq!(one[..ours], two[..ours], "the same listing");
+        }
+    }
+    let mut listing = [0; LONGEST_LISTING];
+    Kind::new(FULL_SHEETS, lines.len(), move |side| match side {
+        0 => each(&sheets, |sheet| tsav::check(sheet, black_box(&mut listing)).ok()),
+        1 => each(&sheets, |sheet| peer::check(sheet, black_box(&mut listing), root_by_digits).ok()),
+        2 => each(&sheets, |sheet| peer::check(sheet, black_box(&mut listing), root_without_jumps).ok()),
+        _ => each(&sheets, |sheet| peer::check(sheet, black_box(&mut listing), root_by_newton).ok()),
     })
 }
 

@@ -1,4 +1,4 @@
-//! The calculator of document 01, with requests #101, #102, #104 to #110 and #112 of document 02, as a good programmer writes it
+//! The calculator of document 01, with requests #101, #102, #104 to #110, #112 and #113 of document 02, as a good programmer writes it
 //! with u128: no allocation, every figure worked out once, and everything tested that the papers have tested. It is here for its
 //! speed; tests/reference, written to be plain, is the independent calculation.
 //!
@@ -8,8 +8,9 @@
 
 use reference::{
     Refusal, ADJUSTABLE_PRODUCTS, BLOCK_NUMBERS, BLOCK_VALUES, FIGURES, GENERAL_CLASSES, GENERAL_NUMBERS,
-    LARGEST_AMOUNT, LARGEST_SCALAR, LINE_BYTES, LONGEST_SHEET, MOST_BLOCKS, MOST_TERRITORIES, MOST_VOLUMES,
-    NON_PARTICIPATING, PARTS, REPORT_LINE_BYTES, RISKS, TERRITORY_NUMBERS, THOUSAND_DOLLARS, VOLUME_CLASSES,
+    LARGEST_AMOUNT, LARGEST_SCALAR, LINE_BYTES, LISTING_LINE_BYTES, LONGEST_LISTING, LONGEST_SHEET, MOST_BLOCKS,
+    MOST_TERRITORIES, MOST_VOLUMES, NON_PARTICIPATING, PARTS, REPORT_LINE_BYTES, RISKS, TERRITORY_NUMBERS,
+    THOUSAND_DOLLARS, VOLUME_CLASSES,
 };
 
 /// The least whole number whose square is at least the radicand.
@@ -303,23 +304,39 @@ fn convert_line(line: &[u8; LINE_BYTES], out: &mut [u8], small: bool, before: &m
 
 /// The sheet call.
 pub fn sheet(bytes: &[u8], report: &mut [u8], root: Root) -> Result<usize, Refusal> {
-    measure(bytes)?;
-    let mut sheet = Sheet {
-        blocks: [[0; BLOCK_NUMBERS]; MOST_BLOCKS],
-        volumes: [0; MOST_VOLUMES],
-        general: [0; GENERAL_CLASSES],
-        sums: [[0; 2]; NON_PARTICIPATING],
-        dividends: [0; MOST_BLOCKS],
-        adjustable: 0,
-        before: Before { seen: [0; MOST_BLOCKS + 1], last: 0 },
-    };
-    for (at, line) in bytes.chunks_exact(LINE_BYTES).enumerate() {
-        if let Err(number) = sheet.enter(line.try_into().unwrap()) {
-            return Err(Refusal::at_line(number, at + 1));
-        }
-    }
+    let mut sheet = EMPTY;
+    sheet.read(bytes)?;
     sheet.report(report, root)
 }
+
+/// The check call. The lines are listed before the credits are taken off, into a room of its own.
+pub fn check(bytes: &[u8], listing: &mut [u8], root: Root) -> Result<usize, Refusal> {
+    let mut sheet = EMPTY;
+    sheet.read(bytes)?;
+    let (mut room, mut rows) = ([b' '; LONGEST_LISTING], NO_ROWS);
+    let length = sheet.list(bytes, &mut room);
+    sheet.judge(&mut rows, root)?;
+    if listing.len() < length {
+        return Err(Refusal::nowhere(14));
+    }
+    listing[..length].copy_from_slice(&room[..length]);
+    Ok(length)
+}
+
+/// Before any line.
+const EMPTY: Sheet = Sheet {
+    blocks: [[0; BLOCK_NUMBERS]; MOST_BLOCKS],
+    volumes: [0; MOST_VOLUMES],
+    general: [0; GENERAL_CLASSES],
+    sums: [[0; 2]; NON_PARTICIPATING],
+    dividends: [0; MOST_BLOCKS],
+    adjustable: 0,
+    before: Before { seen: [0; MOST_BLOCKS + 1], last: 0 },
+};
+
+/// Each block that exists with its figures.
+type Rows = [(u64, [u64; FIGURES]); MOST_BLOCKS];
+const NO_ROWS: Rows = [(0, [0; FIGURES]); MOST_BLOCKS];
 
 /// The bits of `seen` that say that a block exists, those of RSK and OTH; where those of OTH, VOL, MOR, ACQ and CRD
 /// begin.
@@ -373,6 +390,17 @@ impl Before {
 }
 
 impl Sheet {
+    /// The lines of a sheet into the tables, by rules 1 to 11 and 19.
+    fn read(&mut self, bytes: &[u8]) -> Result<(), Refusal> {
+        measure(bytes)?;
+        for (at, line) in bytes.chunks_exact(LINE_BYTES).enumerate() {
+            if let Err(number) = self.enter(line.try_into().unwrap()) {
+                return Err(Refusal::at_line(number, at + 1));
+            }
+        }
+        Ok(())
+    }
+
     /// A line, or the number of the rule that turns it away.
     fn enter(&mut self, line: &[u8; LINE_BYTES]) -> Result<(), u8> {
         let numbers = fields(line).ok_or(3)?;
@@ -415,14 +443,63 @@ impl Sheet {
         Ok(())
     }
 
-    /// Rules 12, 16, 17, 13 and 14, and the report.
+    /// The lines of the sheet whose companion is absent or has first amount 0: how many bytes they take in a room of spaces.
+    fn list(&self, bytes: &[u8], room: &mut [u8; LONGEST_LISTING]) -> usize {
+        let mut lines = room.chunks_exact_mut(LISTING_LINE_BYTES);
+        let mut length = 0;
+        for line in bytes.chunks_exact(LINE_BYTES) {
+            if !matches!(line[0], b'M' | b'V' | b'A' | b'C') {
+                continue;
+            }
+            let Some([block, class, first, second]) = fields(line.try_into().unwrap()) else { continue };
+            if first == 0 && second == 0 {
+                continue;
+            }
+            let (at, volume) = (block.wrapping_sub(1) as usize, class as usize - 1);
+            let (code, of, needed, met) = match line[0] {
+                b'M' => (b"RSK", block, 1, self.blocks[at][0] > 0),
+                b'V' if class == 5 => (b"GEN", 0, 2, self.general[1] > 0),
+                b'A' => (b"VOL", block, class, self.volumes[TERRITORY_NUMBERS * at + 2 * volume] > 0),
+                b'C' if block > 0 => (b"RSK", block, 0, (0..RISKS).any(|risk| self.blocks[at][2 * risk] > 0)),
+                _ => continue,
+            };
+            if met {
+                continue;
+            }
+            let Some(out) = lines.next() else { break };
+            out[..9].copy_from_slice(&line[..9]);
+            out[10..13].copy_from_slice(code);
+            write_number(&mut out[14..16], of);
+            write_number(&mut out[17..19], needed);
+            out[19] = b'\n';
+            length += LISTING_LINE_BYTES;
+        }
+        length
+    }
+
+    /// Rule 14, and the report.
     fn report(&mut self, report: &mut [u8], root: Root) -> Result<usize, Refusal> {
+        let mut rows = NO_ROWS;
+        let (blocks, totals) = self.judge(&mut rows, root)?;
+        let length = REPORT_LINE_BYTES * (FIGURES * blocks + 3);
+        if report.len() < length {
+            return Err(Refusal::nowhere(14));
+        }
+        let (lines, last) = report[..length].split_at_mut(REPORT_LINE_BYTES * FIGURES * blocks);
+        for ((number, figures), lines) in rows.iter().zip(lines.chunks_exact_mut(REPORT_LINE_BYTES * FIGURES)) {
+            write_items(lines, b"BLK", *number, figures);
+        }
+        write_items(last, b"TOT", 0, &totals);
+        Ok(length)
+    }
+
+    /// Rules 12, 16, 17 and 13: how many blocks exist, their rows, and the totals.
+    fn judge(&mut self, rows: &mut Rows, root: Root) -> Result<(usize, [u64; 3]), Refusal> {
         let [_, guarantee, _, scalar, credits] = self.general;
         if scalar == 0 {
             return Err(Refusal::nowhere(12));
         }
         self.take_credits(root)?;
-        let mut rows = [(0, [0; FIGURES]); MOST_BLOCKS];
         let (mut blocks, mut sum, mut dividends) = (0, 0, 0);
         for (number, (numbers, seen)) in self.blocks.iter().zip(self.before.seen).enumerate() {
             if seen & EXISTS != 0 {
@@ -443,17 +520,8 @@ impl Sheet {
         let Some(bracket) = left.checked_sub(credits + self.adjustable) else {
             return Err(Refusal::nowhere(13));
         };
-        let length = REPORT_LINE_BYTES * (FIGURES * blocks + 3);
-        if report.len() < length {
-            return Err(Refusal::nowhere(14));
-        }
         let buffer = (u128::from(scalar) * u128::from(bracket)).div_ceil(10_000) as u64;
-        let (lines, totals) = report[..length].split_at_mut(REPORT_LINE_BYTES * FIGURES * blocks);
-        for ((number, figures), lines) in rows.iter().zip(lines.chunks_exact_mut(REPORT_LINE_BYTES * FIGURES)) {
-            write_items(lines, b"BLK", *number, figures);
-        }
-        write_items(totals, b"TOT", 0, &[sum, ro, buffer]);
-        Ok(length)
+        Ok((blocks, [sum, ro, buffer]))
     }
 }
 
@@ -541,6 +609,7 @@ mod tests {
             let (mut one, mut two) = (vec![0; lent], vec![0; lent]);
             assert_eq!(convert(&given, &mut one), reference::convert_call(&given, &mut two), "conversion {index}");
             assert_eq!(one, two, "converted sheet {index}");
+            let (checked, lent) = generate::check_case(1, index);
             for root in [root_by_digits, root_without_jumps, root_by_newton] {
                 let (mut one, mut two) = (vec![0; room], vec![0; room]);
                 assert_eq!(sheet(&lines, &mut one, root), reference::sheet_call(&lines, &mut two), "sheet {index}");
@@ -548,6 +617,9 @@ mod tests {
                 assert_eq!(block(&numbers, root), reference::block_call(&numbers), "block {index}");
                 assert_eq!(fluctuation(row, requirement, face, root), result, "fluctuation {index}");
                 assert_eq!(shares(&parts, root), divided, "shares {index}");
+                let (mut one, mut two) = (vec![0; lent], vec![0; lent]);
+                assert_eq!(check(&checked, &mut one, root), reference::check_call(&checked, &mut two), "check {index}");
+                assert_eq!(one, two, "listing {index}");
             }
         }
     }

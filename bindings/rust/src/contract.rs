@@ -2,8 +2,8 @@
 //! come all the same, another library was linked, and they are handed on as they are and not guessed at.
 
 use crate::{
-    report_length, Breach, Error, Place, Refusal, BLOCK_NUMBERS, FLUCTUATION_AMOUNTS, GENERAL_NUMBERS, MOST_BLOCKS,
-    SHEET_LINE, VERSION,
+    report_length, Breach, Error, Place, Refusal, BLOCK_NUMBERS, FLUCTUATION_AMOUNTS, GENERAL_NUMBERS, LISTING_LINE,
+    LONGEST_LISTING, MOST_BLOCKS, SHEET_LINE, VERSION,
 };
 
 /// The kinds of a place.
@@ -65,7 +65,7 @@ pub(crate) fn fluctuation(answer: u64, place: [u64; 2]) -> Result<(), Error> {
     Err(refused(answer, place, listed))
 }
 
-/// The sheet call's answer, on a sheet of so many bytes.
+/// The answer of the sheet call and of the check call, on a sheet of so many bytes.
 pub(crate) fn sheet(answer: u64, place: [u64; 2], bytes: usize) -> Result<(), Error> {
     let listed = match answer {
         0 => return Ok(()),
@@ -99,6 +99,14 @@ pub(crate) fn length(length: u64, room: usize) -> Result<usize, Error> {
 pub(crate) fn converted_length(length: u64, bytes: usize, room: usize) -> Result<usize, Error> {
     let sound = length == bytes as u64 && bytes <= room;
     sound.then_some(bytes).ok_or(Error::Contract(Breach::Length { length, room }))
+}
+
+/// The length that the check call gives where it accepts, with so many bytes lent: whole lines.
+pub(crate) fn listing_length(length: u64, room: usize) -> Result<usize, Error> {
+    (0..=LONGEST_LISTING)
+        .step_by(LISTING_LINE)
+        .find(|&listing| listing as u64 == length && listing <= room)
+        .ok_or(Error::Contract(Breach::Length { length, room }))
 }
 
 /// A refusal, where the call lists it with a place of this kind.
@@ -136,7 +144,7 @@ mod tests {
 
     const VOLUMES: usize = 32;
 
-    /// The six calls, on what is lent in these tests.
+    /// The answers of the calls, on what is lent in these tests; those of the check call are the sheet call's.
     const CALLS: [(&str, Call); 6] = [
         ("block", block),
         ("shares", shares),
@@ -283,6 +291,19 @@ mod tests {
         ];
         for (given, room) in excluded {
             assert_eq!(length(given, room), Err(Error::Contract(Breach::Length { length: given, room })));
+        }
+    }
+
+    #[test]
+    fn listing_lengths() {
+        for lines in 0..=176 {
+            let listing = LISTING_LINE * lines;
+            assert_eq!(listing_length(listing as u64, listing), Ok(listing));
+            assert_eq!(listing_length(listing as u64, usize::MAX), Ok(listing));
+        }
+        let longest = LONGEST_LISTING as u64;
+        for (given, room) in [(1, 40), (20, 19), (30, 40), (longest + 20, usize::MAX), (u64::MAX, usize::MAX)] {
+            assert_eq!(listing_length(given, room), Err(Error::Contract(Breach::Length { length: given, room })));
         }
     }
 

@@ -33,7 +33,7 @@ pub enum Breach {
     Version { found: u64 },
     /// A refusal that the call doesn't have, or not at this place: the number, and the place's two numbers as written.
     Refusal { number: u64, place: [u64; 2] },
-    /// A length that no report has, or that isn't the converted sheet's, or that is longer than the lent room.
+    /// A length that no report or listing has, or that isn't the converted sheet's, or that is longer than the lent room.
     Length { length: u64, room: usize },
 }
 

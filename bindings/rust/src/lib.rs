@@ -1,4 +1,4 @@
-//! The TSAV aggregation calculator (chapters 8 and 11 of the 2023 guideline): a safe wrapper of the six calls of the
+//! The TSAV aggregation calculator (chapters 8 and 11 of the 2023 guideline): a safe wrapper of the calls of the
 //! proved static library. What each call takes, gives and refuses is written in include/tsav.h.
 //!
 //! All amounts are whole cents, 0 to [`LARGEST_AMOUNT`], but for a sheet in thousands of dollars, which [`convert`] takes. Any
@@ -46,6 +46,10 @@ pub const LONGEST_SHEET: usize = 629 * SHEET_LINE;
 
 /// With this room a sheet is never refused by 14.
 pub const LONGEST_REPORT: usize = report_length(MOST_BLOCKS);
+
+/// The bytes of a listing's line, and the listing of 176 lines: with this room a check is never refused by 14.
+pub const LISTING_LINE: usize = 20;
+pub const LONGEST_LISTING: usize = 176 * LISTING_LINE;
 
 /// The lines that a report has for a block: I, D, U, LT and K.
 const BLOCK_LINES: usize = 5;
@@ -144,6 +148,18 @@ pub fn convert(sheet: &[u8], converted: &mut [u8]) -> Result<usize, Error> {
     contract::converted_length(written[0], sheet.len(), room)
 }
 
+/// The check call: it lists the lines of an accepted sheet that need another one, which is absent or has first amount 0, and gives
+/// the listing's length. The bytes behind it, and all of them where the sheet is refused, are left as they were.
+pub fn check(sheet: &[u8], listing: &mut [u8]) -> Result<usize, Error> {
+    compare_versions()?;
+    let (mut written, mut place) = ([0; 1], [0; 2]);
+    let (lent, room) = (listing.as_mut_ptr(), listing.len());
+    // SAFETY: as in `sheet`.
+    let answer = unsafe { library::tsav_check(sheet.as_ptr(), sheet.len(), lent, room, &mut written, &mut place) };
+    contract::sheet(answer, place, sheet.len())?;
+    contract::listing_length(written[0], room)
+}
+
 /// Another version may write more than is lent here.
 fn compare_versions() -> Result<(), Error> {
     // SAFETY: nothing is lent.
@@ -188,6 +204,14 @@ mod library {
             sheet: *const u8,
             bytes: usize,
             converted: *mut u8,
+            room: usize,
+            written: &mut [u64; 1],
+            place: &mut [u64; 2],
+        ) -> u64;
+        pub fn tsav_check(
+            sheet: *const u8,
+            bytes: usize,
+            listing: *mut u8,
             room: usize,
             written: &mut [u64; 1],
             place: &mut [u64; 2],

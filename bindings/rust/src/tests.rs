@@ -2,7 +2,7 @@ use super::*;
 use contract::{LINE, NOWHERE, POSITION, RISK};
 use reference::{
     all_lines, convert_cases, example, fluctuation_cases, report_line, sheet_line, EXAMPLE_FIGURES, EXAMPLE_SHARES,
-    IN_THOUSANDS, WHOLE_RUN, WHOLE_RUN_REPORT,
+    IN_THOUSANDS, UNMET, WHOLE_RUN, WHOLE_RUN_REPORT,
 };
 
 const OVER: u64 = LARGEST_AMOUNT + 1;
@@ -228,6 +228,42 @@ fn stored_conversions() {
     }
 }
 
+/// A sheet with four needs unmet; one with none; the longest listing.
+#[test]
+fn the_check_call() {
+    let mut listing = [b'#'; LONGEST_LISTING];
+    assert_eq!(check(UNMET, &mut listing), Ok(80));
+    let expected = b"MOR  1  1 RSK  1  1\nVOL  1  5 GEN  0  2\nACQ  1  2 VOL  1  2\nCRD 17  1 RSK 17  0\n";
+    assert_eq!(&listing[..80], expected);
+    assert!(listing[80..].iter().all(|&byte| byte == b'#'));
+    assert_eq!(check(WHOLE_RUN, &mut []), Ok(0));
+    let needs = |&(code, block, class): &(&'static str, u64, u64)| match (code, block, class) {
+        ("VOL", _, 5) => sheet_line(code, block, class, 0, 1),
+        ("MOR" | "ACQ", ..) | ("OTH", 17.., 1) | ("CRD", 17.., _) | ("GEN", _, 4) => {
+            sheet_line(code, block, class, 1, 0)
+        }
+        _ => Vec::new(),
+    };
+    let lines: Vec<u8> = all_lines(MOST_BLOCKS).iter().flat_map(needs).collect();
+    assert_eq!(check(&lines, &mut listing), Ok(LONGEST_LISTING));
+    assert_eq!(check(&lines, &mut listing[1..]), refused(14, Place::Nowhere));
+}
+
+#[test]
+fn refusals_of_the_check_call() {
+    let of = |bytes: &[u8]| check(bytes, &mut []);
+    assert_eq!(of(b""), refused(12, Place::Nowhere));
+    assert_eq!(of(b"x"), refused(2, Place::Nowhere));
+    assert_eq!(of(&[0; LONGEST_SHEET + 1]), refused(1, Place::Nowhere));
+    assert_eq!(of(IN_THOUSANDS), refused(4, Place::Line(1)));
+    assert_eq!(of(&[UNMET, &UNMET[..SHEET_LINE]].concat()), refused(11, Place::Line(13)));
+    assert_eq!(of(&[UNMET, b"MOR  2  1              1              1\n"].concat()), refused(19, Place::Line(13)));
+    assert_eq!(of(&[UNMET, b"CRD 18  1              0              0\n"].concat()), refused(17, Place::Nowhere));
+    let mut listing = *b"any content";
+    assert_eq!(check(UNMET, &mut listing), refused(14, Place::Nowhere));
+    assert_eq!(&listing, b"any content");
+}
+
 #[test]
 fn errors_in_words() {
     let words = |number: u8, place: Place| Error::Refused(Refusal { number, place }).to_string();
@@ -274,6 +310,8 @@ fn the_headers_numbers() {
         ("REPORT_LINE", REPORT_LINE as u64),
         ("LONGEST_SHEET", LONGEST_SHEET as u64),
         ("LONGEST_REPORT", LONGEST_REPORT as u64),
+        ("LISTING_LINE", LISTING_LINE as u64),
+        ("LONGEST_LISTING", LONGEST_LISTING as u64),
         ("NOWHERE", NOWHERE),
         ("LINE", LINE),
         ("POSITION", POSITION),
@@ -374,4 +412,22 @@ fn untouched_by_the_convert_call() {
     assert_eq!(call(b"", &mut converted), (0, [0], [KEPT; 2]));
     assert!(converted.iter().all(|&byte| byte == b'#'));
     assert_eq!(call(IN_THOUSANDS, &mut converted), (0, [IN_THOUSANDS.len() as u64], [KEPT; 2]));
+}
+
+#[test]
+fn untouched_by_the_check_call() {
+    let call = |sheet: &[u8], listing: &mut [u8]| {
+        let (mut length, mut place) = ([KEPT; 1], [KEPT; 2]);
+        let (lent, room) = (listing.as_mut_ptr(), listing.len());
+        // SAFETY: as in `check`.
+        let answer = unsafe { library::tsav_check(sheet.as_ptr(), sheet.len(), lent, room, &mut length, &mut place) };
+        (answer, length, place)
+    };
+    let mut listing = [b'#'; LONGEST_LISTING];
+    assert_eq!(call(b"", &mut listing), (12, [KEPT], [NOWHERE, 0]));
+    assert_eq!(call(&[b' '; SHEET_LINE], &mut listing), (3, [KEPT], [LINE, 1]));
+    assert_eq!(call(UNMET, &mut listing[..79]), (14, [KEPT], [NOWHERE, 0]));
+    assert_eq!(call(WHOLE_RUN, &mut listing), (0, [0], [KEPT; 2]));
+    assert!(listing.iter().all(|&byte| byte == b'#'));
+    assert_eq!(call(UNMET, &mut listing), (0, [80], [KEPT; 2]));
 }

@@ -25,9 +25,9 @@ use Rattle.judgement.specs.Judgement.{judgement}
 use Rattle.judgement.specs.Judgement.Judgement.{sound}
 use Rattle.credits.proofs.Accepted.{credit-accurate, block-accepted, credit-taken}
 use Rattle.judgement.proofs.Accepted.{exists-within, sound-passed, sound-accepted}
+use Rattle.judged_text.proofs.Judged.{by-answer}
 use Rattle.aggregate.specs.Call.{blockRowsOf, reportOf, sheetCall}
 use Rattle.aggregate.specs.Demand.{ReportedBlock, ReportDemand, Demand3}
-use Rattle.aggregate.proofs.Rules.{by-answer}
 
 module _ (s : List ℕ) (es : List Entry) (j : judgement s ≡ sound es) where
   -- five figures that fit their columns
@@ -86,7 +86,7 @@ module _ (s r : List ℕ) where
   Meets d = Demand3 s (d .outcome) (d .room)
 
   pub call-demand : Demand3 s (sheetCall s r .outcome) (sheetCall s r .room)
-  call-demand = by-answer s r Meets (λ n p. tt) (λ es e. (es, e, report-demand s es e _))
+  call-demand = by-answer reportOf s r Meets (λ n p. tt) (λ es e. (es, e, report-demand s es e _))
 
   -- so does what is equal to what the call gives
   pub promised : (d : Done) → d ≡ sheetCall s r → (d ≡ sheetCall s r) × Demand3 s (d .outcome) (d .room)

@@ -12,8 +12,8 @@ use Rattle.judgement.specs.Judgement.{judgement}
 use Rattle.judgement.specs.Judgement.Judgement.{sound}
 use Rattle.judgement.proofs.Accepted.{sound-passed}
 use Rattle.judgement.proofs.Alike.{same-figures-alike}
-use Rattle.aggregate.specs.Call.{sheetCall}
-use Rattle.aggregate.proofs.Rules.{by-answer}
+use Rattle.judged_text.proofs.Judged.{by-answer}
+use Rattle.aggregate.specs.Call.{reportOf, sheetCall}
 
 -- the lines that a sheet has
 abbrev pub linesOf : List ℕ → List Entry
@@ -25,7 +25,7 @@ Judged s (accepted vs) = judgement s ≡ sound (linesOf s)
 Judged s (refused n p) = Unit {0}
 
 judged : (s r : List ℕ) → Judged s (sheetCall s r .outcome)
-judged s r = by-answer s r (λ d. Judged s (d .outcome)) (λ n p. tt) (λ es e. rw (sound-passed s es e .read) e)
+judged s r = by-answer reportOf s r (λ d. Judged s (d .outcome)) (λ n p. tt) (λ es e. rw (sound-passed s es e .read) e)
 
 pub accepted-alike :
     (s t r q vs ws : List ℕ) → sheetCall s r .outcome ≡ accepted vs → sheetCall t q .outcome ≡ accepted ws → SameFigures (linesOf s) (linesOf t) → s ≡ t

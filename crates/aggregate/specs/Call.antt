@@ -14,10 +14,9 @@ use Rattle.order.specs.Entries.{exists}
 use Rattle.report.specs.Rows.{blockRows, totalRows}
 use Rattle.credits.specs.Credits.{afterCredit}
 use Rattle.judgement.specs.Sheet.{sheetOf}
-use Rattle.judgement.specs.Judgement.{Judgement, judgement}
-use Rattle.judgement.specs.Judgement.Judgement.{turnedAway, sound}
-use Rattle.printing.specs.Lent.{Text, Done, lent}
-use Rattle.printing.specs.Lent.Text.{noText, bytes}
+use Rattle.judgement.specs.Judgement.{Judgement}
+use Rattle.printing.specs.Lent.{Text, Done}
+use Rattle.judged_text.specs.Judged.{textOf, judgedCall}
 
 -- the lines of the blocks that exist, ascending
 unfoldable pub blockRowsOf : List Entry → List Row
@@ -32,10 +31,9 @@ abbrev pub reportOf : List Entry → List ℕ
 reportOf es = printRows (blockRowsOf es ++ totalRowsOf es)
 
 -- what the call has to say of a judged sheet: 'the report's length, 29 × (5n + 3) bytes for n blocks', is that of its bytes
-unfoldable pub answerTo : Judgement → Text
-answerTo (turnedAway n p) = noText n p
-answerTo (sound es) = bytes (reportOf es)
+abbrev pub answerTo : Judgement → Text
+answerTo j = textOf reportOf j
 
 -- the sheet call on a sheet s and a lent report r: its judgement, then rule 14, and then the report
-unfoldable pub sheetCall : List ℕ → List ℕ → Done
-sheetCall s r = lent (answerTo (judgement s)) r
+abbrev pub sheetCall : List ℕ → List ℕ → Done
+sheetCall s r = judgedCall reportOf s r

@@ -42,11 +42,6 @@ mortality-key i h = record { low = omega arith; high = omega arith; one = omega 
 pub trend-key : (i : ℕ) → i < nonParticipating → Key Rsk (i + 1) 1
 trend-key i h = record { low = omega arith; high = omega arith; one = omega arith; most = omega arith }
 
--- CRD's place of a participating block
-pub dividend-key : (b : ℕ) → nonParticipating < b → b ≤ blocks → Key Crd b 1
-dividend-key zero h l = absurd (omega arith)
-dividend-key (suc b) h l = record { low = h; high = l; one = omega arith; most = omega arith }
-
 dividend-low : (b : ℕ) → 1 ≤ b → Key Crd b 1 → nonParticipating < b
 dividend-low zero h v = absurd (omega arith)
 dividend-low (suc b) h v = v .low

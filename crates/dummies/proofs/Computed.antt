@@ -25,7 +25,8 @@ use Rattle.credits.specs.Credits.{creditOf, afterCredit, creditAbove}
 use Rattle.judgement.specs.Sheet.{blocksTo, sheetOf}
 use Rattle.judgement.specs.Judgement.{rule13, dividendBarred, rule17, rule16, rule12, ruleLines, judgement}
 use Rattle.printing.specs.Lent.{lent}
-use Rattle.aggregate.specs.Call.{blockRowsOf, answerTo, sheetCall}
+use Rattle.judged_text.specs.Judged.{textOf, judgedCall}
+use Rattle.aggregate.specs.Call.{blockRowsOf}
 use Rattle.dummies.specs.Dummies.{areBytes}
 use Rattle.dummies.specs.Answers.{answers, given, claimed}
 
@@ -36,5 +37,5 @@ unfolding
     printRows equalBytes numberIn numberAt isCode codeAmong spaced layoutOf lettered line.outside line.secondBarred line.trendAbove line.scalarOutside
     line.rule10 line.rule9 line.rule8 line.rule6 line.rule5 line.parseLine hasKey lookup exists pairs blockBy volumesBy keyOf rule19 rule11 onLine readFrom
     itemsFrom twiceRadicand aggregated credit lowered creditOf afterCredit blocksTo sheetOf anyTo creditAbove sumTo dividendBarred rule13
-    rule17 rule16 rule12 ruleLines layoutFirst rule2 measured judgement blockRowsOf lent answerTo sheetCall areBytes
+    rule17 rule16 rule12 ruleLines layoutFirst rule2 measured judgement blockRowsOf lent textOf judgedCall areBytes
 computed = refl

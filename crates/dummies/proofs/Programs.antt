@@ -4,7 +4,7 @@
 use mathlib.Core.Path.{_≡_, refl, sym, _∙_}
 use mathlib.Core.Bool.{Bool, true, false}
 use mathlib.Core.List.{List}
-use Prim.Native.Nat.{ℕ, _≤_}
+use Prim.Native.Nat.{ℕ}
 use native.Mathlib.Omega.{arith}
 use lib.ListN.{length, length-append, length-drop}
 use borrow.Author.Tests.{ltb-false}
@@ -18,7 +18,8 @@ use Rattle.judgement.specs.Judgement.{Judgement, judgement}
 use Rattle.judgement.specs.Judgement.Judgement.{turnedAway, sound}
 use Rattle.judgement.proofs.Accepted.{sound-accepted}
 use Rattle.printing.specs.Lent.{Done, rule14, lent}
-use Rattle.aggregate.specs.Call.{reportOf, answerTo, sheetCall}
+use Rattle.judged_text.specs.Judged.{textOf, judgedCall}
+use Rattle.aggregate.specs.Call.{reportOf, sheetCall}
 use Rattle.aggregate.proofs.Rows as aggregate
 use Rattle.dummies.specs.Dummies.{TurnsAllAway, ConstantReport, WritesNothing, TooShortAtOnce, FirstFilledIn, filledIn, BufferOfFirst}
 use Rattle.dummies.specs.Programs.{turnsAway, writesConstant, claimsSuccess, saysTooShort}
@@ -73,7 +74,7 @@ module _ (s r : List ℕ) where
 
   -- it tests rule 14 as the sheet call does
   outcome-same : (es : List Entry) → judgement s ≡ sound es → CreditsWithin (filledIn (sheetOf es)) → fillsIn s r .outcome ≡ sheetCall s r .outcome
-  unfolding fillsIn afterFilling filled17 filled13 sheetCall answerTo lent
+  unfolding fillsIn afterFilling filled17 filled13 judgedCall textOf lent
   outcome-same es e h = rw (e, if-ge _ (h .0), if-ge _ (h .1)) (same-outcome (filledReport es) (reportOf es) r (report-long es (sound-accepted s es e) h ∙ sym (aggregate.report-long es)))
 
 pub first-filled-in-met : FirstFilledIn fillsIn

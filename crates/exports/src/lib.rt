@@ -13,6 +13,7 @@ ghost use Rattle.shares.specs.Accepted.{SharesDemand};
 ghost use Rattle.aggregate.specs.Call.{sheetCall};
 ghost use Rattle.aggregate.specs.Demand.{Demand3};
 ghost use Rattle.convert.specs.Call.{convertCall, ConvertsBack};
+ghost use Rattle.sheet_check.specs.Call.{checkCall, ListsExactly};
 ghost use Rattle.printing.specs.Lent.{stated};
 ghost use Rattle.exports.specs.Left.{placeOf, Never0, Leaves};
 ghost use Rattle.exports.specs.Version.{interfaceVersion};
@@ -181,6 +182,23 @@ pub extern "C" fn tsav_convert(
     ensures { λ r. ⌜ (r ≡ 0 → ConvertsBack (now (sheet .entry)) (accepted (now (written .exit))) (now (room .exit))) ⌝ }
 {
     let answer = convert::convert_call(sheet, room);
+    tell(answer, written, place)
+}
+
+// Accepted, `written` holds how many bytes of the lent room are the listing, from its start. Where 0 is given, a line of the sheet is listed exactly
+// when its need is unmet.
+#[no_mangle]
+pub extern "C" fn tsav_check(
+    sheet: &[u8],
+    room: &mut [u8],
+    written: &mut [u64; 1],
+    place: &mut [u64; 2],
+) -> u64
+    ensures { λ r. ⌜ now (room .exit) ≡ checkCall (now (sheet .entry)) (now (room .entry)) .room ⌝ }
+    ensures { λ r. ⌜ Leaves (checkCall (now (sheet .entry)) (now (room .entry)) .outcome) r (now (written .entry)) (now (place .entry)) (now (written .exit)) (now (place .exit)) ⌝ }
+    ensures { λ r. ⌜ (r ≡ 0 → ListsExactly (now (sheet .entry)) (accepted (now (written .exit))) (now (room .exit))) ⌝ }
+{
+    let answer = sheet_check::check_call(sheet, room);
     tell(answer, written, place)
 }
 

@@ -2,13 +2,14 @@
 use mathlib.Core.Path.{_≡_, refl, sym, ap, _∙_}
 use mathlib.Core.List.{List, [], _∷_}
 use mathlib.Core.Bool.{Bool, true, false}
-use Prim.Native.Nat.{ℕ, zero, suc, _<_}
+use Prim.Native.Nat.{ℕ, zero, suc, _≤_, _<_}
 use native.Mathlib.Omega.{arith}
 use lib.Dec.{ltb}
 use lib.ListN.{length, getD}
 use borrow.Author.Tests.{eqb-true, eq-eqb}
 use Rattle.search.proofs.Picks.{if-true, if-false, if-eq, by-test, never}
-use Rattle.codes.specs.Codes.{codes}
+use Rattle.guideline.specs.Sizes.{nonParticipating, blocks}
+use Rattle.codes.specs.Codes.{codes, Key}
 use Rattle.codes.specs.declared.Code.{Code}
 use Rattle.codes.specs.declared.Code.the-variants.{Rsk, Oth, Mor, Vol, Acq, Gen, Crd}
 use Rattle.sheet_line.specs.declared.Entry.{Entry}
@@ -99,3 +100,10 @@ found (e ∷ es) n d (suc i) h f =
 
 pub distinct : (es : List Entry) → New es → DistinctKeys es
 distinct es n = record { one-place = one-place es n; found = found es n }
+
+-- ---- a place of CRD
+
+-- a participating block's
+pub dividend-key : (b : ℕ) → nonParticipating < b → b ≤ blocks → Key Crd b 1
+dividend-key zero h l = absurd (omega arith)
+dividend-key (suc b) h l = record { low = h; high = l; one = omega arith; most = omega arith }

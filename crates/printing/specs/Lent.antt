@@ -1,4 +1,5 @@
--- A call that writes into lent room, whatever its text: the report of a sheet (document 01), the converted sheet (document 02, #110). Rule 14 comes
+-- A call that writes into lent room, whatever its text: the report of a sheet (document 01), the converted sheet, the lines of the
+-- movements, the listing of a check (document 02, #110, #111, #113). Rule 14 comes
 -- last, 'lent report shorter than the report', and then the text: it gives the length written, 'and bytes past it keep their content'. 'A refusal
 -- writes nothing.'
 -- Assumes nothing.

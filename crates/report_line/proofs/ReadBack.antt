@@ -20,7 +20,7 @@ use Rattle.field.proofs.Inverse.{read-back}
 use Rattle.report_line.specs.Line.{reportLineBytes, key, reportLine, Row, printRow, printRows, equalBytes, numberIn, numberAt}
 use Rattle.search.proofs.Values.{values, is-values}
 
-abbrev keyOf : Row → List ℕ
+abbrev pub keyOf : Row → List ℕ
 keyOf r = key (r .code) (r .block) (r .item)
 
 -- a row that a line has the columns for
@@ -44,7 +44,7 @@ module _ (r : Row) (p : Printable r) where
   line-parts rest = rw (is-values 0 3 (r .code) (p .code)) (refl, refl, refl)
 
   -- code, block and item
-  key-parts : (take 3 (keyOf r) ≡ r .code) × (field (take 2 (drop 4 (keyOf r))) ≡ Value (r .block)) × (field (take 2 (drop 7 (keyOf r))) ≡ Value (r .item))
+  pub key-parts : (take 3 (keyOf r) ≡ r .code) × (field (take 2 (drop 4 (keyOf r))) ≡ Value (r .block)) × (field (take 2 (drop 7 (keyOf r))) ≡ Value (r .item))
   unfolding values decimal leadingDigits key
   key-parts =
       rw (is-values 0 3 (r .code) (p .code))

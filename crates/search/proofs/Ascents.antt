@@ -3,7 +3,7 @@
 use mathlib.Core.Path.{_≡_, refl, sym, ap, _∙_}
 use mathlib.Core.Bool.{Bool, true, false}
 use mathlib.Core.List.{List, [], _∷_, _++_, append-nil}
-use Prim.Native.Nat.{ℕ, zero, suc, _+_, _-_, _≤_, _<_}
+use Prim.Native.Nat.{ℕ, zero, suc, _+_, _-_, _*_, _≤_, _<_}
 use native.Mathlib.Decide.{decLe}
 use native.Mathlib.Numerals.{add-one}
 use native.Mathlib.Omega.{arith}
@@ -37,14 +37,19 @@ module _ {ℓ} {A : Type ℓ} (passes : ℕ → Bool) (f : ℕ → List A) where
       each-append P (ascending passes f n) _ (each-ascending P n (λ b l k. h b l (omega arith)))
       (each-picked P _ _ (h (suc n) (omega arith) (omega arith)))
 
+  -- of lists that none is longer than k
+  pub most-ascending : (k : ℕ) → ((b : ℕ) → length (f b) ≤ k) → (n : ℕ) → length (ascending passes f n) ≤ k * n
+  unfolding ascending
+  most-ascending k h zero = omega arith
+  most-ascending k h (suc n) =
+      let s = most-ascending k h n in
+      by-test (λ l. length (ascending passes f n ++ l) ≤ k * suc n) (passes (suc n)) (f (suc n)) []
+      (λ t. rw length-append (omega (arith, s, h (suc n))))
+      (λ t. rw length-append (omega (arith, s)))
+
 -- of n numbers at most n pass
 pub few {ℓ} : {A : Type ℓ} (passes : ℕ → Bool) (f : ℕ → A) (n : ℕ) → length (ascending passes (λ b. f b ∷ []) n) ≤ n
-unfolding ascending
-few passes f zero = omega arith
-few passes f (suc n) =
-    by-test (λ l. length (ascending passes (λ b. f b ∷ []) n ++ l) ≤ suc n) (passes (suc n)) _ _
-    (λ t. omega (arith, few passes f n, length-append (ascending passes (λ b. f b ∷ []) n) (f (suc n) ∷ [])))
-    (λ t. omega (arith, few passes f n, length-append (ascending passes (λ b. f b ∷ []) n) []))
+few passes f n = omega (arith, most-ascending passes (λ b. f b ∷ []) 1 (λ b. omega arith) n)
 
 -- ---- a function's values from 1 on
 

@@ -1,11 +1,11 @@
-//! `differential_run SEED COUNT [FIRST]`: the library's six calls, through the wrapper, against the reference's, on
-//! COUNT generated sheets, block calls, operational calls, fluctuation calls, conversions and shares calls from number FIRST on
-//! (0 where it isn't given).
+//! `differential_run SEED COUNT [FIRST]`: the library's calls, through the wrapper, against the reference's, on
+//! COUNT generated sheets, block calls, operational calls, fluctuation calls, conversions, shares calls and checks from number FIRST
+//! on (0 where it isn't given).
 //!
 //! Compared are the answers and every byte of the lent room, and some bytes on both sides of it, which nobody may
 //! write. On each accepted sheet the library's report must also satisfy demand 3, with each K within 1.01 cents of the exact
 //! one, and each result of a fluctuation call document 02's rule of one cent; each converted sheet must convert back to the first
-//! one; shares must total K and be those of the largest remainders. The same words give the same cases and the same output, however many processors share them.
+//! one; shares must total K and be those of the largest remainders; a listing must list exactly the unmet needs. The same words give the same cases and the same output, however many processors share them.
 
 use std::env;
 use std::fmt::{Debug, Write};
@@ -14,7 +14,8 @@ use std::thread;
 
 use reference::generate;
 
-const KINDS: [&str; 6] = ["sheet", "block call", "operational call", "fluctuation call", "conversion", "shares call"];
+const KINDS: [&str; 7] =
+    ["sheet", "block call", "operational call", "fluctuation call", "conversion", "shares call", "check"];
 
 fn main() -> ExitCode {
     let words: Option<Vec<u64>> = env::args().skip(1).map(|word| word.parse().ok()).collect();
@@ -56,6 +57,7 @@ fn compare(seed: u64, count: u64, first: u64) -> Found {
             found.add(index, 3, fluctuation_case(seed, index));
             found.add(index, 4, convert_case(seed, index));
             found.add(index, 5, shares_case(seed, index));
+            found.add(index, 6, check_case(seed, index));
         }
         found
     };
@@ -115,6 +117,8 @@ impl Found {
         writeln!(text, "both ways: {converted} converted sheets, each converted back").unwrap();
         let divided = self.answers[5][0];
         writeln!(text, "shares: {divided} blocks, of each the shares total K, all decided by whole numbers").unwrap();
+        let listings = self.answers[6][0];
+        writeln!(text, "needs: {listings} listings, each of exactly the unmet needs").unwrap();
         if let Some((index, kind, about)) = &self.first {
             writeln!(text, "first difference: {} {index} of seed {seed}", KINDS[*kind]).unwrap();
             writeln!(text, "{about}again: tests/differential {seed} 1 {index}").unwrap();
@@ -198,6 +202,15 @@ fn convert_case(seed: u64, index: u64) -> Result<Agreed, String> {
     let mut back = vec![0; sheet.len()];
     if agreed.answer == 0 && (tsav::convert(&converted, &mut back) != Ok(sheet.len()) || back != sheet) {
         return Err(format!("{}converted back: b\"{}\"\n", about(&sheet, room), back.escape_ascii()));
+    }
+    Ok(agreed)
+}
+
+fn check_case(seed: u64, index: u64) -> Result<Agreed, String> {
+    let (sheet, room) = generate::check_case(seed, index);
+    let (agreed, listing) = written((&sheet, room), index, tsav::check, reference::check_call)?;
+    if agreed.answer == 0 {
+        reference::judge_check(&sheet, &listing).map_err(|why| format!("{}needs: {why}\n", about(&sheet, room)))?;
     }
     Ok(agreed)
 }

@@ -1,4 +1,4 @@
-//! A seeded generator of sheets, sound and damaged, and of rooms for their reports; of sheets to convert; of numbers for the
+//! A seeded generator of sheets, sound and damaged, and of rooms for their reports; of sheets to convert and to check; of numbers for the
 //! other four calls; and of inputs for the program of #111.
 //! The same seed and index always give the same case.
 
@@ -49,6 +49,89 @@ pub fn convert_case(seed: u64, index: u64) -> (Vec<u8>, usize) {
     let (exact, less) = (sheet.len(), sheet.len().saturating_sub(1));
     let room = random.pick(&[0, less, any, exact, exact, exact, exact, exact + 1, exact + 3, LONGEST_SHEET]);
     (sheet, room)
+}
+
+/// #113: check call `index` of `seed`: a sheet, often with lines whose companion is absent or has first amount 0, and the length of
+/// the room to lend.
+pub fn check_case(seed: u64, index: u64) -> (Vec<u8>, usize) {
+    let mut random = Random::new(seed, index);
+    let mut lines = sound_lines(&mut random);
+    if !random.one_in(8) {
+        take_companions(&mut random, &mut lines);
+    }
+    let sheet = if random.below(8) < 6 { bytes(&lines) } else { damaged(&mut random, lines, FIRST_OF_A_LINE) };
+    let exact = check_call(&sheet, &mut [0; LONGEST_LISTING]).unwrap_or(0);
+    let any = random.at(LONGEST_LISTING + 1);
+    let less = exact.saturating_sub(1);
+    (sheet, random.pick(&[0, less, any, exact, exact, exact, exact + 1, exact + 7, LONGEST_LISTING, LONGEST_LISTING]))
+}
+
+/// Some companions of lines are left out or become zeros, and some lines zeros too. What would make the sheet refused is changed with
+/// it, mostly: a credit of survival and death business, what a dividend credit is taken from, the credits of no block.
+fn take_companions(random: &mut Random, lines: &mut Vec<Line>) {
+    if random.one_in(2) {
+        lines.retain(|l| !(l.is("GEN", 0, CREDITS) || l.code == "CRD" && l.block == 0));
+    }
+    let often = random.from(1, 4);
+    if random.below(4) < often {
+        leave_out(random, lines, |l| l.is("GEN", 0, 2));
+    }
+    for block in 1..=MOST_BLOCKS as u64 {
+        if random.below(4) >= often {
+            continue;
+        }
+        for l in lines.iter_mut().filter(|l| l.code == "MOR" && l.block == block) {
+            // Now and then the credit stays, for 16.
+            if !random.one_in(32) {
+                (l.first, l.second) = random.pick(&[(l.first, 0), (0, l.second), (0, l.first.max(1)), (0, 0)]);
+            }
+        }
+        leave_out(random, lines, |l| l.is("RSK", block, 1));
+        if block > NON_PARTICIPATING as u64 && random.one_in(2) {
+            without_risks(random, lines, block);
+        }
+        for class in 1..=VOLUME_CLASSES as u64 {
+            if random.one_in(2) {
+                leave_out(random, lines, |l| l.is("VOL", block, class));
+            }
+        }
+    }
+    // A volume of the year before alone has a need too.
+    for l in lines.iter_mut().filter(|l| l.code == "VOL") {
+        if random.one_in(8) {
+            (l.first, l.second) = (0, random.pick(&[0, 1, LARGEST_AMOUNT]));
+        }
+    }
+    for l in lines.iter_mut().filter(|l| matches!(l.code, "ACQ" | "CRD" | "MOR")) {
+        if random.one_in(8) {
+            (l.first, l.second) = (0, 0);
+        }
+    }
+}
+
+/// These lines go, or their first amounts become 0, and of RSK the second too.
+fn leave_out(random: &mut Random, lines: &mut Vec<Line>, which: impl Fn(&Line) -> bool) {
+    if random.one_in(2) {
+        lines.retain(|l| !which(l));
+    } else {
+        for l in lines.iter_mut().filter(|l| which(l)) {
+            l.first = 0;
+            l.second = if l.code == "RSK" { 0 } else { l.second };
+        }
+    }
+}
+
+/// The dividend credit of a block that has no risk above 0, or none but one, is of its requirement for credit.
+fn without_risks(random: &mut Random, lines: &mut Vec<Line>, block: u64) {
+    leave_out(random, lines, |l| l.code == "RSK" && l.block == block);
+    let dividend = lines.iter().find(|l| l.is("CRD", block, 1)).map_or(0, |l| l.first);
+    lines.retain(|l| !l.is("OTH", block, 2));
+    put(random, lines, Line { code: "OTH", block, class: 2, first: dividend, second: 0 });
+    if random.one_in(4) {
+        let class = random.from(1, EXPENSES);
+        lines.retain(|l| !l.is("RSK", block, class));
+        put(random, lines, Line { code: "RSK", block, class, first: 1, second: 0 });
+    }
 }
 
 /// The line's amounts rounded down to whole thousands of dollars, in the unit of the sheet.

@@ -1,4 +1,4 @@
-//! The calculator of document 01, with requests #101, #102 and #104 to #112 of document 02, in plain Rust with u128: no
+//! The calculator of document 01, with requests #101, #102 and #104 to #113 of document 02, in plain Rust with u128: no
 //! dependency, nothing clever, and no code shared with the calculator itself. It is a test oracle: what it answers is
 //! compared with what the calculator answers.
 //!
@@ -9,6 +9,7 @@
 
 mod big;
 mod block;
+mod check;
 mod convert;
 mod demand3;
 mod example;
@@ -21,10 +22,11 @@ mod shares;
 mod sheet;
 
 pub use block::block_call;
+pub use check::{check_call, judge_check, print_check, LISTING_LINE_BYTES, LONGEST_LISTING};
 pub use convert::{convert_call, convert_cases, ConvertCase, THOUSAND_DOLLARS};
 pub use demand3::{demand3, judge};
 pub use example::{
-    example, EXAMPLE_FIGURES, EXAMPLE_MOVEMENT, EXAMPLE_SHARES, IN_THOUSANDS, WHOLE_RUN, WHOLE_RUN_REPORT,
+    example, EXAMPLE_FIGURES, EXAMPLE_MOVEMENT, EXAMPLE_SHARES, IN_THOUSANDS, UNMET, WHOLE_RUN, WHOLE_RUN_REPORT,
 };
 pub use fluctuation::{fluctuation_call, fluctuation_cases, judge_fluctuation, FluctuationCase, FLUCTUATION_ROWS};
 pub use mortality::{aggregate, mortality_credit};

@@ -17,7 +17,7 @@ pub(crate) struct Sheet {
     /// #102: the credits of adjustable products.
     adjustable: [u64; ADJUSTABLE_PRODUCTS],
     /// The territories, current and prior as they were entered.
-    volumes: [u64; MOST_VOLUMES],
+    pub volumes: [u64; MOST_VOLUMES],
     /// #106: the acquired prior amounts, each class of a territory after the other.
     acquired: [u64; MOST_TERRITORIES * VOLUME_CLASSES],
     /// GEN classes 1 to 5 at 0 to 4.

@@ -1,7 +1,7 @@
 //! Generated sheets.
 
 use reference::generate::{
-    accepted, block_numbers, case, convert_case, fluctuation_numbers, movement_input, operational_numbers,
+    accepted, block_numbers, case, check_case, convert_case, fluctuation_numbers, movement_input, operational_numbers,
     shares_numbers,
 };
 use reference::*;
@@ -250,6 +250,84 @@ fn shares_of_every_kind() {
     println!("answers of 20,000 shares calls, 0 for accepted: {counts:?}; {kinds:?}");
     assert!(counts.keys().eq(&[0, 7, 8, 9, 23]) && counts.values().all(|&count| count >= 100), "{counts:?}");
     assert!(kinds.len() == 9 && kinds.values().all(|&count| count >= 20), "{kinds:?}");
+}
+
+/// #113: the checks reach every row that the call has; a refusal changes no byte, and an answer none past its length. Lines of every
+/// kind are listed and not listed, and every listing lists exactly the unmet needs.
+#[test]
+fn listings_of_every_kind() {
+    let (mut counts, mut kinds) = (BTreeMap::new(), BTreeMap::<(String, &str), u64>::new());
+    let mut longest = 0;
+    for index in 0..12_000 {
+        let (sheet, room) = check_case(5, index);
+        let mut listing = vec![b'#'; room];
+        let answer = check_call(&sheet, &mut listing);
+        let length = answer.unwrap_or(0);
+        assert!(listing[length..].iter().all(|&byte| byte == b'#'), "case {index}");
+        let number = answer.map_or_else(|refusal| refusal.number, |_| 0);
+        *counts.entry(number).or_insert(0) += 1;
+        if answer.is_err() {
+            continue;
+        }
+        assert_eq!(judge_check(&sheet, &listing[..length]), Ok(()), "case {index}");
+        longest = longest.max(length);
+        let text = String::from_utf8(listing[..length].to_vec()).unwrap();
+        let listed: BTreeSet<&str> = text.lines().map(|line| &line[..9]).collect();
+        // A listing that lacks a line, or has one twice, is found out.
+        if length > 0 {
+            assert!(judge_check(&sheet, &listing[LISTING_LINE_BYTES..length]).is_err(), "case {index}");
+            assert!(judge_check(&sheet, &[&listing[..length], &listing[..LISTING_LINE_BYTES]].concat()).is_err());
+        }
+        let lines: Vec<(&str, [u64; 4])> = sheet.chunks(LINE_BYTES).filter_map(line_of).collect();
+        for (code, [block, class, first, second]) in &lines {
+            let sort = match (*code, block, class) {
+                ("VOL", _, 5) => "VOL 5",
+                ("CRD", 0, _) => "CRD of no block",
+                ("MOR" | "ACQ" | "CRD", ..) => *code,
+                _ => continue,
+            };
+            let is_listed = listed.contains(format!("{code} {block:>2} {class:>2}").as_str());
+            let stands = |code: &str, class: Option<u64>| {
+                let is = |line: &&(&str, [u64; 4])| {
+                    line.0 == code && line.1[0] == *block && class.is_none_or(|c| c == line.1[1])
+                };
+                lines.iter().any(|line| is(&line))
+            };
+            let companion = match sort {
+                "VOL 5" => lines.iter().any(|line| line.0 == "GEN" && line.1[1] == 2),
+                "MOR" => stands("RSK", Some(1)),
+                "ACQ" => stands("VOL", Some(*class)),
+                _ => stands("RSK", None),
+            };
+            let kind = match (is_listed, companion, first + second) {
+                (true, false, _) => "listed, its companion absent",
+                (true, true, _) => "listed, its companion 0",
+                (false, _, 0) => "zeros",
+                _ => "met",
+            };
+            *kinds.entry((sort.to_string(), kind)).or_default() += 1;
+            *kinds.entry((sort.to_string(), "first amount 0 alone")).or_default() +=
+                u64::from(is_listed && *first == 0 && *second > 0);
+        }
+    }
+    println!("answers of 12,000 checks, 0 for accepted: {counts:?}; longest {longest}; {kinds:?}");
+    assert!(counts.keys().eq(&[0, 1, 2, 3, 4, 5, 6, 8, 9, 10, 11, 12, 13, 14, 16, 17, 19]), "{counts:?}");
+    assert!(counts.values().all(|&count| count >= 10) && counts[&0] > 3_000, "{counts:?}");
+    for sort in ["VOL 5", "MOR", "ACQ", "CRD"] {
+        for kind in ["listed, its companion absent", "listed, its companion 0", "zeros", "met"] {
+            assert!(
+                kinds.get(&(sort.to_string(), kind)).is_some_and(|&count| count >= 50),
+                "{sort}, {kind}: {kinds:?}"
+            );
+        }
+    }
+    for sort in ["VOL 5", "MOR"] {
+        assert!(kinds[&(sort.to_string(), "first amount 0 alone")] >= 50, "{sort}: {kinds:?}");
+    }
+    let free = |kind: &str| {
+        kinds.iter().any(|((sort, found), &count)| sort == "CRD of no block" && *found == kind && count > 0)
+    };
+    assert!(!free("listed, its companion absent") && !free("listed, its companion 0") && free("met"), "{kinds:?}");
 }
 
 /// The numbers of the other three calls reach every row that these can give, and 7 at positions of every size.

@@ -1211,3 +1211,115 @@ fn refusals_of_the_shares_call() {
     assert_eq!(shares(&[(4, 2), (8, 20), (9, 21), (10, 1)]), at(9, 9));
     assert_eq!(shares(&[(4, 2), (8, 20), (10, 1), (14, u64::MAX)]), at(7, 14));
 }
+
+/// #113: the listing of these lines and the scalar, a line for each, its words with one space between.
+fn listing(given: &[(&str, u64, u64, u64, u64)]) -> Result<Vec<String>, Refusal> {
+    let mut all = given.to_vec();
+    all.push(("GEN", 0, 4, 10_000, 0));
+    all.sort_by_key(|&(code, block, class, ..)| order(code, block, class));
+    let sheet = lines(&all);
+    let mut room = vec![b'#'; LONGEST_LISTING];
+    let length = check_call(&sheet, &mut room)?;
+    assert!(room[length..].iter().all(|&byte| byte == b'#'));
+    assert_eq!(judge_check(&sheet, &room[..length]), Ok(()));
+    let text = String::from_utf8(room[..length].to_vec()).unwrap();
+    Ok(text.lines().map(|line| line.split_whitespace().collect::<Vec<&str>>().join(" ")).collect())
+}
+
+/// #113: "VOL class 5 needs GEN 2; MOR needs RSK class 1 of its block; ACQ needs VOL of its block and class; CRD of a block needs an RSK
+/// line of it": each with its companion absent, with one of first amount 0, and met.
+#[test]
+fn what_a_line_needs() {
+    type Given<'a> = (&'a str, u64, u64, u64, u64);
+    let check = |line: Given, others: &[Given], companion: Given, listed: &str| {
+        let with = |more: &[Given]| listing(&[&[line], others, more].concat()).unwrap();
+        assert_eq!(with(&[]), [listed], "absent");
+        let (code, block, class, _, second) = companion;
+        assert_eq!(with(&[(code, block, class, 0, second)]), [listed], "first amount 0");
+        assert_eq!(with(&[companion]), [""; 0], "met");
+    };
+    check(("VOL", 3, 5, 7, 0), &[], ("GEN", 0, 2, 1, 0), "VOL 3 5 GEN 0 2");
+    check(("VOL", 3, 5, 0, 7), &[], ("GEN", 0, 2, 1, 0), "VOL 3 5 GEN 0 2");
+    check(("MOR", 16, 1, 7, 0), &[], ("RSK", 16, 1, 1, 0), "MOR 16 1 RSK 16 1");
+    check(("MOR", 16, 1, 0, 7), &[("RSK", 16, 2, 9, 0)], ("RSK", 16, 1, 1, 0), "MOR 16 1 RSK 16 1");
+    // The prior alone is no first amount.
+    check(("ACQ", 9, 8, 1, 0), &[("VOL", 9, 7, 4, 4), ("VOL", 8, 8, 4, 4)], ("VOL", 9, 8, 1, 5), "ACQ 9 8 VOL 9 8");
+    check(("CRD", 17, 1, 5, 0), &[("OTH", 17, 1, 5, 0)], ("RSK", 17, 7, 1, 0), "CRD 17 1 RSK 17 0");
+    check(
+        ("CRD", 32, 1, 5, 0),
+        &[("OTH", 32, 3, 5, 0), ("RSK", 32, 1, 0, 0)],
+        ("RSK", 32, 4, 1, 0),
+        "CRD 32 1 RSK 32 0",
+    );
+}
+
+/// #113: lines that need nothing: "amounts all zero", the other volume classes, the credits of no block, and all other codes.
+#[test]
+fn what_needs_nothing() {
+    let nothing = Ok(Vec::new());
+    assert_eq!(listing(&[]), nothing);
+    let zeros =
+        [("OTH", 17, 1, 0, 0), ("MOR", 1, 1, 0, 0), ("VOL", 1, 5, 0, 0), ("ACQ", 1, 5, 0, 0), ("CRD", 17, 1, 0, 0)];
+    assert_eq!(listing(&zeros), nothing);
+    let volumes: Vec<(&str, u64, u64, u64, u64)> = [1, 2, 3, 4, 6, 7, 8].map(|class| ("VOL", 1, class, 9, 9)).to_vec();
+    assert_eq!(listing(&volumes), nothing);
+    assert_eq!(listing(&[("OTH", 1, 2, 100, 0), ("CRD", 0, 1, 5, 0), ("CRD", 0, 16, 5, 0)]), nothing);
+    assert_eq!(listing(&[("RSK", 1, 2, 5, 5), ("OTH", 2, 1, 7, 0), ("GEN", 0, 1, 1, 0), ("GEN", 0, 3, 1, 0)]), nothing);
+}
+
+/// #113: the listing's bytes, in the sheet's order; of the sample, and the longest there is.
+#[test]
+fn the_listing() {
+    let expected = "MOR  1  1 RSK  1  1\nVOL  1  5 GEN  0  2\nACQ  1  2 VOL  1  2\nCRD 17  1 RSK 17  0\n";
+    assert_eq!(print_check(UNMET), expected.as_bytes());
+    assert_eq!(print_check(WHOLE_RUN), b"");
+    let all: Vec<(&str, u64, u64, u64, u64)> = all_lines(MOST_BLOCKS)
+        .into_iter()
+        .filter_map(|(code, block, class)| match (code, block, class) {
+            // With a prior of the class itself alone, ACQ of class 5 has no companion either.
+            ("VOL", _, 5) => Some((code, block, class, 0, 1)),
+            ("MOR", ..) | ("OTH", 17.., 1) => Some((code, block, class, 1, 0)),
+            ("ACQ", ..) | ("CRD", 17.., _) => Some((code, block, class, 1, 0)),
+            ("GEN", _, SCALAR) => Some((code, block, class, 1, 0)),
+            _ => None,
+        })
+        .collect();
+    let printed = print_check(&lines(&all));
+    assert_eq!((printed.len(), LONGEST_LISTING), (LONGEST_LISTING, 176 * 20));
+    let lines: Vec<&[u8]> = printed.chunks(LISTING_LINE_BYTES).collect();
+    assert_eq!(lines[0], b"MOR  1  1 RSK  1  1\n");
+    assert_eq!(lines[16], b"VOL  1  5 GEN  0  2\n");
+    assert_eq!(lines[32], b"ACQ  1  1 VOL  1  1\n");
+    assert_eq!(lines[175], b"CRD 32  1 RSK 32  0\n");
+}
+
+/// #113: "A refused sheet gets its refusal; 14, last, here means room shorter than the listing".
+#[test]
+fn refusals_of_the_check_call() {
+    let check = |sheet: &[u8], room: usize| {
+        let mut listing = vec![b'#'; room];
+        let answer = check_call(sheet, &mut listing);
+        assert!(listing[answer.unwrap_or(0)..].iter().all(|&byte| byte == b'#'));
+        answer
+    };
+    let none = Err(Refusal::nowhere(14));
+    assert_eq!((check(UNMET, 80), check(UNMET, 81)), (Ok(80), Ok(80)));
+    assert_eq!((check(UNMET, 79), check(UNMET, 0)), (none, none));
+    assert_eq!(check(WHOLE_RUN, 0), Ok(0));
+    // Each rule of the sheet comes before 14, with no room at all.
+    let need = ("VOL", 1, 5, 1, 1);
+    let scalar = ("GEN", 0, 4, 10_000, 0);
+    assert_eq!(check(&[0; LONGEST_SHEET + 1], 0), Err(Refusal::nowhere(1)));
+    assert_eq!(check(&[&lines(&[need, scalar])[..], b"x"].concat(), 0), Err(Refusal::nowhere(2)));
+    assert_eq!(check(&[b' '; 40], 0), Err(Refusal::at_line(3, 1)));
+    assert_eq!(check(&lines(&[need]), 0), Err(Refusal::nowhere(12)));
+    assert_eq!(check(&lines(&[("MOR", 1, 1, 1, 1), need, scalar]), 0), Err(Refusal::nowhere(16)));
+    assert_eq!(check(&lines(&[need, scalar, ("CRD", 17, 1, 0, 0)]), 0), Err(Refusal::nowhere(17)));
+    assert_eq!(check(&lines(&[need, scalar, ("GEN", 0, 5, 9, 0)]), 0), Err(Refusal::nowhere(13)));
+    assert_eq!(check(&lines(&[need, scalar, need]), 0), Err(Refusal::at_line(11, 3)));
+    assert_eq!(check(&lines(&[scalar, need]), 0), Err(Refusal::at_line(19, 2)));
+    assert_eq!(print_check(b""), b"REF 12  0                  0\n");
+    assert_eq!(print_check(&lines(&[scalar, need])), b"REF 19  0                  2\n");
+    // A sheet in thousands of dollars is none.
+    assert_eq!(check(IN_THOUSANDS, 0), Err(Refusal::at_line(4, 1)));
+}

@@ -6,7 +6,8 @@ use borrow.Author.Needs.{needs}
 use Rattle.order.specs.Places.{table}
 use Rattle.judgement.specs.Judgement.{judgement, findings, stated}
 use Rattle.judgement.specs.declared.Verdict.{Verdict}
-use Rattle.aggregate.proofs.Rules.{turned, few, too-short, reported}
+use Rattle.judged_text.proofs.Judged.{turned}
+use Rattle.aggregate.proofs.Rules.{few, too-short, reported}
 use Rattle.aggregate.proofs.Accuracy.{promised}
 use Rattle.aggregate.proofs.sheet_call.Statement.{statement}
 use Rattle.aggregate.proofs.sheet_call.Tie as tie
@@ -23,7 +24,7 @@ tells : (c : tie.After-judge) (a : Verdict) → c .judge .result ≡ a → state
 tells c a e = sym (ap (λ (r : Verdict). stated r (rows c)) e) ∙ c .judge .ensures .0
 
 returns-2 : tie.Need-returns-2
-returns-2 c = promised _ _ _ (turned _ _ _ _ (tells (c .before .before .before) _ (c .before .verdict .given .1)))
+returns-2 c = promised _ _ _ (turned _ _ _ _ _ (tells (c .before .before .before) _ (c .before .verdict .given .1)))
 
 length-for-requires : tie.Need-length-for-requires
 length-for-requires c κs = let m = c .before in few _ [] _ (rows (m .before .before)) _ _ _ (tells (m .before .before) _ (m .verdict2 .given .1))

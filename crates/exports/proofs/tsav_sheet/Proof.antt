@@ -4,7 +4,7 @@ use Prim.Native.Nat.{ℕ}
 use borrow.Author.Needs.{needs}
 use Rattle.refusal.specs.Outcome.{Outcome}
 use Rattle.aggregate.specs.Demand.{Demand3}
-use Rattle.aggregate.proofs.Rules.{never-0}
+use Rattle.judged_text.proofs.Judged.{never-0}
 use Rattle.exports.proofs.Answered.{no-zero, told}
 use Rattle.exports.proofs.tsav_sheet.Statement.{statement}
 use Rattle.exports.proofs.tsav_sheet.Tie as tie
@@ -14,7 +14,7 @@ abbrev Meets : List ℕ → List ℕ → Outcome → Type 0
 Meets s report o = Demand3 s o report
 
 tell-requires : tie.Need-tell-requires
-tell-requires c κs = no-zero (c .before .before .before .before .sheet-call .ensures .0) (never-0 _ _)
+tell-requires c κs = no-zero (c .before .before .before .before .sheet-call .ensures .0) (never-0 _ _ _)
 
 returns : tie.Need-returns
 returns c =

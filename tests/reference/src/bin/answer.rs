@@ -1,5 +1,5 @@
 //! Reads an input from standard input and writes what a program is to print of it, by the independent calculation: `answer
-//! [PROGRAM]`, tsav-sheet where none is named, or tsav-movement.
+//! [PROGRAM]`, tsav-sheet where none is named, or tsav-movement or tsav-check.
 
 use reference::*;
 use std::error::Error;
@@ -11,6 +11,7 @@ fn main() -> Result<(), Box<dyn Error>> {
     let text = match std::env::args().nth(1).as_deref() {
         None | Some("tsav-sheet") => print_sheet(&input),
         Some("tsav-movement") => print_movements(&input),
+        Some("tsav-check") => print_check(&input),
         Some(other) => return Err(format!("there is no program {other}").into()),
     };
     Ok(io::stdout().write_all(&text)?)

@@ -25,6 +25,7 @@ fn main() -> Result<(), Box<dyn Error>> {
     };
     let draw: fn(u64, u64) -> Drawn = match program.as_str() {
         "tsav-movement" => movements,
+        "tsav-check" => listings,
         _ => return Err(format!("no inputs are drawn for {program}").into()),
     };
     let (seed, count): (u64, u64) = (seed.parse()?, count.parse()?);
@@ -54,4 +55,15 @@ fn movements(seed: u64, index: u64) -> Drawn {
         }
     };
     (input, answer)
+}
+
+/// #113: each listing is judged.
+fn listings(seed: u64, index: u64) -> Drawn {
+    let (sheet, _) = generate::check_case(seed, index);
+    let printed = print_check(&sheet);
+    let answer = match check_call(&sheet, &mut [0; LONGEST_LISTING]) {
+        Err(_) => Ok(Answer { printed, refused: true, judged: 0 }),
+        Ok(_) => judge_check(&sheet, &printed).map(|()| Answer { printed, refused: false, judged: 1 }),
+    };
+    (sheet, answer)
 }
