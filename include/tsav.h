@@ -21,6 +21,7 @@
      TSAV_LINE       the line of the sheet, counted from 1
      TSAV_POSITION   the position in the call's numbers, counted from 0
      TSAV_RISK       the risk, 1 to 7; of 22, which none of these calls gives
+     TSAV_SHEET      the sheet, counted from 1; of 24 and 25, which none of these calls gives
 
    The refusals:
 
@@ -49,7 +50,9 @@
      20  line                converting from cents, an amount isn't whole thousands of dollars, a multiple of 100,000 cents
      21  line                converting from thousands, an amount is above 999,999,999: in cents it has more than 14 digits
      22  risk                the program tsav-movement: raised, the component of the risk is above TSAV_LARGEST_AMOUNT
-     23  nowhere             shares: a part's margin is negative, or the margins are all zero */
+     23  nowhere             shares: a part's margin is negative, or the margins are all zero
+     24  sheet               the program tsav-quarter: there are more than 60 sheets
+     25  sheet               the program tsav-quarter: the last sheet isn't closed */
 
 #ifndef TSAV_H
 #define TSAV_H
@@ -101,6 +104,7 @@ extern "C" {
 #define TSAV_LINE 1
 #define TSAV_POSITION 2
 #define TSAV_RISK 3
+#define TSAV_SHEET 4
 
 /* TSAV_VERSION, as the library was built. */
 uint64_t tsav_version(void);

@@ -241,7 +241,7 @@ class Calls(unittest.TestCase):
         self.assertEqual(str(tsav.Refused(12)), "refusal 12")
 
     def test_a_broken_contract(self):
-        for place in ((tsav.RISK, 1), (0, 1), (2**64 - 1, 0)):
+        for place in ((tsav.RISK, 1), (tsav.SHEET, 1), (5, 0), (0, 1), (2**64 - 1, 0)):
             with self.assertRaises(tsav.ContractBroken):
                 tsav._answered(7, place)
 

@@ -48,11 +48,13 @@ LONGEST_REPORT = REPORT_LINE * (BLOCK_LINES * MOST_BLOCKS + 3)
 LISTING_LINE = 20
 LONGEST_LISTING = 176 * LISTING_LINE
 
-# The kinds of a place. No call gives a risk, which refusal 22 of the program tsav-movement has.
+# The kinds of a place. No call gives a risk, which refusal 22 of the program tsav-movement has, or a sheet, which 24 and 25 of
+# tsav-quarter have.
 NOWHERE = 0
 LINE = 1
 POSITION = 2
 RISK = 3
+SHEET = 4
 
 
 class Figures(NamedTuple):

@@ -10,9 +10,11 @@ use crate::{
 pub(crate) const NOWHERE: u64 = 0;
 pub(crate) const LINE: u64 = 1;
 pub(crate) const POSITION: u64 = 2;
-/// Of 22, which no call gives.
+/// Of 22, and of 24 and 25, which no call gives.
 #[cfg(test)]
 pub(crate) const RISK: u64 = 3;
+#[cfg(test)]
+pub(crate) const SHEET: u64 = 4;
 
 /// Where the block call has level and trend of expenses, the last of the seven pairs.
 const EXPENSES_LT: usize = 13;
@@ -177,17 +179,17 @@ mod tests {
         }
     }
 
-    /// Of every number with every kind of place, those that the header lists under the call are refusals; none is at a risk.
+    /// Of every number with every kind of place, those that the header lists under the call are refusals; none is at a risk or a sheet.
     #[test]
     fn each_call_has_its_refusals() {
-        // Of each call: nowhere, at a line, at a position, at a risk.
-        let listed: [[&[u64]; 4]; 6] = [
-            [&[], &[], &[7, 8, 9], &[]],   // block
-            [&[23], &[], &[7, 8, 9], &[]], // shares
-            [&[15], &[], &[7], &[]],       // operational
-            [&[18], &[], &[7], &[]],       // fluctuation
-            [&[1, 2, 12, 13, 14, 16, 17], &[3, 4, 5, 6, 8, 9, 10, 11, 19], &[], &[]],
-            [&[1, 2, 14], &[3, 4, 5, 6, 8, 9, 10, 11, 19, 20, 21], &[], &[]],
+        // Of each call: nowhere, at a line, at a position, at a risk, at a sheet.
+        let listed: [[&[u64]; 5]; 6] = [
+            [&[], &[], &[7, 8, 9], &[], &[]],   // block
+            [&[23], &[], &[7, 8, 9], &[], &[]], // shares
+            [&[15], &[], &[7], &[], &[]],       // operational
+            [&[18], &[], &[7], &[], &[]],       // fluctuation
+            [&[1, 2, 12, 13, 14, 16, 17], &[3, 4, 5, 6, 8, 9, 10, 11, 19], &[], &[], &[]],
+            [&[1, 2, 14], &[3, 4, 5, 6, 8, 9, 10, 11, 19, 20, 21], &[], &[], &[]],
         ];
         for ((name, call), listed) in CALLS.into_iter().zip(listed) {
             for (kind, numbers) in (NOWHERE..).zip(listed) {
@@ -224,8 +226,8 @@ mod tests {
     #[test]
     fn numbers_that_no_refusal_has() {
         // 263 is 7 in its lowest byte.
-        for number in [22, 24, 255, 256, 263, u64::MAX] {
-            for place in [[NOWHERE, 0], [LINE, 1], [POSITION, 0], [RISK, 1]] {
+        for number in [22, 24, 25, 26, 255, 256, 263, u64::MAX] {
+            for place in [[NOWHERE, 0], [LINE, 1], [POSITION, 0], [RISK, 1], [SHEET, 1]] {
                 for (name, call) in CALLS {
                     assert_eq!(call(number, place), broken(number, place), "{name}");
                 }
@@ -235,7 +237,7 @@ mod tests {
 
     #[test]
     fn places_that_no_refusal_has() {
-        for kind in [RISK, 258, u64::MAX] {
+        for kind in [RISK, SHEET, 5, 258, u64::MAX] {
             assert_eq!(block(7, [kind, 0]), broken(7, [kind, 0]));
             assert_eq!(shares(23, [kind, 0]), broken(23, [kind, 0]));
             assert_eq!(operational(15, [kind, 0], VOLUMES), broken(15, [kind, 0]));

@@ -10,7 +10,7 @@ pub enum Error {
     Contract(Breach),
 }
 
-/// Why and where a call was refused: numbers 1 to 23, as include/tsav.h lists them, of which no call gives 22.
+/// Why and where a call was refused: numbers 1 to 25, as include/tsav.h lists them, of which no call gives 22, 24 and 25.
 #[derive(Clone, Copy, Debug, PartialEq, Eq)]
 pub struct Refusal {
     pub number: u8,

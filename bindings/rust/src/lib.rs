@@ -59,8 +59,9 @@ pub const fn report_length(blocks: usize) -> usize {
     REPORT_LINE * (BLOCK_LINES * blocks + 3)
 }
 
-/// The refusals are numbered from 1 to this. 22 is of the program tsav-movement, and no call gives it.
-pub const LAST_REFUSAL: usize = 23;
+/// The refusals are numbered from 1 to this. 22 is of the program tsav-movement, 24 and 25 are of tsav-quarter, and no call gives
+/// them.
+pub const LAST_REFUSAL: usize = 25;
 
 /// A block's figures: I and D in half cents, U, LT and K in cents; and the steps that the roots of I and of D take, at most
 /// 58 each. The roots are of hundredths of the half cent, and so is the D that K is taken at.

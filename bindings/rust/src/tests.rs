@@ -1,5 +1,5 @@
 use super::*;
-use contract::{LINE, NOWHERE, POSITION, RISK};
+use contract::{LINE, NOWHERE, POSITION, RISK, SHEET};
 use reference::{
     all_lines, convert_cases, example, fluctuation_cases, report_line, sheet_line, EXAMPLE_FIGURES, EXAMPLE_SHARES,
     IN_THOUSANDS, UNMET, WHOLE_RUN, WHOLE_RUN_REPORT,
@@ -316,6 +316,7 @@ fn the_headers_numbers() {
         ("LINE", LINE),
         ("POSITION", POSITION),
         ("RISK", RISK),
+        ("SHEET", SHEET),
     ];
     assert_eq!(defined, ours.map(|(name, number)| (name, number.to_string())));
     // SAFETY: nothing is lent.

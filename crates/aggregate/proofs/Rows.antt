@@ -13,7 +13,7 @@ use Rattle.search.specs.Ascending.{ascending}
 use Rattle.guideline.specs.Sizes.{blocks, blockFigures, rowNumbers}
 use Rattle.guideline.specs.Block.{figuresOf}
 use Rattle.guideline.specs.Buffer.{count}
-use Rattle.report_line.specs.Line.{reportLineBytes, Row, printRows}
+use Rattle.report_line.specs.Line.{reportLineBytes, Row, rowsIn, printRows}
 use Rattle.report_line.proofs.ReadBack.{rows-append}
 use Rattle.sheet_line.specs.declared.Entry.{Entry}
 use Rattle.order.specs.Entries.{exists}
@@ -63,7 +63,7 @@ module _ (exists : ℕ → Bool) (x : ℕ → List ℕ) (f : ℕ → List ℕ) (
 
   -- one block more, or none
   gathered : (n : ℕ) → Gathered (numbers n) (rows n) (lines n)
-  unfolding ascending tableRows printRows pick
+  unfolding ascending tableRows rowsIn pick
   gathered zero = record { long = refl; same = refl; bytes = refl }
   gathered (suc n) = go (gathered n) (exists (suc n))
     where

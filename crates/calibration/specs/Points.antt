@@ -7,10 +7,8 @@ use mathlib.Core.List.{List, [], _∷_}
 use Prim.Native.Nat.{ℕ, suc, _-_}
 use lib.Dec.{eqb}
 use lib.ListN.{getD}
-use Rattle.refusal.specs.Outcome.{Outcome}
+use Rattle.refusal.specs.Outcome.{Outcome, placeOf}
 use Rattle.refusal.specs.Outcome.Outcome.{accepted, refused}
-use Rattle.refusal.specs.declared.Place.{Place}
-use Rattle.refusal.specs.declared.Place.the-variants.{Line, Position, Risk, Nowhere}
 use Rattle.mortality.specs.Credit.{aggregated, credit}
 use Rattle.block.specs.Call.{blockCall}
 use Rattle.operational.specs.Call.{operationalCall}
@@ -65,17 +63,10 @@ result n = record { place = 0; figure = n }
 abbrev share : ℕ → ℕ → Figure
 share p n = record { place = p - 1; figure = n }
 
--- a place in two figures: 0, 0 for none, else its kind and where it is
-abbrev placed : Place → List ℕ
-placed Nowhere = 0 ∷ 0 ∷ []
-placed (Line i) = 1 ∷ i ∷ []
-placed (Position i) = 2 ∷ i ∷ []
-placed (Risk i) = 3 ∷ i ∷ []
-
 -- a refusal's figures, its number and its place; none where the call accepts
 abbrev turned : Outcome → Outcome
 turned (accepted vs) = accepted []
-turned (refused n p) = accepted (n ∷ placed p)
+turned (refused n p) = accepted (n ∷ placeOf p)
 
 -- refused by number n 'with no place'
 abbrev withNoPlace : ℕ → List Figure

@@ -59,6 +59,10 @@ fn refused(n: u8, p: Place) {
             say(b" risk");
             number(cast::word(at));
         }
+        Place::Sheet(at) => {
+            say(b" sheet");
+            number(cast::word(at));
+        }
         Place::Nowhere => {}
     }
     say(b"\n");

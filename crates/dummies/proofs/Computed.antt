@@ -11,7 +11,7 @@ use Rattle.guideline.specs.Block.{A, U, LT, Vh, y, ys, Q4, largestOf, largest, 
 use Rattle.guideline.specs.Operational.{total, volume, growth, operationalNumerator, RO}
 use Rattle.guideline.specs.Buffer.{sumK, available, bracket, buffer}
 use Rattle.mortality.specs.Credit.{twiceRadicand, aggregated, credit, lowered}
-use Rattle.report_line.specs.Line.{key, reportLine, printRows, equalBytes, numberIn, numberAt}
+use Rattle.report_line.specs.Line.{key, lineIn, rowsIn, equalBytes, foundIn, foundAt}
 use Rattle.codes.specs.Codes.{isCode, codeAmong}
 use Rattle.layout.specs.Columns.{spaced, layoutOf, lettered}
 use Rattle.sheet_line.specs.Rules as line
@@ -33,8 +33,8 @@ use Rattle.dummies.specs.Answers.{answers, given, claimed}
 pub computed : given answers ≡ claimed answers
 unfolding
     pick leastFrom ascending digits field digitOrSpace leadingDigits decimal factors sumℤ A U LT Vh y ys Q4 largestOf largest root fineI a fineD reported I D
-    requirement K figuresOf total volume growth operationalNumerator RO sumK available bracket buffer key reportLine
-    printRows equalBytes numberIn numberAt isCode codeAmong spaced layoutOf lettered line.outside line.secondBarred line.trendAbove line.scalarOutside
+    requirement K figuresOf total volume growth operationalNumerator RO sumK available bracket buffer key lineIn
+    rowsIn equalBytes foundIn foundAt isCode codeAmong spaced layoutOf lettered line.outside line.secondBarred line.trendAbove line.scalarOutside
     line.rule10 line.rule9 line.rule8 line.rule6 line.rule5 line.parseLine hasKey lookup exists pairs blockBy volumesBy keyOf rule19 rule11 onLine readFrom
     itemsFrom twiceRadicand aggregated credit lowered creditOf afterCredit blocksTo sheetOf anyTo creditAbove sumTo dividendBarred rule13
     rule17 rule16 rule12 ruleLines layoutFirst rule2 measured judgement blockRowsOf lent textOf judgedCall areBytes

@@ -22,7 +22,7 @@ use Rattle.guideline.specs.Block.{AcceptedBlock, K, figuresOf}
 use Rattle.guideline.specs.Buffer.{Sheet, count, buffer, CreditsWithin, AcceptedSheet}
 use Rattle.guideline.proofs.Figures.{figures-fit, figures-long}
 use Rattle.guideline.proofs.Totals.{totals-fit}
-use Rattle.report_line.specs.Line.{Row, printRows, equalBytes, numberIn, numberAt}
+use Rattle.report_line.specs.Line.{Row, printRows, equalBytes, foundIn, foundAt, numberAt}
 use Rattle.report_line.proofs.ReadBack.{rowIs, numberAmong, rows-read}
 use Rattle.sheet_line.specs.declared.Entry.{Entry}
 use Rattle.order.specs.Entries.{exists}
@@ -89,7 +89,7 @@ Reads x d = (vs : List ℕ) → d .outcome ≡ accepted vs → numberAt (d .room
 
 -- of a refusal nothing is read
 pub none-read : (n : ℕ) (p : Place) (r : List ℕ) → SameK (untouched n p r)
-unfolding SameK numberAt numberIn
+unfolding SameK foundAt foundIn
 none-read n p r k₁ k₂ e f = never (cc)
 
 pub none-accepted : (x n : ℕ) (p : Place) (r : List ℕ) → Reads x (untouched n p r)
@@ -122,7 +122,7 @@ module _ (es : List Entry) (v : AcceptedSheet (sheetOf es)) (h : CreditsWithin (
 
   -- so that is what is read, if anything
   k-read : (b k : ℕ) → b < 100 → numberAt (filledReport es) BLK b 5 ≡ Value k → k ≡ K (getD (sheetOf es .blocks) 0 [])
-  unfolding numberAt numberIn
+  unfolding foundAt foundIn
   k-read b k l e =
       let p = all-printable (exists es) (λ b. firstFigures es) _ _ _ [] (λ b l k t. five) totals in
       let c = rows-read (filledRows es) (row BLK b 5 0) [] p (record { code = refl; block = l; item = omega arith; number = omega arith }) in

@@ -2,24 +2,16 @@
 -- accepted gives 0 and writes its values; a refused one gives its number, which is never 0, and writes its place; nothing else is written.
 -- Assumes nothing.
 use mathlib.Core.Path.{_≡_}
-use mathlib.Core.List.{List, [], _∷_}
+use mathlib.Core.List.{List}
 use Prim.Native.Nat.{ℕ}
-use Rattle.refusal.specs.Outcome.{Outcome}
+use Rattle.refusal.specs.Outcome.{Outcome, placeOf}
 use Rattle.refusal.specs.Outcome.Outcome.{accepted, refused}
 use Rattle.refusal.specs.declared.Place.{Place}
-use Rattle.refusal.specs.declared.Place.the-variants.{Line, Position, Risk, Nowhere}
 
 -- the number given: 0, or the refusal's
 abbrev pub numberOf : Outcome → ℕ
 numberOf (accepted vs) = 0
 numberOf (refused n p) = n
-
--- a place as its kind and its line, position or risk; 'printed, no place is 0'
-abbrev pub placeOf : Place → List ℕ
-placeOf Nowhere = 0 ∷ 0 ∷ []
-placeOf (Line i) = 1 ∷ i ∷ []
-placeOf (Position i) = 2 ∷ i ∷ []
-placeOf (Risk i) = 3 ∷ i ∷ []
 
 -- the lent place afterwards
 abbrev pub placeAfter : Outcome → List ℕ → List ℕ

@@ -2,6 +2,7 @@
 // 0 and leaves the lent place as it was; a refused one gives its number and leaves all but the place as it was. Beside them the version of
 // these calls, for a caller to compare before it lends anything.
 ghost use mathlib.Core.Path.{_≡_};
+ghost use Rattle.refusal.specs.Outcome.{placeOf};
 ghost use Rattle.refusal.specs.Outcome.Outcome.{accepted};
 ghost use Rattle.block.specs.Call.{blockCall};
 ghost use Rattle.block.specs.Accepted.{BlockDemand3, FewSteps};
@@ -15,7 +16,7 @@ ghost use Rattle.aggregate.specs.Demand.{Demand3};
 ghost use Rattle.convert.specs.Call.{convertCall, ConvertsBack};
 ghost use Rattle.sheet_check.specs.Call.{checkCall, ListsExactly};
 ghost use Rattle.printing.specs.Lent.{stated};
-ghost use Rattle.exports.specs.Left.{placeOf, Never0, Leaves};
+ghost use Rattle.exports.specs.Left.{Never0, Leaves};
 ghost use Rattle.exports.specs.Version.{interfaceVersion};
 use block::BlockAnswer;
 use fluctuation::FluctuationAnswer;
@@ -31,7 +32,7 @@ use shares::SharesAnswer;
 // Given by a call that is accepted. No refusal has this number.
 const ACCEPTED: u64 = 0;
 
-// The kind of a place: nowhere, a line, a position, a risk.
+// The kind of a place: nowhere, a line, a position, a risk, a sheet.
 const NOWHERE: u64 = 0;
 
 // A line of the sheet.
@@ -40,8 +41,11 @@ const LINE: u64 = 1;
 // A position in the call's numbers.
 const POSITION: u64 = 2;
 
-// A risk, 1 to 7.
+// A risk of a block.
 const RISK: u64 = 3;
+
+// A sheet of several.
+const SHEET: u64 = 4;
 
 // What the block call gives: the figures, and the steps of its two roots.
 const BLOCK_VALUES: usize = BLOCK_FIGURES + 2;
@@ -224,7 +228,7 @@ fn refuse(number: u8, at: Place, place: &mut [u64; 2]) -> u64
     cast::byte(number)
 }
 
-// The kind of a place, and its line, position or risk.
+// The kind of a place, and its line, position, risk or sheet.
 fn place_numbers(at: Place) -> [u64; 2]
     ensures { λ r. ⌜ r ≡ placeOf at ⌝ }
 {
@@ -233,5 +237,6 @@ fn place_numbers(at: Place) -> [u64; 2]
         Place::Line(line) => [LINE, cast::word(line)],
         Place::Position(position) => [POSITION, cast::word(position)],
         Place::Risk(risk) => [RISK, cast::word(risk)],
+        Place::Sheet(sheet) => [SHEET, cast::word(sheet)],
     }
 }

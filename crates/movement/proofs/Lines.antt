@@ -22,7 +22,7 @@ use Rattle.field.specs.Field.{leadingDigits, decimal}
 use Rattle.field.specs.Signed.{signed}
 use Rattle.field.proofs.Minus.{length-signed}
 use Rattle.field.proofs.Writing.{length-decimal}
-use Rattle.report_line.specs.Line.{reportLineBytes, key, reportLine}
+use Rattle.report_line.specs.Line.{reportLineBytes, key, lineIn, reportLine}
 use Rattle.report_line.proofs.ReadBack.{length-line}
 use Rattle.printing.specs.Printing.{REF, refusalLine}
 use Rattle.movement.specs.Call.{MOV, signedLine, movement, riskLine, riskLines, Unmoved}
@@ -33,7 +33,7 @@ use Rattle.movement.specs.Call.{MOV, signedLine, movement, riskLine, ris
 pub signed-in :
     (l : List ℕ) (risk : ℕ) (z : ℤ) {ys : List ℕ} → l ≡ reportLine MOV 0 risk 0 → ys ≡ signed (length (take numberColumns (drop 10 l))) z →
     putMid 10 numberColumns l ys ≡ signedLine MOV 0 risk z
-unfolding reportLine signedLine key decimal leadingDigits
+unfolding lineIn signedLine key decimal leadingDigits
 signed-in l risk z e q =
     let n : length (take numberColumns (drop 10 l)) ≡ numberColumns = rw e in
     rw (q, n, e)

@@ -17,7 +17,7 @@ use Rattle.guideline.specs.Block.{ir, K, AcceptedBlock}
 use Rattle.sensitivity.specs.Movement.{raised}
 use Rattle.block.specs.Call.{blockCall}
 use Rattle.field.specs.Signed.{signed}
-use Rattle.report_line.specs.Line.{key, reportLine}
+use Rattle.report_line.specs.Line.{key, lineIn, reportLine}
 use Rattle.printing.specs.Lent.{Text, Done, lent}
 use Rattle.printing.specs.Lent.Text.{noText, bytes}
 use Rattle.printing.specs.Printing.{refusalLine}
@@ -35,7 +35,7 @@ signedLine code block item number = key code block item ++ (32 ∷ []) ++ signed
 
 -- where it isn't, that is a report line as any other
 pub signed-line : (code : List ℕ) (block item n : ℕ) → signedLine code block item (pos n) ≡ reportLine code block item n
-unfolding signedLine signed reportLine
+unfolding signedLine signed lineIn
 signed-line code block item n = refl
 
 -- how far the reported K of a block b moves as IR(i) is raised by t

@@ -18,6 +18,7 @@ use Rattle.codes.specs.declared.Code.{Code}
 use Rattle.codes.specs.declared.Code.the-variants.{Rsk, Oth, Mor, Vol, Acq, Gen, Crd}
 use Rattle.codes.specs.declared.Coded.the-variants.{Known}
 use Rattle.report_line.specs.Line.{Row}
+use Rattle.guideline.specs.Sizes.{numberColumns}
 use Rattle.report_line.proofs.ReadBack.{Printable, key-parts}
 use Rattle.sheet_line.specs.Rules.{AcceptedLine}
 use Rattle.sheet_line.specs.declared.Entry.{Entry}
@@ -59,8 +60,8 @@ fits e a = let w = key-small (e .code) (e .block) (e .class) (a .key) in record 
 label-tells : (d e : Entry) → AcceptedLine d → AcceptedLine e → labelOf (labelFor d) ≡ labelOf (labelFor e) → SameKey (d .code) (d .block) (d .class) e
 unfolding labelOf rowFor
 label-tells d e a b q =
-    let x = key-parts (rowFor d) (fits d a) in
-    let y = key-parts (rowFor e) (fits e b) in
+    let x = key-parts numberColumns (omega arith) (rowFor d) (fits d a) in
+    let y = key-parts numberColumns (omega arith) (rowFor e) (fits e b) in
     let l : lettersOf (d .code) ≡ lettersOf (e .code) = cc (x .0, y .0, q) in
     record { code = cc (coded (d .code), coded (e .code), l); block = cc (x .1, y .1, q); class = cc (x .2, y .2, q) }
 

@@ -38,13 +38,14 @@ pub fn write_refusal(out: &mut [u8], number: u8, place: Place)
 }
 
 // What is printed of a place.
-fn place_number(place: Place) -> u64
+pub fn place_number(place: Place) -> u64
     ensures { λ r. ⌜ r ≡ printed place ⌝ }
 {
     match place {
         Place::Line(n) => cast::word(n),
         Place::Position(n) => cast::word(n),
         Place::Risk(n) => cast::word(n),
+        Place::Sheet(n) => cast::word(n),
         Place::Nowhere => 0,
     }
 }

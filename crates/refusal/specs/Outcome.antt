@@ -3,13 +3,13 @@
 -- definition turns each case into one of these. Assumes nothing.
 use mathlib.Core.Path.{_≡_}
 use mathlib.Core.Bool.{true, false}
-use mathlib.Core.List.{List}
+use mathlib.Core.List.{List, [], _∷_}
 use Prim.Native.Nat.{ℕ, _<_}
 use native.Mathlib.Omega.{arith}
 use lib.Dec.{eqb, ltb}
 use borrow.Author.Tests.{eqb-false, ltb-true}
 use Rattle.refusal.specs.declared.Place.{Place}
-use Rattle.refusal.specs.declared.Place.the-variants.{Line, Position, Risk, Nowhere}
+use Rattle.refusal.specs.declared.Place.the-variants.{Line, Position, Risk, Sheet, Nowhere}
 
 -- accepted with its values, or refused by number and place
 pub data Outcome : Type 0 where
@@ -23,7 +23,16 @@ abbrev pub printed : Place → ℕ
 printed (Line n) = n
 printed (Position n) = n
 printed (Risk n) = n
+printed (Sheet n) = n
 printed Nowhere = 0
+
+-- a place as its kind and its line, position, risk or sheet; 'printed, no place is 0'
+abbrev pub placeOf : Place → List ℕ
+placeOf Nowhere = 0 ∷ 0 ∷ []
+placeOf (Line i) = 1 ∷ i ∷ []
+placeOf (Position i) = 2 ∷ i ∷ []
+placeOf (Risk i) = 3 ∷ i ∷ []
+placeOf (Sheet i) = 4 ∷ i ∷ []
 
 -- a number that judging a sheet refuses by: never 0, which an exported call gives where it accepts, never 14, which speaks of the lent
 -- room and not of the sheet, and none that passes the two columns of a REF line

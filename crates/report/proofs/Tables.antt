@@ -10,7 +10,7 @@ use lib.ListN.{length, getD, take, drop, length-append, length-drop}
 use lib.Seq.{length-take-le}
 use Rattle.search.proofs.Stretches.{Wrote, nothing, part}
 use Rattle.guideline.specs.Sizes.{blockFigures, rowNumbers}
-use Rattle.report_line.specs.Line.{reportLineBytes, printRows}
+use Rattle.report_line.specs.Line.{reportLineBytes, rowsIn, printRows}
 use Rattle.report_line.proofs.ReadBack.{rows-append}
 use Rattle.report.specs.Rows.{BLK, TOT, itemsFrom, tableRows, totalRows, reportBytes, reportLength, totals}
 use Rattle.report.proofs.Items.{items-long}
@@ -26,7 +26,7 @@ abbrev pub Rows : List ℕ → ℕ → List ℕ → List ℕ → Type 0
 Rows t i l₀ l = Wrote l₀ (blockBytes * i) (printRows (tableRows t i)) l
 
 pub no-row : (t l : List ℕ) → Rows t 0 l l
-unfolding tableRows printRows
+unfolding tableRows rowsIn
 no-row t l = nothing l
 
 -- a stretch for a block's lines, and the figures of a row, as the code lends them

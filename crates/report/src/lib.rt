@@ -1,10 +1,10 @@
 // A report, each line written into its own stretch of a lent slice.
 ghost use mathlib.Core.Path.{_≡_};
 ghost use mathlib.Core.List.{_++_};
-ghost use Prim.Native.Nat.{_*_, _≤_};
+ghost use Prim.Native.Nat.{_-_, _*_, _≤_, _<_};
 ghost use lib.ListN.{length, drop};
 ghost use Rattle.guideline.specs.Sizes.{blocks, blockFigures, rowNumbers};
-ghost use Rattle.report_line.specs.Line.{reportLineBytes, printRows};
+ghost use Rattle.report_line.specs.Line.{lineBytes, reportLineBytes, rowsIn, printRows};
 ghost use Rattle.report.specs.Rows.{itemsFrom, tableRows, reportBytes, reportLength};
 use guideline::BLOCK_FIGURES;
 use guideline::BLOCKS;
@@ -46,6 +46,7 @@ pub fn write_report(
     let totals = [sum, ro, buffer];
     write_items(
         &mut report[at..at + REPORT_LINE_BYTES * TOTALS],
+        REPORT_LINE_BYTES,
         *b"TOT",
         0,
         &totals,
@@ -63,6 +64,7 @@ fn write_blocks(rows: &[u64], count: usize, report: &mut [u8])
         let from = ROW_NUMBERS * i;
         write_items(
             &mut report[at..at + BLOCK_BYTES],
+            REPORT_LINE_BYTES,
             *b"BLK",
             rows[from],
             &rows[from + 1..from + ROW_NUMBERS],
@@ -71,22 +73,18 @@ fn write_blocks(rows: &[u64], count: usize, report: &mut [u8])
     }
 }
 
-// Lines of one code and block, items 1 and up, each into its own stretch.
-fn write_items(out: &mut [u8], code: [u8; 3], block: u64, numbers: &[u64])
-    requires { ⌜ length (now out) ≡ reportLineBytes * length (now numbers) ⌝ }
-    ensures { λ _. ⌜ now (out .exit) ≡ printRows (itemsFrom 1 code block (now (numbers .entry))) ⌝ }
+// Lines of one code and block, items 1 and up, each into its own stretch of so many bytes.
+pub fn write_items(out: &mut [u8], line: usize, code: [u8; 3], block: u64, numbers: &[u64])
+    requires { ⌜ (lineBytes 0 < line) × (length (now out) ≡ line * length (now numbers)) ⌝ }
+    ensures { λ _. ⌜ now (out .exit) ≡ rowsIn (line - lineBytes 0) (itemsFrom 1 code block (now (numbers .entry))) ⌝ }
 {
+    let mut at = 0;
     let mut k = 0;
     while k < numbers.len() {
-        let at = REPORT_LINE_BYTES * k;
+        let next = at + line;
         let item = cast::word(k + 1);
-        report_line::write_line(
-            &mut out[at..at + REPORT_LINE_BYTES],
-            code,
-            block,
-            item,
-            numbers[k],
-        );
+        report_line::write_line_in(&mut out[at..next], code, block, item, numbers[k]);
+        at = next;
         k += 1;
     }
 }

@@ -118,6 +118,9 @@ fn tell(answer: RoomAnswer) {
             Place::Risk(at) => {
                 line(*b"REF", cast::byte(n), 3, cast::word(at));
             }
+            Place::Sheet(at) => {
+                line(*b"REF", cast::byte(n), 4, cast::word(at));
+            }
             Place::Nowhere => {
                 line(*b"REF", cast::byte(n), 0, 0);
             }

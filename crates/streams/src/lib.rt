@@ -1,4 +1,4 @@
-// Standard input and output, for every program: all of the input read into lent room, and the first bytes of a text written.
+// Standard input and output, for every program: all of the input, or some bytes of it, read into lent room, and the first bytes of a text written.
 ghost use mathlib.Core.Path.{_≡_};
 ghost use mathlib.Core.Bool.{true};
 ghost use Prim.Native.Nat.{_≤_};
@@ -7,7 +7,7 @@ ghost use Rattle.streams.specs.Within.{Within};
 use libc::STDIN_FILENO;
 use libc::STDOUT_FILENO;
 
-// How many bytes were read, to the end of the input or until the room was full; or that a read failed.
+// How many bytes were read; or that a read failed.
 pub enum Got {
     Bytes(usize),
     Failed,
@@ -30,6 +30,17 @@ pub fn read_all(room: &mut [u8]) -> Got
         at += n;
     }
     Got::Bytes(at)
+}
+
+// Reads some bytes, as many as come at once and the room takes; none at the end of the input, and where there is no room.
+pub fn read_some(room: &mut [u8]) -> Got
+    ensures { λ r. ⌜ Within r (now (room .entry)) (now (room .exit)) ⌝ }
+{
+    let got = libc::read(STDIN_FILENO, room);
+    if got < 0 {
+        return Got::Failed;
+    }
+    Got::Bytes(io::count(got, room))
 }
 
 // Writes the first n bytes of a text, and tells whether all of them were written: never of a text that has fewer.

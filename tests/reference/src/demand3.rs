@@ -28,7 +28,7 @@
 
 use crate::big::Big;
 use crate::block::{terms, Terms, MORTALITY_LT};
-use crate::mortality::twice_radicand;
+use crate::mortality::{mortality_credit, twice_radicand};
 use crate::operational::over_50_000;
 use crate::sheet::{lower, number, read_sheet, Sheet, REPORT_NUMBER};
 use crate::{BLOCK_NUMBERS, FIGURES, REPORT_LINE_BYTES};
@@ -107,6 +107,37 @@ fn judge_k(k: u64, bracket: (Big, Big)) -> Result<bool, String> {
 
 /// The reported buffer's two bounds, of the brackets of the blocks, and whether they decided both.
 fn judge_buffer(sheet: &Sheet, blocks: &[(Big, Big)], buffer: u64) -> Result<bool, String> {
+    let Bounds { credits, lower, upper, allowance } = bounds(sheet, blocks);
+    let reported = Big::from(u128::from(buffer)) * Bounds::cent() + credits;
+    within(reported, (lower, upper), allowance).map_err(|why| format!("the buffer {buffer} is {why}"))
+}
+
+/// The ends of a sheet's exact buffer with the scalar times its credits, and these and the allowance: all in the unit of `cent`.
+pub(crate) struct Bounds {
+    pub credits: Big,
+    pub lower: Big,
+    pub upper: Big,
+    pub allowance: Big,
+}
+
+impl Bounds {
+    /// A cent, times 10,000 × 50,000 × SCALE².
+    pub fn cent() -> Big {
+        Big::from(10_000) * Big::from(50_000) * cent()
+    }
+}
+
+/// #114: those of a sheet that is accepted, after its credits of survival and death business as they are reported.
+pub(crate) fn buffer_bounds(sheet: &Sheet) -> Result<Bounds, String> {
+    let exact = |(&block, amounts): (&u64, &[u64; BLOCK_NUMBERS])| {
+        let (s, t) = sheet.sums(block);
+        exact_k(&terms(&lower(amounts, mortality_credit(s, t)))).ok_or(format!("block {block}: no d fits"))
+    };
+    let brackets: Vec<(Big, Big)> = sheet.blocks.iter().map(exact).collect::<Result<_, _>>()?;
+    Ok(bounds(sheet, &brackets))
+}
+
+fn bounds(sheet: &Sheet, blocks: &[(Big, Big)]) -> Bounds {
     // The exact sum of K, in cents × SCALE².
     let (mut lower, mut upper) = (Big::from(0), Big::from(0));
     for &(low, high) in blocks {
@@ -119,12 +150,15 @@ fn judge_buffer(sheet: &Sheet, blocks: &[(Big, Big)], buffer: u64) -> Result<boo
     let (g, ten_thousand, fifty_thousand) = (of(sheet.scalar()), Big::from(10_000), Big::from(50_000));
     let ro = Big::from(over_50_000(&sheet.joined(), &sheet.operational()));
     let credits = of(sheet.dividends() + sheet.free_credits());
-    let reported = (of(buffer) * ten_thousand + g * credits) * fifty_thousand * cent();
     let exact = |sum_of_k: Big| g * ((sum_of_k + of(sheet.guarantee()) * cent()) * fifty_thousand + ro * cent());
     // #109: the allowance is g × (1.01 × n + 1) + 1 cents.
     let per_g = Big::from(101 * blocks.len() as u128 + 100) * hundredth_of_a_cent();
-    let allowance = (g * per_g + ten_thousand * cent()) * fifty_thousand;
-    within(reported, (exact(lower), exact(upper)), allowance).map_err(|why| format!("the buffer {buffer} is {why}"))
+    Bounds {
+        credits: g * credits * fifty_thousand * cent(),
+        lower: exact(lower),
+        upper: exact(upper),
+        allowance: (g * per_g + ten_thousand * cent()) * fifty_thousand,
+    }
 }
 
 /// What a cent is where numbers are times SCALE², and a hundredth of it.
@@ -136,7 +170,7 @@ fn hundredth_of_a_cent() -> Big {
 }
 
 /// At or above the exact number between these ends, and less than the allowance above it; and whether the ends decided both.
-fn within(reported: Big, (lower, upper): (Big, Big), allowance: Big) -> Result<bool, &'static str> {
+pub(crate) fn within(reported: Big, (lower, upper): (Big, Big), allowance: Big) -> Result<bool, &'static str> {
     if reported < lower {
         return Err("below the exact one");
     }

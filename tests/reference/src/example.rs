@@ -16,6 +16,9 @@ pub const EXAMPLE_MOVEMENT: &[u8] = include_bytes!("../../../examples/example.mo
 /// #113: a sheet with four lines whose need is unmet.
 pub const UNMET: &[u8] = include_bytes!("../../../examples/unmet.sheet");
 
+/// #114: three sheets, of which the second is refused and the third has another scalar.
+pub const EXAMPLE_QUARTER: &[u8] = include_bytes!("../../../examples/example.quarter");
+
 /// I, D, U, LT and K of the example, as "Calibration points" has them; then the steps of #107, by #109 of the finer roots: that of
 /// I, PC not yet added, is 15,288,417,185 hundredths of the half cent, between 2^33 and 2^34, and that of D 19,140,543,664, above
 /// 2^34.

@@ -1,5 +1,5 @@
 //! A seeded generator of sheets, sound and damaged, and of rooms for their reports; of sheets to convert and to check; of numbers for the
-//! other four calls; and of inputs for the program of #111.
+//! other four calls; and of inputs for the programs of #111 and #114.
 //! The same seed and index always give the same case.
 
 use crate::block::{EXPENSES_LT, PC};
@@ -131,6 +131,90 @@ fn without_risks(random: &mut Random, lines: &mut Vec<Line>, block: u64) {
         let class = random.from(1, EXPENSES);
         lines.retain(|l| !l.is("RSK", block, class));
         put(random, lines, Line { code: "RSK", block, class, first: 1, second: 0 });
+    }
+}
+
+/// #114: input `index` of `seed` of the quarter program: sheets, accepted, refused or broken, and closing lines, whole and broken.
+pub fn quarter_input(seed: u64, index: u64) -> Vec<u8> {
+    let mut random = Random::new(seed, index);
+    let most = MOST_SHEETS as u64;
+    let (few, any) = (random.from(1, 6), random.below(most + 4));
+    let count = random.pick(&[0, 1, 2, few, few, few, any, most - 1, most, most, most + 1, most + 3]);
+    // A third of the inputs has sheets that are accepted and sound closing lines alone, until the last.
+    let sound = random.one_in(3);
+    let (mut input, mut last) = (Vec::new(), Vec::new());
+    for at in 0..count {
+        // The sheet before once more, for ties; of many sheets most are small.
+        let sheet = match random.below(8) {
+            0 | 1 if at > 0 => last.clone(),
+            2 if !sound => quarter_damage(&mut random),
+            3 if count < 8 => bytes(&sound_lines(&mut random)),
+            _ => small_sheet(&mut random),
+        };
+        input.extend(&sheet);
+        let closed = sound || !random.one_in(24);
+        input.extend(if closed { CLOSING_LINE.to_vec() } else { broken_closing(&mut random) });
+        last = sheet;
+    }
+    // Behind the last closing line: nothing, mostly; a sheet that isn't closed, a byte, a closing line without its line feed.
+    match random.below(8) {
+        0 => input.extend(small_sheet(&mut random)),
+        1 => input.extend(random.pick(&[&b"\n"[..], b"-", b"x", &CLOSING_LINE[..39]])),
+        _ => {}
+    }
+    input
+}
+
+/// A scalar, and a volume, a block or both: a buffer of a few cents or of many.
+fn small_sheet(random: &mut Random) -> Vec<u8> {
+    let style = random.below(STYLES + 1);
+    let mut lines = Vec::new();
+    if random.one_in(2) {
+        lines.push(Line { code: "OTH", block: 1, class: random.from(1, 3), first: amount(random, style), second: 0 });
+    }
+    if random.one_in(2) {
+        lines.push(Line { code: "VOL", block: 1, class: 1, first: amount(random, style), second: 0 });
+    }
+    lines.push(general_line(SCALAR, random.pick(&[1, 10_000, LARGEST_SCALAR])));
+    bytes(&lines)
+}
+
+/// A sheet that is refused, mostly: damaged, empty, with a line that is no closing line, without its last line feed, too long.
+fn quarter_damage(random: &mut Random) -> Vec<u8> {
+    let mut sheet = small_sheet(random);
+    match random.below(8) {
+        0 => return Vec::new(),
+        1 => sheet.truncate(sheet.len() - 1),
+        2 => sheet.extend(broken_closing(random)),
+        3 => sheet = [broken_closing(random), sheet].concat(),
+        4 => {
+            let length = LONGEST_SHEET + random.pick(&[0, 1, 2, 40, 30_000]);
+            sheet = sheet.iter().copied().cycle().take(length).collect();
+        }
+        5 => sheet = with_carriage_returns(&sheet),
+        6 => sheet = any_bytes(random),
+        _ => {
+            let lines = sound_lines(random);
+            sheet = damaged(random, lines, FIRST_OF_A_LINE);
+        }
+    }
+    sheet
+}
+
+/// No closing line: 38 or 40 minus signs, another byte among them, a carriage return, one behind a byte in its line.
+fn broken_closing(random: &mut Random) -> Vec<u8> {
+    let (minus, other) = (b'-', random.pick(&STRANGE));
+    match random.below(6) {
+        0 => [vec![minus; 38], b"\n".to_vec()].concat(),
+        1 => [vec![minus; 40], b"\n".to_vec()].concat(),
+        2 => [vec![minus; 39], b"\r\n".to_vec()].concat(),
+        3 => [b" ".to_vec(), CLOSING_LINE.to_vec()].concat(),
+        4 => {
+            let mut line = CLOSING_LINE.to_vec();
+            line[random.at(39)] = other;
+            line
+        }
+        _ => b"-\n".to_vec(),
     }
 }
 

@@ -1,4 +1,4 @@
-//! The calculator of document 01, with requests #101, #102 and #104 to #113 of document 02, in plain Rust with u128: no
+//! The calculator of document 01, with requests #101, #102 and #104 to #114 of document 02, in plain Rust with u128: no
 //! dependency, nothing clever, and no code shared with the calculator itself. It is a test oracle: what it answers is
 //! compared with what the calculator answers.
 //!
@@ -18,6 +18,7 @@ pub mod generate;
 mod mortality;
 mod movement;
 mod operational;
+mod quarter;
 mod shares;
 mod sheet;
 
@@ -26,12 +27,16 @@ pub use check::{check_call, judge_check, print_check, LISTING_LINE_BYTES, LONGES
 pub use convert::{convert_call, convert_cases, ConvertCase, THOUSAND_DOLLARS};
 pub use demand3::{demand3, judge};
 pub use example::{
-    example, EXAMPLE_FIGURES, EXAMPLE_MOVEMENT, EXAMPLE_SHARES, IN_THOUSANDS, UNMET, WHOLE_RUN, WHOLE_RUN_REPORT,
+    example, EXAMPLE_FIGURES, EXAMPLE_MOVEMENT, EXAMPLE_QUARTER, EXAMPLE_SHARES, IN_THOUSANDS, UNMET, WHOLE_RUN,
+    WHOLE_RUN_REPORT,
 };
 pub use fluctuation::{fluctuation_call, fluctuation_cases, judge_fluctuation, FluctuationCase, FLUCTUATION_ROWS};
 pub use mortality::{aggregate, mortality_credit};
 pub use movement::{judge_movements, movement_call, print_movements, Moved, MOVEMENT_INPUT_BYTES};
 pub use operational::operational_call;
+pub use quarter::{
+    judge_quarter, print_quarter, quarter_refusal, Judged, CLOSING_LINE, MOST_SHEETS, QUARTER_LINE_BYTES,
+};
 pub use shares::{judge_shares, shares_call, PARTS};
 pub use sheet::{all_lines, print_sheet, report_length, report_line, sheet_call, sheet_line};
 
@@ -94,7 +99,7 @@ pub const LONGEST_SHEET: usize = MOST_LINES * LINE_BYTES;
 pub const LONGEST_REPORT: usize = report_length(MOST_BLOCKS);
 
 /// "What is turned away": a refusal is its number with a line (from 1), a position (from 0) or no place; by #111 also with its
-/// risk.
+/// risk, by #114 with the sheet (both from 1).
 #[derive(Clone, Copy, Debug, PartialEq, Eq)]
 pub struct Refusal {
     pub number: u8,
@@ -106,6 +111,7 @@ pub enum Place {
     Line(usize),
     Position(usize),
     Risk(usize),
+    Sheet(usize),
     Nowhere,
 }
 
@@ -122,16 +128,24 @@ impl Refusal {
         Refusal { number, place: Place::Risk(risk) }
     }
 
+    pub fn at_sheet(number: u8, sheet: usize) -> Refusal {
+        Refusal { number, place: Place::Sheet(sheet) }
+    }
+
     pub fn nowhere(number: u8) -> Refusal {
         Refusal { number, place: Place::Nowhere }
     }
 
-    /// "one line, REF, the refusal's number in 5–6, 0 in 8–9, the place in 11–28"; "printed, no place is 0".
+    /// "one line, REF, the refusal's number in 5–6, 0 in 8–9, the place in 11–28".
     pub fn line(self) -> Vec<u8> {
-        let place = match self.place {
-            Place::Line(at) | Place::Position(at) | Place::Risk(at) => at as u64,
+        report_line("REF", self.number.into(), 0, self.printed_place())
+    }
+
+    /// "printed, no place is 0".
+    pub fn printed_place(self) -> u64 {
+        match self.place {
+            Place::Line(at) | Place::Position(at) | Place::Risk(at) | Place::Sheet(at) => at as u64,
             Place::Nowhere => 0,
-        };
-        report_line("REF", self.number.into(), 0, place)
+        }
     }
 }

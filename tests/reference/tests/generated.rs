@@ -2,7 +2,7 @@
 
 use reference::generate::{
     accepted, block_numbers, case, check_case, convert_case, fluctuation_numbers, movement_input, operational_numbers,
-    shares_numbers,
+    quarter_input, shares_numbers,
 };
 use reference::*;
 use std::collections::{BTreeMap, BTreeSet};
@@ -328,6 +328,77 @@ fn listings_of_every_kind() {
         kinds.iter().any(|((sort, found), &count)| sort == "CRD of no block" && *found == kind && count > 0)
     };
     assert!(!free("listed, its companion absent") && !free("listed, its companion 0") && free("met"), "{kinds:?}");
+}
+
+/// #114: the quarters reach 24, 25 and numbers of sheets from 0 to 60, with sheets that are refused, ties, and closing lines that are none;
+/// what is promised of a summary holds of each, and another total is found out.
+#[test]
+fn quarters_of_every_kind() {
+    let (mut counts, mut kinds) = (BTreeMap::new(), BTreeMap::<&str, u64>::new());
+    let (mut sizes, mut accepted, mut undecided) = (BTreeSet::new(), 0, 0);
+    for index in 0..3_000 {
+        let input = quarter_input(5, index);
+        let printed = print_quarter(&input);
+        let text = std::str::from_utf8(&printed).unwrap();
+        assert!(text.lines().all(|line| line.len() == QUARTER_LINE_BYTES - 1), "input {index}");
+        let refusal = quarter_refusal(&input);
+        *counts.entry(refusal.map_or(0, |refusal| refusal.number)).or_insert(0) += 1;
+        let count = |code: &str| text.lines().filter(|line| line.starts_with(code)).count();
+        let (sheets, refs) = (count("SHT"), count("REF"));
+        let mut held = vec![
+            ("24 alone behind 60 answers", refusal.is_some_and(|r| r.number == 24) && sheets + refs == 61),
+            ("25 alone", refusal.is_some_and(|r| r.number == 25) && sheets + refs == 1),
+            ("25 behind accepted sheets", refusal.is_some_and(|r| r.number == 25) && sheets > 0),
+            ("REF 1 of a sheet that is too long", text.contains("REF  1")),
+            ("REF 12 of an empty sheet", text.contains("REF 12")),
+        ];
+        if refusal.is_some() {
+            assert_eq!(count("SUM"), 0, "input {index}");
+        } else {
+            sizes.insert(sheets + refs);
+            let judged = judge_quarter(&input, &printed).unwrap_or_else(|why| panic!("input {index}: {why}"));
+            assert_eq!(judged.accepted, sheets);
+            accepted += sheets;
+            undecided += u64::from(!judged.decided);
+            let item = |at: usize| text.lines().rev().nth(8 - at).unwrap()[10..].trim().parse::<u64>().unwrap();
+            let buffers: Vec<&str> =
+                text.lines().filter(|line| line.starts_with("SHT")).map(|line| &line[10..]).collect();
+            let same = |wanted: u64| buffers.iter().filter(|buffer| buffer.trim() == wanted.to_string()).count();
+            held.extend([
+                ("no sheet", sheets + refs == 0),
+                ("all refused", sheets == 0 && refs > 0),
+                ("60 accepted", sheets == 60),
+                ("a smallest buffer twice", sheets > 0 && same(item(2)) > 1 && item(2) < item(4)),
+                ("a largest buffer twice", sheets > 0 && same(item(4)) > 1 && item(2) < item(4)),
+                ("a remainder", item(8) > 0),
+                ("the smallest isn't the first", sheets > 0 && item(3) > 1),
+            ]);
+            // A total that is off by the allowances, with a mean that follows.
+            if sheets > 0 {
+                let total = item(6) + 68 * sheets as u64;
+                let other: String = text
+                    .lines()
+                    .map(|line| match &line[..9] {
+                        "SUM  0  6" => format!("SUM  0  6 {total:>19}\n"),
+                        "SUM  0  7" => format!("SUM  0  7 {:>19}\n", total / sheets as u64),
+                        "SUM  0  8" => format!("SUM  0  8 {:>19}\n", total % sheets as u64),
+                        _ => format!("{line}\n"),
+                    })
+                    .collect();
+                assert!(judge_quarter(&input, other.as_bytes()).is_err(), "input {index}");
+            }
+        }
+        for (kind, holds) in held {
+            *kinds.entry(kind).or_default() += u64::from(holds);
+        }
+    }
+    println!(
+        "quarters, 0 for those that aren't cut short: {counts:?}; {accepted} sheets, {undecided} undecided; {kinds:?}"
+    );
+    assert!(counts.keys().eq(&[0, 24, 25]) && counts.values().all(|&count| count >= 100), "{counts:?}");
+    assert!(kinds.len() == 12 && kinds.values().all(|&count| count >= 10), "{kinds:?}");
+    assert!([0, 1, 2, 59, 60].iter().all(|size| sizes.contains(size)) && sizes.len() > 40, "{sizes:?}");
+    assert!(undecided < 30);
 }
 
 /// The numbers of the other three calls reach every row that these can give, and 7 at positions of every size.

@@ -1323,3 +1323,153 @@ fn refusals_of_the_check_call() {
     // A sheet in thousands of dollars is none.
     assert_eq!(check(IN_THOUSANDS, 0), Err(Refusal::at_line(4, 1)));
 }
+
+/// #114: what is printed, its words with one space between.
+fn quarter(parts: &[&[u8]]) -> Vec<String> {
+    let input = parts.concat();
+    let printed = print_quarter(&input);
+    assert_eq!(printed.len() % QUARTER_LINE_BYTES, 0);
+    if quarter_refusal(&input).is_none() {
+        assert!(judge_quarter(&input, &printed).is_ok_and(|judged| judged.decided));
+    }
+    let text = String::from_utf8(printed).unwrap();
+    text.lines().map(|line| line.split_whitespace().collect::<Vec<&str>>().join(" ")).collect()
+}
+
+/// #114: "SUM, 0, items 1 to 8".
+fn summary(figures: [u64; 8]) -> Vec<String> {
+    (1..).zip(figures).map(|(item, figure)| format!("SUM 0 {item} {figure}")).collect()
+}
+
+/// A sheet of one volume and a scalar of one: RO of 15,000 and 10,000 is 450, of 12,000 it is 300, and that is the buffer.
+fn of_volume(current: u64) -> Vec<u8> {
+    lines(&[("VOL", 1, 1, current, 10_000), ("GEN", 0, 4, 10_000, 0)])
+}
+
+/// #114, worked out by hand: two sheets, three of which two tie, none, and one that is refused among others.
+#[test]
+fn the_quarters_sheets() {
+    let (more, less, end) = (of_volume(15_000), of_volume(12_000), CLOSING_LINE);
+    let expected = [vec!["SHT 1 1 450".to_string(), "SHT 2 1 300".into()], summary([2, 300, 2, 450, 1, 750, 375, 0])];
+    assert_eq!(quarter(&[&more, end, &less, end]), expected.concat());
+    // 1,500 over 4 is 375; 1,200 over 3 is 400; 1,050 and a remainder over 3; the first of equal ones.
+    let four = quarter(&[&more, end, &less, end, &more, end, &less, end]);
+    assert_eq!(four[4..], summary([4, 300, 2, 450, 1, 1_500, 375, 0]));
+    let three = quarter(&[&less, end, &more, end, &more, end]);
+    assert_eq!(three[3..], summary([3, 300, 1, 450, 2, 1_200, 400, 0]));
+    // A scalar alone has a buffer of 0 and is accepted: 450 over 2 is 225, and with a third 150.
+    let scalar = lines(&[("GEN", 0, 4, 10_000, 0)]);
+    assert_eq!(quarter(&[&more, end, &scalar, end])[2..], summary([2, 0, 2, 450, 1, 450, 225, 0]));
+    let remainder = quarter(&[&more, end, &scalar, end, &scalar, end, &scalar, end]);
+    assert_eq!(remainder[4..], summary([4, 0, 2, 450, 1, 450, 112, 2]));
+    // "With none accepted it prints zeros": none at all, and one that is refused.
+    assert_eq!(quarter(&[]), summary([0; 8]));
+    assert_eq!(quarter(&[end]), [vec!["REF 12 0 0".to_string()], summary([0; 8])].concat());
+    // A refused sheet among others counts for the sheets' numbers alone.
+    let bad = lines(&[("RSK", 1, 1, 3_000, 3_001)]);
+    let expected = [
+        vec!["REF 9 0 1".to_string(), "SHT 2 1 450".into(), "REF 12 0 0".into()],
+        summary([1, 450, 2, 450, 2, 450, 450, 0]),
+    ];
+    assert_eq!(quarter(&[&bad, end, &more, end, end]), expected.concat());
+}
+
+/// #114: "report lines of 30 bytes, the number (for REF the place) in 11–29"; the sample.
+#[test]
+fn lines_of_a_quarter() {
+    let expected = "\
+SHT  1  1           163265783
+REF  9  0                   2
+SHT  3  1           155102494
+SUM  0  1                   2
+SUM  0  2           155102494
+SUM  0  3                   3
+SUM  0  4           163265783
+SUM  0  5                   1
+SUM  0  6           318368277
+SUM  0  7           159184138
+SUM  0  8                   1
+";
+    assert_eq!(print_quarter(EXAMPLE_QUARTER), expected.as_bytes());
+}
+
+/// #114: a closing line "counts at the start of the input or right after a line feed"; 38 or 40 minus signs, a carriage return and
+/// what stands behind another byte are none, and one without its line feed isn't either.
+#[test]
+fn closing_lines() {
+    let (more, end) = (of_volume(15_000), CLOSING_LINE);
+    assert_eq!(end, [vec![b'-'; 39], b"\n".to_vec()].concat());
+    let twelve = "REF 12 0 0".to_string();
+    assert_eq!(quarter(&[end, &more, end])[..2], [twelve.clone(), "SHT 2 1 450".into()]);
+    assert_eq!(quarter(&[end, end, end])[..3], [twelve.clone(), twelve.clone(), twelve]);
+    // What is no closing line belongs to the sheet: broken lines, or bytes behind the last whole one.
+    for (wrong, answer) in [
+        (&[&[b'-'; 38][..], b"\n"].concat(), "REF 2 0 0"),
+        (&[&[b'-'; 40][..], b"\n"].concat(), "REF 3 0 3"),
+        (&[&[b'-'; 39][..], b"\r\n"].concat(), "REF 3 0 3"),
+        (&[&b"x"[..], end].concat(), "REF 3 0 3"),
+        (&[&b" "[..], end].concat(), "REF 3 0 3"),
+    ] {
+        assert_eq!(quarter(&[&more, wrong, &more, end]).len(), 1 + 8, "{}", wrong.escape_ascii());
+        assert_eq!(quarter(&[&more, wrong, end])[0], answer, "{}", wrong.escape_ascii());
+    }
+    // A sheet that doesn't end in a line feed swallows its closing line and the next sheet: 79 + 40 + 80 bytes, of which line 2 is broken.
+    let cut = &more[..79];
+    assert_eq!(quarter(&[cut, end, &more, end, &more, end])[..2], ["REF 3 0 2".to_string(), "SHT 2 1 450".into()]);
+    // A line feed inside a line is enough before one.
+    let inside = [&more[..50], b"\n"].concat();
+    assert_eq!(quarter(&[&inside, end, &more, end])[..2], ["REF 2 0 0".to_string(), "SHT 2 1 450".into()]);
+}
+
+/// #114: "as number 24 with the sheet, an input with more than 60 sheets, and, as number 25 with the sheet, one whose last sheet isn't
+/// closed, 24 first; the sheets before it are answered and no summary follows".
+#[test]
+fn quarters_that_are_cut_short() {
+    let (more, end) = (of_volume(15_000), CLOSING_LINE);
+    let closed = [&more[..], end].concat();
+    let many = |count: usize| closed.repeat(count);
+    let answers = |count: usize| (1..=count).map(|at| format!("SHT {at} 1 450")).collect::<Vec<String>>();
+    // 60 are answered with their summary; 61, closed or not, and more, by 24 with 61, also where it is a byte.
+    assert_eq!(quarter(&[&many(60)]), [answers(60), summary([60, 450, 1, 450, 1, 27_000, 450, 0])].concat());
+    let over = [answers(60), vec!["REF 24 0 61".into()]].concat();
+    for rest in [&closed[..], &many(3), &more, b"\n", b"-", end, &end[..39]] {
+        assert_eq!(quarter(&[&many(60), rest]), over, "{}", rest.len());
+    }
+    // Not closed: 25 with its number.
+    for count in [0, 1, 2, 59] {
+        let short = [answers(count), vec![format!("REF 25 0 {}", count + 1)]].concat();
+        for rest in [&more[..], b"\n", b"x", &end[..39], &[&more[..79], end].concat()] {
+            assert_eq!(quarter(&[&many(count), rest]), short, "{count}");
+        }
+    }
+    // The sheets before it are answered by their refusals too.
+    assert_eq!(quarter(&[end, end, b"x"]), ["REF 12 0 0", "REF 12 0 0", "REF 25 0 3"]);
+}
+
+/// #114: a sheet of any length is answered, in the middle too; the largest total has 19 digits.
+#[test]
+fn sheets_of_any_length() {
+    let (more, end) = (of_volume(15_000), CLOSING_LINE);
+    // A line feed stands before the closing line: 629 lines and none more, a byte more, and many more.
+    for (bytes, answer) in [(LONGEST_SHEET, "REF 3 0 1"), (LONGEST_SHEET + 1, "REF 1 0 0"), (400_000, "REF 1 0 0")] {
+        let sheet = [vec![b' '; bytes - 1], b"\n".to_vec()].concat();
+        let parts = quarter(&[&more, end, &sheet, end, &more, end]);
+        assert_eq!(parts[..3], ["SHT 1 1 450".to_string(), answer.into(), "SHT 3 1 450".into()], "{bytes}");
+    }
+    let largest: Vec<u8> = all_lines(MOST_BLOCKS)
+        .into_iter()
+        .filter(|&(code, _, class)| !matches!((code, class), ("MOR" | "ACQ" | "CRD", _) | ("GEN", CREDITS)))
+        .flat_map(|(code, block, class)| {
+            let (first, second) = match (code, class) {
+                ("GEN", SCALAR) => (LARGEST_SCALAR, 0),
+                ("RSK", 1..EXPENSES) => (LARGEST_AMOUNT, LARGEST_AMOUNT),
+                _ => (LARGEST_AMOUNT, 0),
+            };
+            sheet_line(code, block, class, first, second)
+        })
+        .collect();
+    let sixty = [&largest[..], end].concat().repeat(60);
+    let printed = quarter(&[&sixty]);
+    assert_eq!(printed[65], "SUM 0 6 3354329999999968800");
+    assert_eq!(print_quarter(&sixty).len(), 68 * QUARTER_LINE_BYTES);
+}

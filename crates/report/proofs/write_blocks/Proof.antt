@@ -30,7 +30,7 @@ within c =
 write-items-requires : tie.Need-write-items-requires Inv-loop μ-loop
 write-items-requires c κs =
     let w = within (c .before .before .before .before .before) in
-    stretch-long _ _ (w .1) _ (w .0)
+    (omega arith, stretch-long _ _ (w .1) _ (w .0))
 
 loop-again : tie.Need-loop-again Inv-loop μ-loop
 loop-again c =

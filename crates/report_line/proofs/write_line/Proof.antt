@@ -1,27 +1,20 @@
--- The three fields are put back where they were lent, and the stores put code, spaces and line feed around them. Assumes nothing.
-use lib.ListN.{length-set}
+-- A report line is the one whose number has 18 columns: those that 29 bytes leave. Assumes nothing.
+use mathlib.Core.Path.{_≡_, ap, _∙_}
+use native.Mathlib.Omega.{arith}
+use Prim.Native.Nat.{ℕ, _-_}
 use borrow.Author.Needs.{needs}
-use Rattle.report_line.proofs.Filled.{line-filled}
+use lib.ListN.{length}
+use Rattle.guideline.specs.Sizes.{numberColumns}
+use Rattle.report_line.specs.Line.{lineBytes, lineIn}
 use Rattle.report_line.proofs.write_line.Statement.{statement}
 use Rattle.report_line.proofs.write_line.Tie as tie
 
 returns : tie.Need-returns
 returns c =
-    let number = c .before .before in
-    let item = number .before .before .before .before in
-    let block = item .before .before .before .before in
-    let s = block .before .before .before in
-    line-filled (s .args .out .now) _ _ _ _ _ _ _ (s .pre) (search needs) (block .write-field .ensures) (item .write-field2 .ensures) (number .write-field3 .ensures)
+    let w = c .before .before in
+    let s = w .before .before .before in
+    let n : length (s .args .out .now) - lineBytes 0 ≡ numberColumns = omega (arith, s .pre) in
+    w .write-line-in .ensures ∙ ap (λ (k : ℕ). lineIn k (s .args .code) (s .args .block) (s .args .item) (s .args .number)) n
 
 pub write-line-spec : {M : Type 1} → statement M
-write-line-spec =
-    tie.close
-    (tie.spec
-    (λ c. search needs) (λ c. search needs) (λ c. search needs) (λ c κs. search needs)
-    (λ c. search needs) (λ c. search needs) (λ c. search needs) (λ c κs. search needs)
-    (λ c. search needs) (λ c. search needs) (λ c. search needs) (λ c κs. search needs)
-    (λ c. search needs) (λ c. search needs)
-    (λ c. search needs) (λ c. simp length-set (search needs))
-    (λ c. search needs) (λ c. simp length-set (search needs))
-    (λ c. simp length-set (search needs)) (λ c. simp length-set (search needs)) (λ c. simp length-set (search needs)) (λ c. simp length-set (search needs))
-    (λ c. simp length-set (search needs)) returns)
+write-line-spec = tie.close (tie.spec (λ c κs. search needs) (λ c. search needs) returns)

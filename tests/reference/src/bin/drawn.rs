@@ -26,6 +26,7 @@ fn main() -> Result<(), Box<dyn Error>> {
     let draw: fn(u64, u64) -> Drawn = match program.as_str() {
         "tsav-movement" => movements,
         "tsav-check" => listings,
+        "tsav-quarter" => quarters,
         _ => return Err(format!("no inputs are drawn for {program}").into()),
     };
     let (seed, count): (u64, u64) = (seed.parse()?, count.parse()?);
@@ -66,4 +67,15 @@ fn listings(seed: u64, index: u64) -> Drawn {
         Ok(_) => judge_check(&sheet, &printed).map(|()| Answer { printed, refused: false, judged: 1 }),
     };
     (sheet, answer)
+}
+
+/// #114: each summary is judged.
+fn quarters(seed: u64, index: u64) -> Drawn {
+    let input = generate::quarter_input(seed, index);
+    let printed = print_quarter(&input);
+    let answer = match quarter_refusal(&input) {
+        Some(_) => Ok(Answer { printed, refused: true, judged: 0 }),
+        None => judge_quarter(&input, &printed).map(|_| Answer { printed, refused: false, judged: 1 }),
+    };
+    (input, answer)
 }

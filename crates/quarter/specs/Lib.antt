@@ -1,0 +1,2 @@
+-- The steps by which an input is taken. Assumes nothing.
+pub mod Steps

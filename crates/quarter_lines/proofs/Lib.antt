@@ -1,0 +1,4 @@
+-- Laws of the lines: of sheets, of a sheet that is closed, and of the total. Assumes nothing.
+pub mod Rows
+pub mod Closed
+pub mod Accuracy

@@ -1,0 +1,15 @@
+-- The line that is written says the refusal's number and what is printed of its place. Assumes nothing.
+use borrow.Author.Needs.{needs}
+use Rattle.quarter_lines.proofs.Closed.{in-columns}
+use Rattle.quarter_lines.proofs.write_refusal.Statement.{statement}
+use Rattle.quarter_lines.proofs.write_refusal.Tie as tie
+
+returns : tie.Need-returns
+returns c =
+    let w = c .before .before in
+    let b = w .before .before in
+    let s = b .before .before .before .before .before in
+    in-columns (s .args .line .now) _ _ _ _ _ (s .pre) (rw (b .byte .ensures, w .before .place-number .ensures) at (w .write-line-in .ensures))
+
+pub write-refusal-spec : {M : Type 1} → statement M
+write-refusal-spec = tie.close (tie.spec (λ c κs. search needs) (λ c κs. search needs) (λ c κs. search needs) (λ c. search needs) returns)

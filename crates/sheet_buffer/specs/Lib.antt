@@ -1,0 +1,2 @@
+-- A sheet's buffer, or what turns it away.
+pub mod Answer
