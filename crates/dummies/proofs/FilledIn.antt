@@ -4,7 +4,7 @@
 use mathlib.Core.Path.{_≡_, refl, sym, ap, _∙_}
 use mathlib.Core.Bool.{true, false, false≢true}
 use mathlib.Core.List.{List, [], _∷_, map, append-nil}
-use Prim.Native.Nat.{ℕ, suc, _≤_, _<_}
+use Prim.Native.Nat.{ℕ, suc, _<_}
 use native.Mathlib.Omega.{arith}
 use lib.ListN.{length, getD, drop, length-map}
 use lib.Seq.{take-append-seam}
@@ -22,7 +22,7 @@ use Rattle.guideline.specs.Block.{AcceptedBlock, K, figuresOf}
 use Rattle.guideline.specs.Buffer.{Sheet, count, buffer, CreditsWithin, AcceptedSheet}
 use Rattle.guideline.proofs.Figures.{figures-fit, figures-long}
 use Rattle.guideline.proofs.Totals.{totals-fit}
-use Rattle.report_line.specs.Line.{Row, printRows, equalBytes, foundIn, foundAt, numberAt}
+use Rattle.report_line.specs.Line.{Row, equalBytes, foundIn, foundAt, numberAt}
 use Rattle.report_line.proofs.ReadBack.{rowIs, numberAmong, rows-read}
 use Rattle.sheet_line.specs.declared.Entry.{Entry}
 use Rattle.order.specs.Entries.{exists}

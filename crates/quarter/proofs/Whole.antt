@@ -3,6 +3,7 @@
 use mathlib.Core.Path.{_≡_, sym, _∙_}
 use mathlib.Core.List.{List, [], _∷_, _++_, append-assoc, append-nil}
 use Prim.Native.Nat.{ℕ, _<_}
+use lib.ListN.{take}
 use Rattle.search.proofs.Picks.{if-lt}
 use Rattle.report_line.specs.Line.{rowsIn}
 use Rattle.stream.specs.Sheets.{sheetsOf, count}
@@ -10,6 +11,7 @@ use Rattle.stream.specs.Steps.{concat}
 use Rattle.stream.proofs.Further.{still-more}
 use Rattle.printing.specs.Printing.{Printed}
 use Rattle.quarter_lines.specs.Printout.{mostSheets, columns, sheetRows, ending, quarterText}
+use Rattle.quarter_lines.specs.Demand.{QuarterDemand}
 use Rattle.quarter.specs.Steps.{After, Taken, Finished}
 use Rattle.quarter.specs.declared.Quarter.{Quarter}
 
@@ -28,6 +30,11 @@ after-steps (c ∷ cs) s W A = rw (← append-assoc s c (concat cs)) (after-step
 pub whole-text : (cs : List (List ℕ)) (room : List ℕ) {room₀ out₀ out out′ : List ℕ} {q₀ q : Quarter} {n : ℕ} → After [] room₀ out₀ q₀ → Steps cs room₀ out₀ q₀ room out q
     → Finished out q n out′ → Printed (quarterText (concat cs)) n out out′
 whole-text cs room A W F = F .text (concat cs) room (after-steps cs [] W A)
+
+-- and its total is as near the exact one as it has to be
+pub whole-accurate : (cs : List (List ℕ)) (room : List ℕ) {room₀ out₀ out out′ : List ℕ} {q₀ q : Quarter} {n : ℕ} → After [] room₀ out₀ q₀
+    → Steps cs room₀ out₀ q₀ room out q → Finished out q n out′ → QuarterDemand (concat cs) (take n out′)
+whole-accurate cs room A W F = F .accurate (concat cs) room (after-steps cs [] W A)
 
 -- more than 60 sheets: what follows changes nothing of what is printed
 pub decided : (s t : List ℕ) → mostSheets < count (sheetsOf s) → quarterText (s ++ t) ≡ quarterText s

@@ -1,6 +1,6 @@
 -- What a call gives, in document 01's terms: 'A refusal is its number with a line, a position, or no place', and 'A refused call
--- gives no figure'. Document 02, #111, adds a risk: 'as number 22 with its risk'. Every call's answer is an enum of its own; beside it a
--- definition turns each case into one of these. Assumes nothing.
+-- gives no figure'. Document 02 adds a risk (#111, 'as number 22 with its risk') and a sheet (#114, 'as number 24 with the sheet'). Every call's
+-- answer is an enum of its own; beside it a definition turns each case into one of these. Assumes nothing.
 use mathlib.Core.Path.{_≡_}
 use mathlib.Core.Bool.{true, false}
 use mathlib.Core.List.{List, [], _∷_}

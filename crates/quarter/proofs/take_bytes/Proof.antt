@@ -6,7 +6,6 @@ use lib.ListN.{length}
 use lib.Seq.{length-take-le}
 use borrow.Author.Needs.{needs}
 use Rattle.report_line.specs.Line.{lineBytes}
-use Rattle.stream.specs.declared.Fed.the-variants as fed
 use Rattle.quarter_lines.specs.Printout.{columns}
 use Rattle.quarter.specs.Steps.{linesLong, longestOutput}
 use Rattle.quarter.proofs.Taking.{Taking, at-first, of-false, rooms, outs, out-is, held-within, few, line-fits, line-long, taken-all, taken-many, taken-on, closed-at, taken-next}
