@@ -20,7 +20,8 @@ use Rattle.order.specs.Entries.{exists}
 use Rattle.report.specs.Rows.{BLK, TOT, itemsFrom, blockRows, tableRows, totals, reportLength}
 use Rattle.report.proofs.Items.{items-long}
 use Rattle.credits.specs.Credits.{afterCredit}
-use Rattle.judgement.specs.Sheet.{blocksTo, sheetOf, rowsTo}
+use Rattle.sheet_blocks.specs.Blocks.{blocksTo, rowsTo}
+use Rattle.judgement.specs.Sheet.{sheetOf}
 use Rattle.aggregate.specs.Call.{blockRowsOf, reportOf}
 
 -- only the first rows count

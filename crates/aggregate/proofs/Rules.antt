@@ -18,7 +18,7 @@ use Rattle.report.specs.Rows.{totalRows, reportBytes, reportLength, longestRepo
 use Rattle.judgement.specs.Sheet.{sheetOf}
 use Rattle.judgement.specs.Judgement.{judgement, findings}
 use Rattle.judgement.specs.Judgement.Findings.{figures}
-use Rattle.judgement.proofs.Accepted.{few-blocks}
+use Rattle.sheet_blocks.proofs.Figured.{few-blocks}
 use Rattle.judgement.proofs.Rules.{findings-figures}
 use Rattle.judged_text.proofs.Judged as judged
 use Rattle.judged_text.proofs.Judged.{of-lines}

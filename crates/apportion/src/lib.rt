@@ -9,7 +9,6 @@ ghost use Rattle.guideline.specs.Sizes.{parts};
 ghost use Rattle.apportion.specs.Shares.{ofPart, total, base, remainder, leftOver, rank, shares};
 ghost use Rattle.apportion.specs.Steps.{Shareable};
 use guideline::PARTS;
-use wide::division;
 use wide::words;
 
 // The shares rounded down, their remainders, and the cents left over.

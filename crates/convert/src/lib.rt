@@ -140,7 +140,7 @@ fn write_other(scale: Scale, s: &[u8], out: &mut [u8])
     let Line::Good(e) = read else {
         return;
     };
-    layout::write_lettered(
+    sheet_writer::write_lettered(
         out,
         letters::other_letters(scale, s),
         amounts::rescaled(scale, e),

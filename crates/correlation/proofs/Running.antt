@@ -13,7 +13,7 @@ use Rattle.amount.specs.Amount.{limit}
 use Rattle.guideline.specs.Sizes.{risks}
 use Rattle.guideline.specs.Factors.{factor, soFar}
 use Rattle.guideline.proofs.Table.{factor-small, small-fits}
-use Rattle.wide.specs.declared.Sum.{Sum}
+use Rattle.running_sum.specs.declared.Sum.{Sum}
 use Rattle.correlation.specs.Products.{SmallYs, SoFar, Row}
 
 -- as the code counts rows and columns

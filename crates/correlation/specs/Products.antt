@@ -7,8 +7,8 @@ use Rattle.search.specs.Each.{Each}
 use Rattle.amount.specs.Amount.{limit}
 use Rattle.guideline.specs.Sizes.{risks}
 use Rattle.guideline.specs.Factors.{factor, soFar}
-use Rattle.wide.specs.declared.Sum.{Sum}
-use Rattle.wide.specs.Sum.{held, filled}
+use Rattle.running_sum.specs.declared.Sum.{Sum}
+use Rattle.running_sum.specs.Sum.{held, filled}
 
 -- y(1) to y(7) of an accepted block: none is above twice the limit
 abbrev pub SmallYs : List ℕ → Type 0

@@ -5,13 +5,12 @@ ghost use lib.IntN.{pos};
 ghost use Rattle.guideline.specs.Factors.{factor, quarterSum};
 ghost use Rattle.guideline.specs.Sizes.{risks, products};
 ghost use Rattle.wide.specs.Value.{value};
-ghost use Rattle.wide.specs.Sum.{held};
+ghost use Rattle.running_sum.specs.Sum.{held};
 ghost use Rattle.correlation.specs.Products.{SmallYs, SoFar, Row};
 use guideline::RISKS;
 use guideline::factor_at as f;
-use wide::Sum;
+use running_sum::Sum;
 use wide::Wide;
-use wide::running;
 
 // 'Σ i,j=1..7  ρ_ij × (IR_i − 0,5 × LT_i) × (IR_j − 0,5 × LT_j)' of the seven y(i), which is never negative: in half cents and quarters it
 // is four times Q.
@@ -19,7 +18,7 @@ pub fn correlated(y: &[u64; RISKS]) -> Wide
     requires { ⌜ SmallYs (now y) ⌝ }
     ensures { λ r. ⌜ pos (value r) ≡ quarterSum (now (y .entry)) ⌝ }
 {
-    running::unsigned(row_by_row(y))
+    running_sum::unsigned(row_by_row(y))
 }
 
 // The sum over i and j from 1 to 7, row by row over all 49 products, those with factor 0 too. f(k) is the factor of the product that
@@ -29,7 +28,7 @@ fn row_by_row(y: &[u64; RISKS]) -> Sum
     ensures { λ r. ⌜ SoFar (now (y .entry)) products r ⌝ }
     ensures { λ r. ⌜ held r ≡ quarterSum (now (y .entry)) ⌝ }
 {
-    let s0 = running::empty();
+    let s0 = running_sum::empty();
     // i = 1, Mortalité
     let s1 = with_row(s0, y, 0, f(0), f(1), f(2), f(3), f(4), f(5), f(6));
     // i = 2, Longévité
@@ -81,5 +80,5 @@ fn with_product(before: Sum, y: &[u64; RISKS], row: usize, column: usize, quarte
     requires { ⌜ quarters ≡ factor (risks * row + column) ⌝ }
     ensures { λ r. ⌜ SoFar (now (y .entry)) (risks * row + (column + 1)) r ⌝ }
 {
-    running::add_term(before, quarters, y[row], y[column])
+    running_sum::add_term(before, quarters, y[row], y[column])
 }

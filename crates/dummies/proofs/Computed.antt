@@ -22,8 +22,10 @@ use Rattle.order.specs.Reading.{onLine, readFrom}
 use Rattle.report.specs.Rows.{itemsFrom}
 use Rattle.sheet_length.specs.Measured.{layoutFirst, rule2, measured}
 use Rattle.credits.specs.Credits.{creditOf, afterCredit, creditAbove}
-use Rattle.judgement.specs.Sheet.{blocksTo, sheetOf}
-use Rattle.judgement.specs.Judgement.{rule13, dividendBarred, rule17, rule16, rule12, ruleLines, judgement}
+use Rattle.sheet_blocks.specs.Blocks.{blocksTo}
+use Rattle.judgement.specs.Sheet.{sheetOf}
+use Rattle.sheet_blocks.specs.Blocks.{dividendBarred}
+use Rattle.judgement.specs.Judgement.{rule13, rule17, rule16, rule12, ruleLines, judgement}
 use Rattle.printing.specs.Lent.{lent}
 use Rattle.judged_text.specs.Judged.{textOf, judgedCall}
 use Rattle.aggregate.specs.Call.{blockRowsOf}

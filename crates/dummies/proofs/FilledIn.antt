@@ -29,7 +29,8 @@ use Rattle.order.specs.Entries.{exists}
 use Rattle.report.specs.Rows.{BLK, TOT, row, itemsFrom, blockRows, reportLength}
 use Rattle.report.proofs.Reread.{all-printable, buffer-read}
 use Rattle.credits.specs.Credits.{afterCredit}
-use Rattle.judgement.specs.Sheet.{blocksTo, sheetOf}
+use Rattle.sheet_blocks.specs.Blocks.{blocksTo}
+use Rattle.judgement.specs.Sheet.{sheetOf}
 use Rattle.printing.specs.Lent.{Done, untouched}
 use Rattle.printing.proofs.Lent.{filled}
 use Rattle.aggregate.proofs.Rows.{closed-long}

@@ -1,3 +1,2 @@
--- What an exported call leaves with its caller.
-pub mod Left
+-- The version of the exported calls. Assumes nothing.
 pub mod Version

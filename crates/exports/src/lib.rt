@@ -2,7 +2,6 @@
 // 0 and leaves the lent place as it was; a refused one gives its number and leaves all but the place as it was. Beside them the version of
 // these calls, for a caller to compare before it lends anything.
 ghost use mathlib.Core.Path.{_≡_};
-ghost use Rattle.refusal.specs.Outcome.{placeOf};
 ghost use Rattle.refusal.specs.Outcome.Outcome.{accepted};
 ghost use Rattle.block.specs.Call.{blockCall};
 ghost use Rattle.block.specs.Accepted.{BlockDemand3, FewSteps};
@@ -15,9 +14,9 @@ ghost use Rattle.aggregate.specs.Call.{sheetCall};
 ghost use Rattle.aggregate.specs.Demand.{Demand3};
 ghost use Rattle.convert.specs.Call.{convertCall, ConvertsBack};
 ghost use Rattle.sheet_check.specs.Call.{checkCall, ListsExactly};
-ghost use Rattle.printing.specs.Lent.{stated};
-ghost use Rattle.exports.specs.Left.{Never0, Leaves};
+ghost use Rattle.answers.specs.Left.{Leaves};
 ghost use Rattle.exports.specs.Version.{interfaceVersion};
+use answers::ACCEPTED;
 use block::BlockAnswer;
 use fluctuation::FluctuationAnswer;
 use guideline::BLOCK_FIGURES;
@@ -25,27 +24,7 @@ use guideline::BLOCK_NUMBERS;
 use guideline::GENERAL_FIGURES;
 use guideline::PARTS;
 use operational::OperationalAnswer;
-use printing::RoomAnswer;
-use refusal::Place;
 use shares::SharesAnswer;
-
-// Given by a call that is accepted. No refusal has this number.
-const ACCEPTED: u64 = 0;
-
-// The kind of a place: nowhere, a line, a position, a risk, a sheet.
-const NOWHERE: u64 = 0;
-
-// A line of the sheet.
-const LINE: u64 = 1;
-
-// A position in the call's numbers.
-const POSITION: u64 = 2;
-
-// A risk of a block.
-const RISK: u64 = 3;
-
-// A sheet of several.
-const SHEET: u64 = 4;
 
 // What the block call gives: the figures, and the steps of its two roots.
 const BLOCK_VALUES: usize = BLOCK_FIGURES + 2;
@@ -78,7 +57,7 @@ pub extern "C" fn tsav_block(
             *figures = [f.i, f.d, f.u, f.lt, f.k, s.i, s.d];
             ACCEPTED
         }
-        BlockAnswer::Refused(number, at) => refuse(number, at, place),
+        BlockAnswer::Refused(number, at) => answers::refuse(number, at, place),
     }
 }
 
@@ -98,7 +77,7 @@ pub extern "C" fn tsav_operational(
             *figure = [ro];
             ACCEPTED
         }
-        OperationalAnswer::Refused(number, at) => refuse(number, at, place),
+        OperationalAnswer::Refused(number, at) => answers::refuse(number, at, place),
     }
 }
 
@@ -121,7 +100,7 @@ pub extern "C" fn tsav_fluctuation(
             *figure = [result];
             ACCEPTED
         }
-        FluctuationAnswer::Refused(number, at) => refuse(number, at, place),
+        FluctuationAnswer::Refused(number, at) => answers::refuse(number, at, place),
     }
 }
 
@@ -153,7 +132,7 @@ pub extern "C" fn tsav_shares(
             ];
             ACCEPTED
         }
-        SharesAnswer::Refused(number, at) => refuse(number, at, place),
+        SharesAnswer::Refused(number, at) => answers::refuse(number, at, place),
     }
 }
 
@@ -170,7 +149,7 @@ pub extern "C" fn tsav_sheet(
     ensures { λ r. ⌜ (r ≡ 0 → Demand3 (now (sheet .entry)) (accepted (now (written .exit))) (now (report .exit))) ⌝ }
 {
     let answer = aggregate::sheet_call(sheet, report);
-    tell(answer, written, place)
+    answers::tell(answer, written, place)
 }
 
 // Accepted, `written` holds how many bytes of the lent room are the converted sheet, from its start. Where 0 is given, it converts back.
@@ -186,7 +165,7 @@ pub extern "C" fn tsav_convert(
     ensures { λ r. ⌜ (r ≡ 0 → ConvertsBack (now (sheet .entry)) (accepted (now (written .exit))) (now (room .exit))) ⌝ }
 {
     let answer = convert::convert_call(sheet, room);
-    tell(answer, written, place)
+    answers::tell(answer, written, place)
 }
 
 // Accepted, `written` holds how many bytes of the lent room are the listing, from its start. Where 0 is given, a line of the sheet is listed exactly
@@ -203,40 +182,5 @@ pub extern "C" fn tsav_check(
     ensures { λ r. ⌜ (r ≡ 0 → ListsExactly (now (sheet .entry)) (accepted (now (written .exit))) (now (room .exit))) ⌝ }
 {
     let answer = sheet_check::check_call(sheet, room);
-    tell(answer, written, place)
-}
-
-// What a call has answered that was lent room: how many bytes it has written, or its refusal.
-fn tell(answer: RoomAnswer, written: &mut [u64; 1], place: &mut [u64; 2]) -> u64
-    requires { ⌜ Never0 (stated answer) ⌝ }
-    ensures { λ r. ⌜ Leaves (stated answer) r (now (written .entry)) (now (place .entry)) (now (written .exit)) (now (place .exit)) ⌝ }
-{
-    match answer {
-        RoomAnswer::Accepted(length) => {
-            *written = [cast::word(length)];
-            ACCEPTED
-        }
-        RoomAnswer::Refused(number, at) => refuse(number, at, place),
-    }
-}
-
-// A refusal's number is given, and its place is written.
-fn refuse(number: u8, at: Place, place: &mut [u64; 2]) -> u64
-    ensures { λ r. ⌜ (r ≡ number) × (now (place .exit) ≡ placeOf at) ⌝ }
-{
-    *place = place_numbers(at);
-    cast::byte(number)
-}
-
-// The kind of a place, and its line, position, risk or sheet.
-fn place_numbers(at: Place) -> [u64; 2]
-    ensures { λ r. ⌜ r ≡ placeOf at ⌝ }
-{
-    match at {
-        Place::Nowhere => [NOWHERE, 0],
-        Place::Line(line) => [LINE, cast::word(line)],
-        Place::Position(position) => [POSITION, cast::word(position)],
-        Place::Risk(risk) => [RISK, cast::word(risk)],
-        Place::Sheet(sheet) => [SHEET, cast::word(sheet)],
-    }
+    answers::tell(answer, written, place)
 }

@@ -12,7 +12,7 @@ use Rattle.guideline.specs.Sizes.{fineness}
 use Rattle.guideline.specs.Block.{AcceptedBlock, U, LT, Vh, fineD, K, fineNumerator, requirement}
 use Rattle.guideline.proofs.Bounds.{factored}
 use Rattle.guideline.proofs.Figures.{numerator-within, requirement-some, v-is, u-high, u-fits, fine-d-high, fine-d-third}
-use Rattle.wide.proofs.division.Quotients.{up-most, up-twice}
+use Rattle.division.proofs.Quotients.{up-most, up-twice}
 use Rattle.figures.specs.Parts.{FigureBounds}
 
 -- what the numerator is over, but for V

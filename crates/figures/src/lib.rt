@@ -12,7 +12,6 @@ ghost use Rattle.figures.specs.RootSteps.{stepsOf};
 use guideline::BLOCK_NUMBERS;
 use guideline::FINENESS;
 use root::Root;
-use wide::division;
 use wide::words;
 
 // K's numerator is over this and V: 600,000, as U, LT, V and K are taken in hundredths beside D.

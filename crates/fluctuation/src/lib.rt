@@ -10,7 +10,6 @@ ghost use Rattle.fluctuation.specs.Accepted.{AcceptedFluctuation, Fluctu
 ghost use Rattle.fluctuation.specs.Parts.{factorFor, Falls, InReach};
 use refusal::Place;
 use wide::Wide;
-use wide::division;
 use wide::words;
 
 // The square of 20, for a first number in twentieths, times 100, for a base in cents.

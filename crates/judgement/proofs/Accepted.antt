@@ -13,7 +13,6 @@ use Rattle.search.specs.First.{anyTo}
 use Rattle.search.specs.Ascending.{ascending}
 use Rattle.search.specs.Total.{sumTo}
 use Rattle.search.proofs.Picks.{if-true, if-false, by-test, never}
-use Rattle.search.proofs.Ascents.{few, each-ascending}
 use Rattle.search.proofs.Totals.{sum-most}
 use Rattle.amount.specs.Amount.{limit}
 use Rattle.search.proofs.Anys.{none-before, none-to}
@@ -21,7 +20,7 @@ use Rattle.refusal.specs.Outcome.{printed, Judging, judging}
 use Rattle.refusal.specs.declared.Place.{Place}
 use Rattle.refusal.specs.declared.Place.the-variants.{Line, Nowhere}
 use Rattle.guideline.specs.Sizes.{blocks, adjustableProducts, largestScalar}
-use Rattle.guideline.specs.Block.{K, AcceptedBlock}
+use Rattle.guideline.specs.Block.{K}
 use Rattle.guideline.specs.Operational.{OperationalAmounts}
 use Rattle.guideline.specs.Buffer.{sumK, free, available, AcceptedSheet, mostAvailable}
 use Rattle.guideline.proofs.Totals.{sum-more, available-fits}
@@ -40,15 +39,12 @@ use Rattle.order.specs.Reading.Reading.{complete, stopped}
 use Rattle.ledger.proofs.Bounds.{first-most, none-unmarked, length-volumes, volumes-most, general-most, scalar-within}
 use Rattle.order.proofs.Lines.{all-read, reading-distinct, reading-stopped}
 use Rattle.credits.specs.Credits.{afterCredit, Covered}
-use Rattle.credits.proofs.Accepted.{all-covered, block-accepted}
-use Rattle.judgement.specs.Sheet.{blocksTo, sheetOf}
-use Rattle.judgement.specs.Judgement.{Judgement, rule13, dividendBarred, rule17, rule16, rule12, ruleLines, judgement}
+use Rattle.credits.proofs.Accepted.{all-covered}
+use Rattle.sheet_blocks.specs.Blocks.{blocksTo, dividendBarred}
+use Rattle.sheet_blocks.proofs.Figured.{few-blocks, blocks-accepted}
+use Rattle.judgement.specs.Sheet.{sheetOf}
+use Rattle.judgement.specs.Judgement.{Judgement, rule13, rule17, rule16, rule12, ruleLines, judgement}
 use Rattle.judgement.specs.Judgement.Judgement.{turnedAway, sound}
-
--- of n blocks at most n exist
-pub few-blocks : (es : List Entry) (n : ℕ) → length (blocksTo es n) ≤ n
-unfolding blocksTo
-few-blocks es n = few (exists es) (afterCredit es) n
 
 module _ (es : List Entry) (all : Each AcceptedLine es) where
   pub amounts-within : OperationalAmounts (sheetOf es .volumes) (sheetOf es .general)
@@ -93,13 +89,9 @@ dividends-most es all (suc n) h =
 
 -- what holds once no credit is above its block's LT(1)
 module _ (es : List Entry) (all : Each AcceptedLine es) (covered : Covered es) where
-  pub blocks-accepted : (n : ℕ) → Each AcceptedBlock (blocksTo es n)
-  unfolding blocksTo
-  blocks-accepted n = each-ascending (exists es) (λ b. afterCredit es b ∷ []) AcceptedBlock n (λ b l h t. (block-accepted es all covered b, tt))
-
   pub available-small : available (sheetOf es) ≤ mostAvailable
   unfolding sheetOf
-  available-small = available-fits (sheetOf es) (blocks-accepted blocks) (few-blocks es blocks) (amounts-within es all)
+  available-small = available-fits (sheetOf es) (blocks-accepted es all covered blocks) (few-blocks es blocks) (amounts-within es all)
 
 -- ---- a block that exists is one that there can be
 

@@ -23,9 +23,10 @@ use Rattle.ledger.specs.Tables.{Filled, Holds}
 use Rattle.ledger.specs.declared.Answer.{Answer}
 use Rattle.ledger.specs.declared.Answer.the-variants as answer
 use Rattle.order.proofs.Lines.{all-read}
-use Rattle.judgement.specs.Sheet.{sheetOf, rowsTo}
+use Rattle.sheet_blocks.specs.Blocks.{rowsTo, dividendBarred}
+use Rattle.judgement.specs.Sheet.{sheetOf}
 use Rattle.credits.specs.Credits.{creditAbove}
-use Rattle.judgement.specs.Judgement.{Judgement, rule13, dividendBarred, rule17, rule16, rule12, ruleLines, judgement, findings}
+use Rattle.judgement.specs.Judgement.{Judgement, rule13, rule17, rule16, rule12, ruleLines, judgement, findings}
 use Rattle.judgement.specs.Judgement.Judgement.{turnedAway, sound}
 use Rattle.judgement.specs.Judgement.Findings.{refusal, figures}
 use Rattle.judgement.specs.Steps.{LinesOf}

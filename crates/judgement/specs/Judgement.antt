@@ -1,7 +1,6 @@
 -- A sheet judged by every rule but 14, after document 01, 'What is turned away': 'Order: 1, 2; then the first bad line, in it 3, 4, 5, 6, 8, 9,
 -- 10, 11; then 12, 13', and document 02's 3 of a whole line before 2, 19 in a line, 'tested after 11', 16, 'after 12 and before 13', and 17, 'after
 -- 16 and before 13'. Each rule ends in the next one. Assumes nothing.
-use mathlib.Core.Bool.{Bool}
 use mathlib.Core.List.{List}
 use Prim.Native.Nat.{ℕ, _*_}
 use lib.Dec.{ltb}
@@ -11,19 +10,18 @@ use Rattle.search.specs.First.{anyTo}
 use Rattle.refusal.specs.declared.Place.{Place}
 use Rattle.refusal.specs.declared.Place.the-variants as place
 use Rattle.guideline.specs.Sizes.{nonParticipating, blocks, rowNumbers}
-use Rattle.guideline.specs.Block.{K}
 use Rattle.guideline.specs.Operational.{RO}
 use Rattle.guideline.specs.Buffer.{count, sumK, free, available, buffer}
 use Rattle.sheet_length.specs.Measured.{measured, afterLength}
 use Rattle.codes.specs.Codes.{scalarClass}
-use Rattle.codes.specs.declared.Code.the-variants.{Gen, Crd}
+use Rattle.codes.specs.declared.Code.the-variants.{Gen}
 use Rattle.sheet_line.specs.declared.Entry.{Entry}
-use Rattle.order.specs.Entries.{hasLine, exists}
-use Rattle.ledger.specs.Numbers.{dividendCredit}
+use Rattle.order.specs.Entries.{hasLine}
 use Rattle.order.specs.Reading.{Reading, reading}
 use Rattle.order.specs.Reading.Reading.{complete, stopped}
-use Rattle.credits.specs.Credits.{afterCredit, creditAbove}
-use Rattle.judgement.specs.Sheet.{sheetOf, rowsTo}
+use Rattle.credits.specs.Credits.{creditAbove}
+use Rattle.sheet_blocks.specs.Blocks.{rowsTo, dividendBarred}
+use Rattle.judgement.specs.Sheet.{sheetOf}
 use Rattle.judgement.specs.declared.Verdict.{Verdict}
 use Rattle.judgement.specs.declared.Verdict.the-variants.{Sound, TurnedAway}
 
@@ -38,10 +36,6 @@ pub data Judgement : Type 0 where
 -- against 'what is left'
 unfoldable pub rule13 : List Entry → Judgement
 rule13 es = pick (ltb (available (sheetOf es)) (free (sheetOf es))) (turnedAway 13 place.Nowhere) (sound es)
-
--- a dividend credit 'above its block's K or for a block that has no RSK or OTH line', whatever its amount
-unfoldable pub dividendBarred : List Entry → ℕ → Bool
-dividendBarred es b = pick (exists es b) (ltb (K (afterCredit es b)) (dividendCredit es b)) (hasLine es Crd b 1)
 
 -- rule 17, 'after 16 and before 13'
 unfoldable pub rule17 : List Entry → Judgement

@@ -3,13 +3,12 @@ use borrow.Rule.Slice.PartMut.{putMid}
 use mathlib.Core.Path.{_≡_, refl, sym, ap, _∙_}
 use mathlib.Core.List.{List}
 use Prim.Native.Nat.{ℕ, zero, suc, _+_, _-_, _*_, _≤_, _<_}
-use native.Mathlib.Nat.{add-sub-cancel-left}
 use native.Mathlib.Numerals.{add-one}
 use native.Mathlib.Omega.{arith}
 use lib.IntN.{ℤ, subℕ}
 use lib.ListN.{length, getD, set, take, drop, length-append}
 use Rattle.search.proofs.Picks.{if-lt, if-ge, by-test}
-use Rattle.search.proofs.Stretches.{Wrote, nothing, part, all-written}
+use Rattle.search.proofs.Stretches.{Wrote, nothing, lent-part, all-written}
 use Rattle.refusal.specs.declared.Place.the-variants.{Risk}
 use Rattle.amount.specs.Amount.{limit}
 use Rattle.guideline.specs.Sizes.{risks, numberColumns}
@@ -22,9 +21,9 @@ use Rattle.field.specs.Field.{leadingDigits, decimal}
 use Rattle.field.specs.Signed.{signed}
 use Rattle.field.proofs.Minus.{length-signed}
 use Rattle.field.proofs.Writing.{length-decimal}
-use Rattle.report_line.specs.Line.{reportLineBytes, key, lineIn, reportLine}
+use Rattle.report_line.specs.Line.{reportLineBytes, key, lineIn, reportLine, rowIn}
 use Rattle.report_line.proofs.ReadBack.{length-line}
-use Rattle.printing.specs.Printing.{REF, refusalLine}
+use Rattle.printing.specs.Printing.{REF, refusalRow, refusalLine}
 use Rattle.movement.specs.Call.{MOV, signedLine, movement, riskLine, riskLines, Unmoved}
 
 -- ---- a line whose number may be below 0
@@ -76,8 +75,8 @@ module _ {b : List ℕ} {k : ℕ} (u : Unmoved b k) (t i : ℕ) (h : i < risks) 
         let z = less-diff (K (raised b (suc i) t)) (K b) in
         rw (e, u .reported, ← raised-is, add-one) (ap (signedLine MOV 0 (suc i)) (sym z) ∙ sym (if-ge _ within))
 
-  pub refused-line : limit - getD b (2 * i) 0 < t → refusalLine 22 (Risk (i + 1)) ≡ riskLine b t (suc i)
-  unfolding riskLine
+  pub refused-line : limit - getD b (2 * i) 0 < t → rowIn numberColumns (refusalRow 22 (Risk (i + 1))) ≡ riskLine b t (suc i)
+  unfolding riskLine refusalLine
   refused-line w =
       let above : limit < ir b (suc i) + t = rw (place i) (omega (arith, component)) in
       rw add-one (sym (if-lt _ above))
@@ -107,7 +106,7 @@ module _ (b : List ℕ) (t : ℕ) where
     next-line {ys} h e =
         let a : reportLineBytes * suc i ≡ reportLineBytes * i + reportLineBytes = omega arith in
         let n : length (riskLine b t (suc i)) ≡ reportLineBytes = length-risk-line b t (suc i) in
-        (omega arith, rw (add-one, a, add-sub-cancel-left (reportLineBytes * i) reportLineBytes, e) (part (w .1) reportLineBytes (riskLine b t (suc i)) (omega arith) n))
+        (omega arith, rw (add-one, a, e) (lent-part (w .1) reportLineBytes (riskLine b t (suc i)) (omega arith) n))
 
     pub all-lines : risks ≤ i → l ≡ riskLines b t risks
     all-lines h =

@@ -2,7 +2,7 @@
 -- call; and with room for the text, what is printed is the text or the line of the refusal. Assumes nothing.
 use mathlib.Core.Path.{_≡_, refl, sym, ap, subst, subst⁻¹, _∙_}
 use mathlib.Core.List.{List, [], _∷_, _++_}
-use Prim.Native.Nat.{ℕ, _≤_, _<_}
+use Prim.Native.Nat.{ℕ, _^_, _≤_, _<_}
 use native.Mathlib.Omega.{arith}
 use lib.ListN.{length, drop, length-append, length-drop}
 use borrow.Author.Tests.{ltb-true, ltb-false}
@@ -11,13 +11,13 @@ use Rattle.refusal.specs.Outcome.{Outcome, Judging, printed}
 use Rattle.refusal.specs.Outcome.Outcome.{accepted, refused}
 use Rattle.refusal.specs.declared.Place.{Place}
 use Rattle.refusal.specs.declared.Place.the-variants.{Nowhere}
-use Rattle.guideline.specs.Sizes.{FitsColumns}
-use Rattle.report_line.proofs.ReadBack.{Printable}
+use Rattle.guideline.specs.Sizes.{numberColumns, FitsColumns}
+use Rattle.report_line.proofs.ReadBack.{PrintableIn, Printable}
 use Rattle.printing.specs.declared.RoomAnswer.{RoomAnswer}
 use Rattle.printing.specs.declared.RoomAnswer.the-variants.{Accepted, Refused}
 use Rattle.printing.specs.Lent.{Text, Done, stated, untouched, lent}
 use Rattle.printing.specs.Lent.Text.{noText, bytes}
-use Rattle.printing.specs.Printing.{REF, refusalLine, printout, Printed, Shown}
+use Rattle.printing.specs.Printing.{refusalRow, refusalLine, printout, Printed, Shown}
 
 -- a text in front of the room
 abbrev pub filled : List ℕ → List ℕ → Done
@@ -65,6 +65,10 @@ module _ (x : Text) (r : List ℕ) where
 
 -- ---- the numbers of its refusals
 
+-- a line has the columns for a refusal whose number has two digits, where its place fits
+pub refusal-row-fits : (w n : ℕ) (p : Place) → n < 100 → printed p < 10 ^ w → PrintableIn w (refusalRow n p)
+refusal-row-fits w n p h k = record { code = refl; block = omega (arith, h); item = omega (arith, h); number = k }
+
 -- every refusal of the input has a rule's number, and its place fits the columns of a line
 abbrev pub Numbered : Text → Type 0
 Numbered x = (n : ℕ) (p : Place) → x ≡ noText n p → Judging n × FitsColumns (printed p)
@@ -97,8 +101,8 @@ module _ (x : Text) (r : List ℕ) (numbered : Numbered x) where
   never-0 p e = subst RightNumber e call-numbered .0 refl
 
   -- so the line of a refusal has the columns that its number and its place need
-  pub refusal-fits : (n : ℕ) (p : Place) → x ≡ noText n p → Printable (record { code = REF; block = n; item = 0; number = printed p })
-  refusal-fits n p e = let w = numbered n p e in record { code = refl; block = w .0 .two-columns; item = omega arith; number = w .1 }
+  pub refusal-fits : (n : ℕ) (p : Place) → x ≡ noText n p → Printable (refusalRow n p)
+  refusal-fits n p e = let w = numbered n p e in refusal-row-fits numberColumns n p (w .0 .two-columns) (w .1)
 
 -- ---- what is printed, with room for the text
 

@@ -1,12 +1,13 @@
 -- What a program prints: a proved function leaves the bytes in a lent room, and the program writes them. 'Writes the report; on a refusal one line,
--- REF, the refusal's number in 5–6, 0 in 8–9, the place in 11–28.' Assumes nothing.
+-- REF, the refusal's number in 5–6, 0 in 8–9, the place in 11–28.' Document 02, #114, has the place in 11–29. Assumes nothing.
 use mathlib.Core.Path.{_≡_}
 use mathlib.Core.List.{List, [], _∷_, _++_}
 use Prim.Native.Nat.{ℕ}
 use lib.ListN.{length, drop}
 use Rattle.refusal.specs.Outcome.{printed}
 use Rattle.refusal.specs.declared.Place.{Place}
-use Rattle.report_line.specs.Line.{reportLine}
+use Rattle.guideline.specs.Sizes.{numberColumns}
+use Rattle.report_line.specs.Line.{Row, rowIn}
 use Rattle.printing.specs.declared.RoomAnswer.{RoomAnswer}
 use Rattle.printing.specs.declared.RoomAnswer.the-variants.{Accepted, Refused}
 use Rattle.printing.specs.Lent.{Text}
@@ -16,9 +17,13 @@ use Rattle.printing.specs.Lent.Text.{noText, bytes}
 abbrev pub REF : List ℕ
 REF = 82 ∷ 69 ∷ 70 ∷ []
 
--- the line of a refusal: its number, item 0 and its place
+-- what the line of a refusal says: its number, item 0 and its place
+abbrev pub refusalRow : ℕ → Place → Row
+refusalRow n p = record { code = REF; block = n; item = 0; number = printed p }
+
+-- that line in a report
 unfoldable pub refusalLine : ℕ → Place → List ℕ
-refusalLine number place = reportLine REF number 0 (printed place)
+refusalLine n p = rowIn numberColumns (refusalRow n p)
 
 -- the text, or the line of the refusal
 unfoldable pub printout : Text → List ℕ

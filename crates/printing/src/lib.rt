@@ -1,10 +1,9 @@
 // A call that leaves a text in lent room: what it answers, and what a program prints of it, the text or the line of the refusal.
 ghost use mathlib.Core.Path.{_≡_};
-ghost use Prim.Native.Nat.{_≤_};
+ghost use Prim.Native.Nat.{_-_, _≤_, _<_};
 ghost use lib.ListN.{length};
-ghost use Rattle.refusal.specs.Outcome.{printed};
-ghost use Rattle.report_line.specs.Line.{reportLineBytes};
-ghost use Rattle.printing.specs.Printing.{refusalLine, Shown};
+ghost use Rattle.report_line.specs.Line.{lineBytes, reportLineBytes, rowIn};
+ghost use Rattle.printing.specs.Printing.{refusalRow, Shown};
 use refusal::Place;
 use report_line::REPORT_LINE_BYTES;
 
@@ -29,23 +28,11 @@ pub fn print_answer(answer: RoomAnswer, room: &mut [u8]) -> usize
     }
 }
 
-// The line of a refusal.
+// The line of a refusal, in a stretch that is longer than a line without its place: the place has the columns that are left beside the rest of the line.
 pub fn write_refusal(out: &mut [u8], number: u8, place: Place)
-    requires { ⌜ length (now out) ≡ reportLineBytes ⌝ }
-    ensures { λ _. ⌜ now (out .exit) ≡ refusalLine number place ⌝ }
+    requires { ⌜ lineBytes 0 < length (now out) ⌝ }
+    ensures { λ _. ⌜ now (out .exit) ≡ rowIn (length (now (out .entry)) - lineBytes 0) (refusalRow number place) ⌝ }
 {
-    report_line::write_line(out, *b"REF", cast::byte(number), 0, place_number(place));
-}
-
-// What is printed of a place.
-pub fn place_number(place: Place) -> u64
-    ensures { λ r. ⌜ r ≡ printed place ⌝ }
-{
-    match place {
-        Place::Line(n) => cast::word(n),
-        Place::Position(n) => cast::word(n),
-        Place::Risk(n) => cast::word(n),
-        Place::Sheet(n) => cast::word(n),
-        Place::Nowhere => 0,
-    }
+    let at = refusal::place_numbers(place);
+    report_line::write_line_in(out, *b"REF", cast::byte(number), 0, at[1]);
 }

@@ -5,19 +5,18 @@ use mathlib.Core.Path.{_≡_, refl, sym, ap, subst, _∙_}
 use mathlib.Core.Bool.{Bool, true, false, true≢false}
 use mathlib.Core.List.{List, [], _∷_, _++_, map, append-nil}
 use Prim.Native.Nat.{ℕ, suc, _+_, _-_, _≤_, _<_}
-use native.Mathlib.Nat.{add-sub-cancel-left}
 use native.Mathlib.Omega.{arith}
 use lib.Dec.{ltb}
 use borrow.Author.Tests.{ltb-true, ltb-false, le-ltb, lt-ltb}
 use lib.ListN.{length, getD, take, drop, length-map, length-append}
 use lib.Seq.{take-nil, length-take-le, drop-cons}
-use Rattle.search.proofs.Stretches.{Wrote, from-front, front, part}
+use Rattle.search.proofs.Stretches.{front, put-behind}
 use Rattle.judgement.specs.Judgement.{judgement}
 use Rattle.sheet_length.specs.Measured.{longestSheet}
 use Rattle.report_line.specs.Line.{lineBytes, Row, rowIn, rowsIn}
 use Rattle.report_line.proofs.ReadBack.{append-in}
 use Rattle.stream.specs.Sheets.{sheetsIn, sheetsOf, one, count}
-use Rattle.stream.specs.Steps.{kept, Kept, Within, Fresh, SoFar, ScannedTo}
+use Rattle.stream.specs.Steps.{Kept, Within, Fresh, SoFar, ScannedTo}
 use Rattle.stream.specs.declared.Held.{Held}
 use Rattle.stream.specs.declared.Fed.{Fed}
 use Rattle.stream.specs.declared.Fed.the-variants as fed
@@ -178,8 +177,7 @@ module _ {s : List ℕ} {xs : List (List ℕ)} {room out : List ℕ} {h : Held} 
             let q : 1 + length xs ≡ n + 1 = omega (arith, G .sheets) in
             let l : length ys ≡ lineBytes columns = ap length y ∙ row-long (n + 1) (judgement x) in
             let B : linesLong n + lineBytes columns ≤ length out = omega (arith, G .out-long, not-many, G .sheets) in
-            let F : Wrote out (linesLong n) (rowsIn columns (sheetRows 1 xs)) out = from-front (G .lines) (omega arith) in
-            let W = part F (lineBytes columns) ys B l in
+            let W = put-behind (linesLong n) out (G .lines) (lineBytes columns) ys B l in
             let w : linesLong (n + 1) ≡ linesLong n + lineBytes columns = omega arith in
             let p : rowsIn columns (sheetRows 1 (xs ++ (x ∷ []))) ≡ rowsIn columns (sheetRows 1 xs) ++ ys =
             ap (rowsIn columns) (rows-more 1 xs x ∙ ap (λ (v : ℕ). sheetRows 1 xs ++ (sheetRow v (judgement x) ∷ [])) q) ∙ append-in columns (sheetRows 1 xs) (sheetRow (n + 1) (judgement x) ∷ [])
@@ -194,10 +192,10 @@ module _ {s : List ℕ} {xs : List (List ℕ)} {room out : List ℕ} {h : Held} 
                 so-far = S;
                 within = f .within (length after);
                 room-long = long ∙ G .room-long;
-                out-long = rw (add-sub-cancel-left (linesLong n) (lineBytes columns)) (W .long ∙ G .out-long);
+                out-long = W .long ∙ G .out-long;
                 sheets = rw (length-append xs (x ∷ [])) (omega (arith, G .sheets));
                 few = omega (arith, z, c, length-append xs (x ∷ []), not-many, G .sheets);
-                lines = rw (add-sub-cancel-left (linesLong n) (lineBytes columns), w, p) (front W);
+                lines = rw (w, p) (front W);
                 summary = a (acceptedOf 1 xs) (G .summary) ∙ ap summaryOf (ap (λ (v : ℕ). acceptedOf 1 xs ++ acceptedAs v (judgement x)) (sym q) ∙ sym (accepted-more 1 xs x));
               },
             )

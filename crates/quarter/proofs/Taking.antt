@@ -4,11 +4,9 @@ use mathlib.Core.Path.{_≡_, refl, sym, ap, subst, _∙_}
 use mathlib.Core.Bool.{Bool, true, false}
 use mathlib.Core.List.{List, _++_, append-assoc, append-nil}
 use Prim.Native.Nat.{ℕ, _+_, _-_, _≤_, _<_}
-use native.Mathlib.Nat.{add-sub-cancel-left}
 use native.Mathlib.Omega.{arith}
-use lib.ListN.{length, take, drop, length-drop, drop-of-length-le}
-use lib.Seq.{length-take-le, drop-drop, drop-at}
-use Rattle.search.proofs.Stretches.{Wrote, from-front, part}
+use lib.ListN.{length, take, drop, drop-of-length-le}
+use Rattle.search.proofs.Stretches.{behind, put-behind, from-further}
 use Rattle.judgement.specs.Judgement.{judgement}
 use Rattle.report_line.specs.Line.{lineBytes, rowIn}
 use Rattle.stream.specs.Steps.{Within, Fresh, ScannedTo}
@@ -72,14 +70,8 @@ pub behind-more : (out₀ out ys : List ℕ) (n : ℕ) → linesLong n + lineByt
     → drop (linesLong (n + 1)) (putMid (linesLong n) (linesLong n + lineBytes columns - linesLong n) out ys) ≡ drop (linesLong (n + 1)) out₀
 behind-more out₀ out ys n h l e =
     let w : linesLong (n + 1) ≡ linesLong n + lineBytes columns = omega arith in
-    let F : Wrote out (linesLong n) (take (linesLong n) out) out = from-front refl (omega arith) in
-    let W = part F (lineBytes columns) ys h l in
-    rw (add-sub-cancel-left (linesLong n) (lineBytes columns), w)
-    (ap (drop (linesLong n + lineBytes columns)) (W .text)
-    ∙ drop-at (take (linesLong n) out ++ ys) (drop (linesLong n + lineBytes columns) out) (linesLong n + lineBytes columns) (W .count)
-    ∙ sym (drop-drop (lineBytes columns) (linesLong n) out)
-    ∙ ap (drop (lineBytes columns)) e
-    ∙ drop-drop (lineBytes columns) (linesLong n) out₀)
+    let m : linesLong n ≤ linesLong n + lineBytes columns = omega arith in
+    rw w (behind (put-behind (linesLong n) out refl (lineBytes columns) ys h l) ∙ from-further out out₀ m e)
 
 -- ---- the loop
 
@@ -87,6 +79,7 @@ behind-more out₀ out ys n h l e =
 pub record Taking (room₀ out₀ : List ℕ) (h₀ : Held) (n₀ : ℕ) (m₀ : Summary) (chunk room out : List ℕ) (h : Held) (n : ℕ) (m : Summary) (at : ℕ) : Type 0 where
   pub begun : Begun room₀ out₀ (known false h₀ n₀ m₀)
   pub some : at ≤ length chunk
+  pub more : n₀ ≤ n
   pub behind : drop (linesLong n) out ≡ drop (linesLong n) out₀
   pub reached : (s : List ℕ) → After s room₀ out₀ (known false h₀ n₀ m₀) → Reached s chunk at room out h n m
 
@@ -97,6 +90,7 @@ module _ {room₀ out₀ : List ℕ} {q : Quarter} (f : q .over ≡ false) where
       record {
         begun = subst (λ (o : Bool). Begun room₀ out₀ (known o (q .held) (q .sheets) (q .summary))) f B;
         some = omega arith;
+        more = omega arith;
         behind = refl;
         reached = λ s A. begins chunk A refl;
       }
@@ -128,19 +122,15 @@ module _ {room₀ out₀ : List ℕ} {h₀ : Held} {n₀ : ℕ} {m₀ : Summary}
   pub line-fits : (n ≡ mostSheets → ⊥) → linesLong n + lineBytes columns ≤ length out
   line-fits d = omega (arith, here .going .out-long, not-many (here .going), here .going .sheets)
 
-  pub line-long : (n ≡ mostSheets → ⊥) → length (take (linesLong n + lineBytes columns - linesLong n) (drop (linesLong n) out)) ≡ lineBytes columns
-  line-long d =
-      rw (add-sub-cancel-left (linesLong n) (lineBytes columns)) (length-take-le (lineBytes columns) (drop (linesLong n) out) (rw length-drop (omega (arith, line-fits d))))
-
   pub taken-all : length chunk ≤ at → Taken room₀ out₀ (known false h₀ n₀ m₀) chunk room out (known false h n m)
-  taken-all l = record { after = λ s A. reached-end (T .reached s A) l; behind = T .behind }
+  taken-all l = record { after = λ s A. reached-end (T .reached s A) l; more = T .more; behind = T .behind }
 
   pub taken-many : n ≡ mostSheets → at < length chunk → Taken room₀ out₀ (known false h₀ n₀ m₀) chunk room out (known true h n m)
-  taken-many e l = record { after = λ s A. reached-many (T .reached s A) e l; behind = T .behind }
+  taken-many e l = record { after = λ s A. reached-many (T .reached s A) e l; more = T .more; behind = T .behind }
 
   module _ {r : Fed} {after : List ℕ} (S : ScannedTo room h chunk at r after) (long : length after ≡ length room) (d : n ≡ mostSheets → ⊥) where
     pub taken-on : {k : Held} → r ≡ fed.On k → Taken room₀ out₀ (known false h₀ n₀ m₀) chunk after out (known false k n m)
-    taken-on e = record { after = λ s A. reached-on (T .reached s A) S long d e; behind = T .behind }
+    taken-on e = record { after = λ s A. reached-on (T .reached s A) S long d e; more = T .more; behind = T .behind }
 
     pub closed-at : {j i : ℕ} → r ≡ fed.Closed j i → (j ≤ length after) × (at < i) × (i ≤ length chunk)
     closed-at e = closed-within (here .going) S long e
@@ -152,6 +142,7 @@ module _ {room₀ out₀ : List ℕ} {h₀ : Held} {n₀ : ℕ} {m₀ : Summary}
         record {
           begun = T .begun;
           some = closed-at e .2;
+          more = omega (arith, T .more);
           behind = behind-more out₀ out ys n (line-fits d) (ap length y ∙ row-long (n + 1) (judgement (take j after))) (T .behind);
           reached = λ s A. reached-next (T .reached s A) S long d e y f a;
         }
@@ -159,4 +150,4 @@ module _ {room₀ out₀ : List ℕ} {h₀ : Held} {n₀ : ℕ} {m₀ : Summary}
 -- ---- a state that has more than 60 sheets already
 
 pub taken-over : (room out chunk : List ℕ) (q : Quarter) → q .over ≡ true → Taken room out q chunk room out q
-taken-over room out chunk q t = record { after = λ s A. still-over chunk A t; behind = refl }
+taken-over room out chunk q t = record { after = λ s A. still-over chunk A t; more = omega arith; behind = refl }

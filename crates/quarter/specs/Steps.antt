@@ -2,8 +2,8 @@
 -- by how they were cut. Assumes nothing.
 use mathlib.Core.Path.{_≡_}
 use mathlib.Core.Bool.{false}
-use mathlib.Core.List.{List, _++_, map}
-use Prim.Native.Nat.{ℕ, suc, _+_, _*_}
+use mathlib.Core.List.{List, [], _∷_, _++_, map}
+use Prim.Native.Nat.{ℕ, suc, _+_, _*_, _≤_}
 use lib.Dec.{ltb}
 use lib.ListN.{length, take, drop}
 use Rattle.report_line.specs.Line.{lineBytes, rowsIn}
@@ -45,13 +45,26 @@ Begun room out q = (s : List ℕ) × After s room out q
 abbrev pub BegunIn : List ℕ → Quarter → Type 0
 BegunIn out q = (room : List ℕ) × Begun room out q
 
--- a chunk more: whichever bytes came before, what is known is that of them and the chunk, and the output behind the lines keeps its bytes
+-- a chunk more: whichever bytes came before, what is known is that of them and the chunk; no line is taken back, and the output behind the lines keeps
+-- its bytes
 pub record Taken (room₀ out₀ : List ℕ) (q₀ : Quarter) (chunk room out : List ℕ) (q : Quarter) : Type 0 where
   pub after : (s : List ℕ) → After s room₀ out₀ q₀ → After (s ++ chunk) room out q
+  pub more : q₀ .sheets ≤ q .sheets
   pub behind : drop (linesLong (q .sheets)) out ≡ drop (linesLong (q .sheets)) out₀
 
--- the end of the input: whichever bytes came, their text stands in front of the output, n bytes, the rest keeps its bytes, and the total in the text is
--- as near as it has to be
+-- all chunks of an input, one after the other
+unfoldable pub concat : List (List ℕ) → List ℕ
+concat [] = []
+concat (c ∷ cs) = c ++ concat cs
+
+-- each of them taken, from a state and its rooms to another
+abbrev pub Steps : List (List ℕ) → List ℕ → List ℕ → Quarter → List ℕ → List ℕ → Quarter → Type 0
+Steps [] room₀ out₀ q₀ room out q = (room₀ ≡ room) × (out₀ ≡ out) × (q₀ ≡ q)
+Steps (c ∷ cs) room₀ out₀ q₀ room out q =
+    (room₁ : List ℕ) × (out₁ : List ℕ) × (q₁ : Quarter) × Taken room₀ out₀ q₀ c room₁ out₁ q₁ × Steps cs room₁ out₁ q₁ room out q
+
+-- the end of the input: whichever bytes came, their text stands in front of the output, n bytes, the rest keeps its bytes, and the summary in the text
+-- says what it has to
 pub record Finished (out₀ : List ℕ) (q : Quarter) (n : ℕ) (out : List ℕ) : Type 0 where
   pub text : (s room : List ℕ) → After s room out₀ q → Printed (quarterText s) n out₀ out
-  pub accurate : (s room : List ℕ) → After s room out₀ q → QuarterDemand s (take n out)
+  pub demand : (s room : List ℕ) → After s room out₀ q → QuarterDemand s (take n out)

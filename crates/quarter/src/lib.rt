@@ -128,11 +128,11 @@ fn end_text(out: &mut [u8], q: Quarter) -> usize
     let from = LINE_BYTES * sheets;
     let line = from + LINE_BYTES;
     if q.over {
-        quarter_lines::write_refusal(&mut out[from..line], 24, Place::Sheet(sheets + 1));
+        printing::write_refusal(&mut out[from..line], 24, Place::Sheet(sheets + 1));
         return line;
     }
     if held.length != 0 {
-        quarter_lines::write_refusal(&mut out[from..line], 25, Place::Sheet(sheets + 1));
+        printing::write_refusal(&mut out[from..line], 25, Place::Sheet(sheets + 1));
         return line;
     }
     let items = summary::items(q.summary);

@@ -1,16 +1,18 @@
--- The total that the summary prints is read back off the text, and it is the total of the accepted sheets' buffers, whose accuracy the exact total has.
+-- The items of the summary are read back off the text, and say what they have to of the accepted sheets; the total is that of their buffers, which is
+-- as near the exact total as it has to be.
 -- Assumes nothing.
-use mathlib.Core.Path.{_≡_, refl, sym, ap, _∙_}
+use mathlib.Core.Path.{_≡_, refl, sym, ap, subst, _∙_}
 use mathlib.Core.Bool.{Bool, false}
 use mathlib.Core.List.{List, [], _∷_, _++_, append-nil}
-use Prim.Native.Nat.{ℕ, suc, _+_, _/_, _%_, _^_, _≤_, _<_}
+use Prim.Native.Nat.{ℕ, suc, _+_, _-_, _/_, _%_, _^_, _≤_, _<_}
 use native.Mathlib.Nat.{div-le-self, mod-le}
 use native.Mathlib.Omega.{arith}
 use lib.Dec.{eqb}
-use lib.ListN.{length}
+use lib.ListN.{length, getD, replicate, length-take}
+use borrow.Author.Tests.{ltb-false}
 use Rattle.search.specs.Pick.{pick}
 use Rattle.search.specs.Each.{Each}
-use Rattle.search.proofs.Picks.{if-false, if-ge, by-test}
+use Rattle.search.proofs.Picks.{if-false, by-test, never}
 use Rattle.search.proofs.Eaches.{each-append}
 use Rattle.field.specs.declared.Field.{Field}
 use Rattle.field.specs.declared.Field.the-variants.{Value}
@@ -22,16 +24,20 @@ use Rattle.judgement.proofs.Accepted.{sound-accepted, numbered}
 use Rattle.sheet_buffer.proofs.Answers.{buffer-most}
 use Rattle.report_line.specs.Line.{Row, rowsIn, equalBytes, foundAt}
 use Rattle.report_line.proofs.ReadBack.{PrintableIn, rowIs, numberAmong, read-in}
+use Rattle.printing.proofs.Lent.{refusal-row-fits}
 use Rattle.report.specs.Rows.{row, itemsFrom}
-use Rattle.stream.specs.Sheets.{sheetsOf, count}
-use Rattle.summary.specs.Together.{leading, foremost, smaller, larger, total, summaryOf, mean, remainder}
+use Rattle.report.proofs.Reread.{items-printable, number-append, items-found}
+use Rattle.refusal.specs.declared.Place.the-variants as place
+use Rattle.stream.specs.Sheets.{Sheets, sheetsOf, one, count}
+use Rattle.summary.specs.Together.{leading, foremost, smaller, larger, total, summaryOf, mean, remainder, itemsOf, SummaryIs}
 use Rattle.summary.specs.Exact.{totalBuffer, TotalDemand}
 use Rattle.summary.specs.declared.Accepted.{Accepted}
 use Rattle.summary.specs.declared.Summary.{Summary}
+use Rattle.summary.proofs.Summaries.{summary-is}
 use Rattle.summary.proofs.Totals.{total-demand}
-use Rattle.quarter_lines.specs.Printout.{mostSheets, columns, SUM, sheetRow, sheetRows, acceptedAs, acceptedOf, summaryRows, closedOr25, ending, quarterRows, quarterText}
-use Rattle.quarter_lines.specs.Demand.{soundAs, soundOnes, QuarterDemand}
-use Rattle.quarter_lines.proofs.Rows.{all-answered, Small, small-of, summary-total, few-accepted}
+use Rattle.quarter_lines.specs.Printout.{mostSheets, columns, SUM, sheetRow, answered, sheetRows, soundAs, acceptedAs, acceptedOf, summaryRows, closedOr25, ending, quarterRows, quarterText}
+use Rattle.quarter_lines.specs.Demand.{soundOnes, QuarterDemand}
+use Rattle.quarter_lines.proofs.Rows.{all-answered, summary-follows, Small, small-of, summary-total, few-accepted}
 
 -- ---- the accepted sheets
 
@@ -63,23 +69,43 @@ demand xs d = go (soundOnes xs) (accepted-sheets xs) d
     go [] a d = absurd (d refl)
     go (s ∷ ss) a d = total-demand s ss a
 
+-- ---- one sheet is accepted, or none
+
+none-sound : (n : ℕ) (xs : List (List ℕ)) → soundOnes xs ≡ [] → acceptedOf n xs ≡ []
+unfolding soundOnes soundAs acceptedOf acceptedAs
+none-sound n [] e = refl
+none-sound n (x ∷ xs) e = go (judgement x) e (none-sound (suc n) xs)
+  where
+    go : (j : Judgement) → soundAs j ++ soundOnes xs ≡ [] → (soundOnes xs ≡ [] → acceptedOf (suc n) xs ≡ []) → acceptedAs n j ++ acceptedOf (suc n) xs ≡ []
+    go (turnedAway k p) q ih = ih q
+    go (sound es) q ih = never (cc)
+
+zeros : (ys : List Accepted) → ys ≡ [] → itemsOf (summaryOf ys) ≡ replicate 8 0
+unfolding summaryOf mean remainder pick
+zeros ys e = rw e
+
+said : (ys : List Accepted) → (ys ≡ [] → ⊥) → SummaryIs ys (summaryOf ys)
+said [] d = absurd (d refl)
+said (a ∷ ys) d = summary-is a ys
+
+near : (xs : List (List ℕ)) → (acceptedOf 1 xs ≡ [] → ⊥) → TotalDemand (soundOnes xs) (summaryOf (acceptedOf 1 xs) .total)
+near xs d = rw (summary-total (acceptedOf 1 xs), total-is 1 xs) (demand xs (λ e. d (none-sound 1 xs e)))
+
 -- ---- every line has the columns for what it says
 
 abbrev Fits : Row → Type 0
 Fits r = PrintableIn columns r
 
-row-fits : (n : ℕ) (x : List ℕ) (j : Judgement) → judgement x ≡ j → n < 100 → Fits (sheetRow n j)
+sheet-fits : (n : ℕ) (x : List ℕ) (j : Judgement) → judgement x ≡ j → n < 100 → Fits (sheetRow n j)
 unfolding sheetRow
-row-fits n x (turnedAway k p) e h =
-    let w = numbered x k p e in
-    record { code = refl; block = w .0 .two-columns; item = omega arith; number = omega (arith, w .1) }
-row-fits n x (sound es) e h =
+sheet-fits n x (turnedAway k p) e h = let w = numbered x k p e in refusal-row-fits columns k p (w .0 .two-columns) (omega (arith, w .1))
+sheet-fits n x (sound es) e h =
     record { code = refl; block = h; item = omega arith; number = omega (arith, buffer-most (sheetOf es) (sound-accepted x es e)) }
 
-rows-fit : (n : ℕ) (xs : List (List ℕ)) → n + length xs ≤ 100 → Each Fits (sheetRows n xs)
+sheets-fit : (n : ℕ) (xs : List (List ℕ)) → n + length xs ≤ 100 → Each Fits (sheetRows n xs)
 unfolding sheetRows
-rows-fit n [] h = tt
-rows-fit n (x ∷ xs) h = (row-fits n x (judgement x) refl (omega arith), rows-fit (suc n) xs (omega arith))
+sheets-fit n [] h = tt
+sheets-fit n (x ∷ xs) h = (sheet-fits n x (judgement x) refl (omega arith), sheets-fit (suc n) xs (omega arith))
 
 small-foremost : (m : ℕ) (before : ℕ → ℕ → Bool) (a : Accepted) (bs : List Accepted) → Small m a → Each (Small m) bs → Small m (foremost before a bs)
 unfolding foremost
@@ -99,76 +125,69 @@ mean-small s = (
   by-test (λ v. v ≤ s .total) (eqb (s .count) 0) 0 (s .total % s .count) (λ t. omega arith) (λ t. mod-le (s .total) (s .count)),
 )
 
--- item i of the summary
-item-fits : (i v : ℕ) → i < 100 → v < 10 ^ columns → Fits (row SUM 0 i v)
-item-fits i v h k = record { code = refl; block = omega arith; item = h; number = k }
-
 summary-fits : (xs : List (List ℕ)) → length xs ≤ mostSheets → Each Fits (summaryRows (acceptedOf 1 xs))
-unfolding itemsFrom
 summary-fits xs h =
     let s = summaryOf (acceptedOf 1 xs) in
     let f = few-accepted 1 xs h in
     let w = ends-small 100 (omega arith) (acceptedOf 1 xs) (small-of 1 100 xs (omega arith)) in
-    let m = mean-small s in (
-      item-fits 1 _ (omega arith) (omega (arith, f .0)),
-      (
-        item-fits 2 _ (omega arith) (omega (arith, w .0 .buffer)),
-        (
-          item-fits 3 _ (omega arith) (omega (arith, w .0 .sheet)),
-          (
-            item-fits 4 _ (omega arith) (omega (arith, w .1 .buffer)),
-            (
-              item-fits 5 _ (omega arith) (omega (arith, w .1 .sheet)),
-              (
-                item-fits 6 _ (omega arith) (omega (arith, f .1)),
-                (item-fits 7 _ (omega arith) (omega (arith, f .1, m .0)), (item-fits 8 _ (omega arith) (omega (arith, f .1, m .1)), tt)),
-              ),
-            ),
-          ),
-        ),
-      ),
-    )
+    let m = mean-small s in
+    let low : Each (λ v. v < 10 ^ columns) (s .total ∷ mean s ∷ remainder s ∷ []) = (omega (arith, f .1), (omega (arith, f .1, m .0), (omega (arith, f .1, m .1), tt))) in
+    items-printable columns SUM 0 1 (itemsOf s) refl (omega arith) (omega arith)
+    (omega (arith, f .0), (omega (arith, w .0 .buffer), (omega (arith, w .0 .sheet), (omega (arith, w .1 .buffer), (omega (arith, w .1 .sheet), low)))))
 
--- ---- item 6 of the summary, behind the lines of the sheets
+closed-fits : (xs : List (List ℕ)) (r : List ℕ) → length xs + one r ≤ mostSheets → Each Fits (closedOr25 xs r)
+unfolding closedOr25
+closed-fits xs [] h = summary-fits xs (omega arith)
+closed-fits xs (b ∷ r) h = (refusal-row-fits columns 25 (place.Sheet (suc (length xs))) (omega arith) (omega arith), tt)
 
-passed : (n : ℕ) (j : Judgement) → rowIs (sheetRow n j) SUM 0 6 ≡ false
-unfolding sheetRow rowIs equalBytes pick
-passed n (turnedAway k p) = refl
-passed n (sound es) = refl
+ending-fits : (s : Sheets) → Each Fits (ending s)
+unfolding ending count
+ending-fits s =
+    by-test (Each Fits) _ _ _ (λ t. (refusal-row-fits columns 24 (place.Sheet (suc mostSheets)) (omega arith) (omega arith), tt))
+    (λ t. closed-fits (s .closed) (s .rest) (ltb-false _ _ t))
 
-behind-sheets : (n : ℕ) (xs : List (List ℕ)) (rs : List Row) (z : Field) → numberAmong (sheetRows n xs ++ rs) SUM 0 6 z ≡ numberAmong rs SUM 0 6 z
-unfolding sheetRows numberAmong
-behind-sheets n [] rs z = refl
-behind-sheets n (x ∷ xs) rs z = if-false _ (passed n (judgement x)) ∙ behind-sheets (suc n) xs rs z
+-- all lines of an input, whatever it ends with
+pub rows-fit : (s : List ℕ) → Each Fits (quarterRows s)
+rows-fit s =
+    each-append Fits (sheetRows 1 (answered s)) (ending (sheetsOf s))
+    (sheets-fit 1 (answered s) (omega (arith, length-take mostSheets (sheetsOf s .closed)))) (ending-fits (sheetsOf s))
 
-sixth : (a b c d e f g h : ℕ) (z : Field) → numberAmong (itemsFrom 1 SUM 0 (a ∷ b ∷ c ∷ d ∷ e ∷ f ∷ g ∷ h ∷ [])) SUM 0 6 z ≡ Value f
-unfolding itemsFrom numberAmong rowIs equalBytes pick
-sixth a b c d e f g h z = refl
+-- ---- the items of the summary, behind the lines of the sheets
+
+module _ (i : ℕ) where
+  other-code : (n : ℕ) (j : Judgement) → rowIs (sheetRow n j) SUM 0 i ≡ false
+  unfolding sheetRow rowIs equalBytes pick
+  other-code n (turnedAway k p) = refl
+  other-code n (sound es) = refl
+
+  sheets-passed : (n : ℕ) (xs : List (List ℕ)) (z : Field) → numberAmong (sheetRows n xs) SUM 0 i z ≡ z
+  unfolding sheetRows numberAmong
+  sheets-passed n [] z = refl
+  sheets-passed n (x ∷ xs) z = if-false _ (other-code n (judgement x)) ∙ sheets-passed (suc n) xs z
+
+  item-found : (xs : List (List ℕ)) (ns : List ℕ) (z : Field) → 1 ≤ i → i ≤ length ns
+      → numberAmong (sheetRows 1 xs ++ itemsFrom 1 SUM 0 ns) SUM 0 i z ≡ Value (getD ns (i - 1) 0)
+  unfolding equalBytes pick
+  item-found xs ns z h k =
+      number-append SUM 0 i (sheetRows 1 xs) (itemsFrom 1 SUM 0 ns) z ∙ sheets-passed 1 xs _ ∙ items-found SUM 0 i refl 1 ns z h (omega arith)
 
 -- ---- the text
 
-ends-summary : (s : List ℕ) → count (sheetsOf s) ≤ mostSheets → sheetsOf s .rest ≡ [] → quarterRows s ≡ sheetRows 1 (sheetsOf s .closed) ++ summaryRows (acceptedOf 1 (sheetsOf s .closed))
-unfolding ending closedOr25
-ends-summary s c r =
-    let e : ending (sheetsOf s) ≡ summaryRows (acceptedOf 1 (sheetsOf s .closed)) = if-ge _ c ∙ ap (closedOr25 (sheetsOf s .closed)) r in
-    (λ i. sheetRows 1 (all-answered s c i) ++ e i)
-
 pub quarter-demand : (s : List ℕ) → QuarterDemand s (quarterText s)
-unfolding quarterText count
-quarter-demand s c r d =
+unfolding quarterText
+quarter-demand s c r =
     let xs = sheetsOf s .closed in
+    let ns = itemsOf (summaryOf (acceptedOf 1 xs)) in
     let rs = sheetRows 1 xs ++ summaryRows (acceptedOf 1 xs) in
-    let l : length xs ≤ mostSheets = omega arith in
-    let t : rowsIn columns (quarterRows s) ≡ rowsIn columns rs ++ [] = ap (rowsIn columns) (ends-summary s c r) ∙ sym (append-nil (rowsIn columns rs)) in
-    let fits = each-append Fits (sheetRows 1 xs) (summaryRows (acceptedOf 1 xs)) (rows-fit 1 xs (omega arith)) (summary-fits xs l) in
-    let z = foundAt columns [] SUM 0 6 in
+    let q : quarterRows s ≡ rs = (λ i. sheetRows 1 (all-answered s c i) ++ summary-follows (sheetsOf s) c r i) in
+    let t : rowsIn columns (quarterRows s) ≡ rowsIn columns rs ++ [] = ap (rowsIn columns) q ∙ sym (append-nil (rowsIn columns rs)) in
+    let fits = subst (Each Fits) q (rows-fit s) in
     record {
-      total = totalBuffer (soundOnes xs);
-      reads-total =
-          ap (λ (v : List ℕ). foundAt columns v SUM 0 6) t
-          ∙ read-in columns (omega arith) rs (row SUM 0 6 0) [] fits (item-fits 6 0 (omega arith) (omega arith))
-          ∙ behind-sheets 1 xs (summaryRows (acceptedOf 1 xs)) z
-          ∙ sixth _ _ _ _ _ _ _ _ z
-          ∙ ap Value (summary-total (acceptedOf 1 xs) ∙ total-is 1 xs);
-      accurate = demand xs d;
+      summary = summaryOf (acceptedOf 1 xs);
+      reads = λ i h k.
+          ap (λ (v : List ℕ). foundAt columns v SUM 0 i) t
+          ∙ read-in columns (omega arith) rs (row SUM 0 i 0) [] fits (record { code = refl; block = omega arith; item = omega arith; number = omega arith })
+          ∙ item-found i xs ns _ h (omega (arith, k));
+      none = zeros (acceptedOf 1 xs);
+      some = λ d. (said (acceptedOf 1 xs) d, near xs d);
     }

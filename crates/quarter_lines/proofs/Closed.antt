@@ -1,23 +1,19 @@
 -- A sheet that is closed: what is written is its line, and the summary is that with it. Assumes nothing.
 use mathlib.Core.Path.{_≡_, sym, ap, _∙_}
 use mathlib.Core.List.{List, [], _∷_, _++_, append-nil}
-use Prim.Native.Nat.{ℕ, _+_, _-_, _^_, _<_}
+use Prim.Native.Nat.{ℕ, _+_, _^_, _<_}
 use native.Mathlib.Omega.{arith}
-use lib.ListN.{length}
 use Rattle.refusal.specs.Outcome.Outcome.{accepted, refused}
 use Rattle.refusal.specs.declared.Place.{Place}
 use Rattle.judgement.specs.Judgement.{Judgement, judgement}
 use Rattle.sheet_buffer.specs.Answer.{bufferOf}
 use Rattle.sheet_buffer.proofs.Answers.{is-sound, is-turned, answer-most}
-use Rattle.report_line.specs.Line.{lineBytes, lineIn, rowIn}
+use Rattle.printing.specs.Printing.{refusalRow}
+use Rattle.report_line.specs.Line.{lineIn, rowIn}
 use Rattle.summary.specs.Together.{summaryOf}
 use Rattle.summary.specs.declared.Accepted.{Accepted}
 use Rattle.summary.specs.declared.Summary.{Summary}
-use Rattle.quarter_lines.specs.Printout.{columns, Few, SHT, refusalRow, sheetRow, acceptedAs}
-
--- a line of 30 bytes has 19 columns for its number
-pub in-columns : (l c ys : List ℕ) (a b n : ℕ) → length l ≡ lineBytes columns → ys ≡ lineIn (length l - lineBytes 0) c a b n → ys ≡ lineIn columns c a b n
-in-columns l c ys a b n h e = let w : length l - lineBytes 0 ≡ columns = omega arith in e ∙ ap (λ (k : ℕ). lineIn k c a b n) w
+use Rattle.quarter_lines.specs.Printout.{columns, Few, SHT, sheetRow, soundAs, acceptedAs}
 
 module _ (x : List ℕ) (n : ℕ) where
   module _ {b : ℕ} (e : accepted (b ∷ []) ≡ bufferOf (judgement x)) where
@@ -26,7 +22,7 @@ module _ (x : List ℕ) (n : ℕ) where
     accepted-line = let w = is-sound (judgement x) e in ap (λ (j : Judgement). rowIn columns (sheetRow n j)) (w .1) ∙ ap (lineIn columns SHT n 1) (sym (w .2))
 
     accepted-one : acceptedAs n (judgement x) ≡ record { sheet = n; buffer = b } ∷ []
-    unfolding acceptedAs
+    unfolding acceptedAs soundAs
     accepted-one = let w = is-sound (judgement x) e in ap (acceptedAs n) (w .1) ∙ ap (λ (v : ℕ). record { sheet = n; buffer = v } ∷ []) (sym (w .2))
 
     pub accepted-fits : (m : Summary) → Few m → (m .count + 1 < 2 ^ 64) × (m .total + b < 2 ^ 64)
@@ -43,5 +39,5 @@ module _ (x : List ℕ) (n : ℕ) where
     refused-line = let w = is-turned (judgement x) e in rw w
 
     pub refused-with : (zs : List Accepted) {m : Summary} → m ≡ summaryOf zs → m ≡ summaryOf (zs ++ acceptedAs n (judgement x))
-    unfolding acceptedAs
+    unfolding acceptedAs soundAs
     refused-with zs s = let w = is-turned (judgement x) e in s ∙ rw (w, append-nil)

@@ -1,5 +1,5 @@
 -- The lines of sheets and the accepted ones of them: a sheet more, sheets cut at the room, and how many and how large they are. Assumes nothing.
-use mathlib.Core.Path.{_≡_, refl, sym}
+use mathlib.Core.Path.{_≡_, refl, sym, ap, _∙_}
 use mathlib.Core.List.{List, [], _∷_, _++_, map, append-assoc, append-nil}
 use Prim.Native.Nat.{ℕ, suc, _+_, _≤_, _<_}
 use native.Mathlib.Nat.{mul-le-mul-left}
@@ -7,6 +7,7 @@ use native.Mathlib.Omega.{arith}
 use lib.ListN.{length, take, length-append}
 use lib.Seq.{take-all}
 use Rattle.search.specs.Each.{Each}
+use Rattle.search.proofs.Picks.{if-ge}
 use Rattle.search.proofs.Eaches.{each-append}
 use Rattle.guideline.specs.Buffer.{buffer}
 use Rattle.judgement.specs.Sheet.{sheetOf}
@@ -18,17 +19,27 @@ use Rattle.sheet_buffer.specs.Answer.{mostBuffer}
 use Rattle.sheet_buffer.proofs.Answers.{cut-judged, buffer-most}
 use Rattle.report_line.specs.Line.{lineBytes, rowIn}
 use Rattle.report_line.proofs.ReadBack.{length-in}
-use Rattle.stream.specs.Sheets.{sheetsOf, count}
+use Rattle.stream.specs.Sheets.{Sheets, sheetsOf, count}
 use Rattle.summary.specs.Together.{total, summaryOf}
 use Rattle.summary.specs.declared.Accepted.{Accepted}
 use Rattle.summary.proofs.Foremost.{each-map}
 use Rattle.summary.proofs.Summaries.{total-most}
-use Rattle.quarter_lines.specs.Printout.{mostSheets, columns, Few, answered, sheetRow, sheetRows, acceptedAs, acceptedOf}
+use Rattle.quarter_lines.specs.Printout.{mostSheets, columns, Few, answered, sheetRow, sheetRows, soundAs, acceptedAs, acceptedOf, summaryRows, closedOr25, ending}
 
 -- not more than 60 sheets are all answered
 pub all-answered : (s : List ℕ) → count (sheetsOf s) ≤ mostSheets → answered s ≡ sheetsOf s .closed
 unfolding count
 all-answered s h = take-all mostSheets (sheetsOf s .closed) (omega arith)
+
+-- .. and no 24 follows them
+pub not-more : (s : Sheets) → count s ≤ mostSheets → ending s ≡ closedOr25 (s .closed) (s .rest)
+unfolding ending
+not-more s h = if-ge _ h
+
+-- but the summary, where nothing stands after the last closing line
+pub summary-follows : (s : Sheets) → count s ≤ mostSheets → s .rest ≡ [] → ending s ≡ summaryRows (acceptedOf 1 (s .closed))
+unfolding closedOr25
+summary-follows s h r = not-more s h ∙ ap (closedOr25 (s .closed)) r
 
 -- ---- a sheet more, behind the others
 
@@ -67,7 +78,7 @@ pub row-long : (n : ℕ) (j : Judgement) → length (rowIn columns (sheetRow n j
 row-long n j = length-in columns (sheetRow n j .code) (sheetRow n j .block) (sheetRow n j .item) (sheetRow n j .number) (code-long n j)
 
 few-as : (n : ℕ) (j : Judgement) → length (acceptedAs n j) ≤ 1
-unfolding acceptedAs
+unfolding acceptedAs soundAs
 few-as n (turnedAway k p) = omega arith
 few-as n (sound es) = omega arith
 
@@ -82,7 +93,7 @@ pub record Small (below : ℕ) (a : Accepted) : Type 0 where
   pub buffer : a .buffer ≤ mostBuffer
 
 small-as : (n m : ℕ) (x : List ℕ) (j : Judgement) → judgement x ≡ j → n < m → Each (Small m) (acceptedAs n j)
-unfolding acceptedAs
+unfolding acceptedAs soundAs
 small-as n m x (turnedAway k p) e h = tt
 small-as n m x (sound es) e h = (record { sheet = h; buffer = buffer-most (sheetOf es) (sound-accepted x es e) }, tt)
 

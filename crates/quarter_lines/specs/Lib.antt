@@ -1,3 +1,3 @@
--- What is printed of an input that holds sheets, and the accuracy of the total in it. Assumes nothing.
+-- What is printed of an input that holds sheets, and what its summary says. Assumes nothing.
 pub mod Printout
 pub mod Demand

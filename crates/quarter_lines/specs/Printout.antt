@@ -2,21 +2,19 @@
 -- each its buffer (SHT, sheet, 1) or its REF line, then as SUM, 0, items 1 to 8 ..'. 'It refuses, as number 24 with the sheet, an input with more than
 -- 60 sheets, and, as number 25 with the sheet, one whose last sheet isn't closed, 24 first; the sheets before it are answered and no summary follows.'
 -- Assumes nothing.
-use mathlib.Core.List.{List, [], _∷_, _++_}
+use mathlib.Core.List.{List, [], _∷_, _++_, map}
 use Prim.Native.Nat.{ℕ, suc, _*_, _≤_}
 use lib.Dec.{ltb}
 use lib.ListN.{length, take}
 use Rattle.search.specs.Pick.{pick}
-use Rattle.refusal.specs.Outcome.{printed}
-use Rattle.refusal.specs.declared.Place.{Place}
 use Rattle.refusal.specs.declared.Place.the-variants as place
-use Rattle.guideline.specs.Buffer.{buffer}
+use Rattle.guideline.specs.Buffer.{Sheet, buffer}
 use Rattle.judgement.specs.Sheet.{sheetOf}
 use Rattle.judgement.specs.Judgement.{Judgement, judgement}
 use Rattle.judgement.specs.Judgement.Judgement.{turnedAway, sound}
 use Rattle.sheet_buffer.specs.Answer.{mostBuffer}
 use Rattle.report_line.specs.Line.{Row, rowsIn}
-use Rattle.printing.specs.Printing.{REF}
+use Rattle.printing.specs.Printing.{refusalRow}
 use Rattle.report.specs.Rows.{row, itemsFrom}
 use Rattle.stream.specs.Sheets.{Sheets, sheetsOf, count}
 use Rattle.summary.specs.declared.Accepted.{Accepted}
@@ -42,11 +40,7 @@ SHT = 83 ∷ 72 ∷ 84 ∷ []
 abbrev pub SUM : List ℕ
 SUM = 83 ∷ 85 ∷ 77 ∷ []
 
--- a 'REF line': the refusal's number, 0 and the place
-abbrev pub refusalRow : ℕ → Place → Row
-refusalRow n p = row REF n 0 (printed p)
-
--- of sheet n, as it is judged: 'its buffer (SHT, sheet, 1) or its REF line'
+-- of sheet n, as it is judged: 'its buffer (SHT, sheet, 1) or its REF line', whose number stands in 5–6 and 0 in 8–9 as in a report
 unfoldable pub sheetRow : ℕ → Judgement → Row
 sheetRow n (turnedAway k p) = refusalRow k p
 sheetRow n (sound es) = row SHT n 1 (buffer (sheetOf es))
@@ -56,10 +50,14 @@ unfoldable pub sheetRows : ℕ → List (List ℕ) → List Row
 sheetRows n [] = []
 sheetRows n (x ∷ xs) = sheetRow n (judgement x) ∷ sheetRows (suc n) xs
 
+-- the amounts of a sheet, if it is accepted
+unfoldable pub soundAs : Judgement → List Sheet
+soundAs (turnedAway k p) = []
+soundAs (sound es) = sheetOf es ∷ []
+
 -- sheet n with its buffer, if it is accepted
 unfoldable pub acceptedAs : ℕ → Judgement → List Accepted
-acceptedAs n (turnedAway k p) = []
-acceptedAs n (sound es) = record { sheet = n; buffer = buffer (sheetOf es) } ∷ []
+acceptedAs n j = map (λ s. record { sheet = n; buffer = buffer s }) (soundAs j)
 
 -- the accepted ones of sheets that are numbered from n on
 unfoldable pub acceptedOf : ℕ → List (List ℕ) → List Accepted

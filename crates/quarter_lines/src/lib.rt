@@ -1,4 +1,4 @@
-// The lines of the quarter's sheets: that of a sheet, with what it adds to the summary, and that of a refusal.
+// The lines of the quarter's sheets: that of a sheet, with what it adds to the summary.
 ghost use mathlib.Core.Path.{_≡_};
 ghost use mathlib.Core.List.{List, _++_};
 ghost use lib.ListN.{length};
@@ -6,8 +6,7 @@ ghost use Rattle.judgement.specs.Judgement.{judgement};
 ghost use Rattle.report_line.specs.Line.{lineBytes, rowIn};
 ghost use Rattle.summary.specs.Together.{summaryOf};
 ghost use Rattle.summary.specs.declared.Accepted.{Accepted};
-ghost use Rattle.quarter_lines.specs.Printout.{columns, Few, refusalRow, sheetRow, acceptedAs};
-use refusal::Place;
+ghost use Rattle.quarter_lines.specs.Printout.{columns, Few, sheetRow, acceptedAs};
 use sheet_buffer::BufferAnswer;
 use summary::Accepted;
 use summary::Summary;
@@ -32,22 +31,8 @@ pub fn answer_sheet(sheet: &[u8], line: &mut [u8], number: usize, summary: Summa
             summary::with_sheet(summary, Accepted { sheet: n, buffer })
         }
         BufferAnswer::Refused(rule, place) => {
-            write_refusal(line, rule, place);
+            printing::write_refusal(line, rule, place);
             summary
         }
     }
-}
-
-// The line of a refusal.
-pub fn write_refusal(line: &mut [u8], rule: u8, place: Place)
-    requires { ⌜ length (now line) ≡ lineBytes columns ⌝ }
-    ensures { λ _. ⌜ now (line .exit) ≡ rowIn columns (refusalRow rule place) ⌝ }
-{
-    report_line::write_line_in(
-        line,
-        *b"REF",
-        cast::byte(rule),
-        0,
-        printing::place_number(place),
-    );
 }

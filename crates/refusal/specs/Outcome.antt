@@ -7,6 +7,7 @@ use mathlib.Core.List.{List, [], _∷_}
 use Prim.Native.Nat.{ℕ, _<_}
 use native.Mathlib.Omega.{arith}
 use lib.Dec.{eqb, ltb}
+use lib.ListN.{getD}
 use borrow.Author.Tests.{eqb-false, ltb-true}
 use Rattle.refusal.specs.declared.Place.{Place}
 use Rattle.refusal.specs.declared.Place.the-variants.{Line, Position, Risk, Sheet, Nowhere}
@@ -18,21 +19,17 @@ pub data Outcome : Type 0 where
   -- the number of the row under which it is turned away, and the place
   refused : ℕ → Place → Outcome
 
--- the number of a place: 'printed, no place is 0'
-abbrev pub printed : Place → ℕ
-printed (Line n) = n
-printed (Position n) = n
-printed (Risk n) = n
-printed (Sheet n) = n
-printed Nowhere = 0
-
--- a place as its kind and its line, position, risk or sheet; 'printed, no place is 0'
+-- a place as its kind, which include/tsav.h names, and its line, position, risk or sheet; no place has 0
 abbrev pub placeOf : Place → List ℕ
 placeOf Nowhere = 0 ∷ 0 ∷ []
 placeOf (Line i) = 1 ∷ i ∷ []
 placeOf (Position i) = 2 ∷ i ∷ []
 placeOf (Risk i) = 3 ∷ i ∷ []
 placeOf (Sheet i) = 4 ∷ i ∷ []
+
+-- the number of a place: 'printed, no place is 0'
+abbrev pub printed : Place → ℕ
+printed p = getD (placeOf p) 1 0
 
 -- a number that judging a sheet refuses by: never 0, which an exported call gives where it accepts, never 14, which speaks of the lent
 -- room and not of the sheet, and none that passes the two columns of a REF line

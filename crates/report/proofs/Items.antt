@@ -3,12 +3,13 @@ use borrow.Rule.Slice.PartMut.{putMid}
 use mathlib.Core.Path.{_≡_, ap, _∙_}
 use mathlib.Core.List.{List, [], _∷_, _++_, append-nil}
 use Prim.Native.Nat.{ℕ, suc, _+_, _-_, _*_, _≤_, _<_}
-use native.Mathlib.Nat.{add-zero, add-sub-cancel-left, mul-le-mul-left}
+use native.Mathlib.Nat.{add-zero, mul-le-mul-left}
 use native.Mathlib.Numerals.{add-one}
 use native.Mathlib.Omega.{arith}
-use lib.ListN.{length, getD, take, drop, length-append, length-drop}
+use lib.ListN.{length, getD, take, drop, length-append}
 use lib.Seq.{take-suc, take-all, length-take-le}
-use Rattle.search.proofs.Stretches.{Wrote, nothing, part, all-written}
+use Rattle.search.proofs.Stretches.{Wrote, nothing, lent-part, all-written}
+use Rattle.search.proofs.Stretches as lent
 use Rattle.guideline.specs.Sizes.{numberColumns}
 use Rattle.report_line.specs.Line.{lineBytes, reportLineBytes, lineIn, rowsIn, printRows}
 use Rattle.report_line.proofs.ReadBack.{length-in, append-in}
@@ -47,7 +48,7 @@ module _ (c : List ℕ) (b : ℕ) where
           omega (arith, I .place, I .front .long)
 
       pub stretch-long : length (take (at + n - at) (drop at l)) ≡ n
-      stretch-long = rw (add-sub-cancel-left at n) (length-take-le n (drop at l) (rw length-drop (omega (arith, stretch))))
+      stretch-long = lent.stretch-long l at n stretch
 
       -- one line more, put back as the code lends its stretch
       pub next-item : {ys : List ℕ} → length c ≡ 3
@@ -65,7 +66,7 @@ module _ (c : List ℕ) (b : ℕ) where
           record {
             place = omega (arith, I .place);
             some = omega arith;
-            front = rw (add-sub-cancel-left at n, p) (part (I .front) n ys (omega (arith, stretch, I .front .long)) y);
+            front = rw p (lent-part (I .front) n ys (omega (arith, stretch, I .front .long)) y);
           }
 
     pub all-items : length ns ≤ k → l ≡ rowsIn (n - lineBytes 0) (itemsFrom 1 c b ns)

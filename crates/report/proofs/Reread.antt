@@ -2,7 +2,7 @@
 use mathlib.Core.Path.{_≡_, refl, _∙_}
 use mathlib.Core.Bool.{Bool, true, false}
 use mathlib.Core.List.{List, [], _∷_, _++_}
-use Prim.Native.Nat.{ℕ, zero, suc, _+_, _-_, _≤_, _<_}
+use Prim.Native.Nat.{ℕ, zero, suc, _+_, _-_, _^_, _≤_, _<_}
 use native.Mathlib.Decide.{ℕ-discrete}
 use native.Mathlib.Omega.{arith}
 use borrow.Author.Tests.{eq-eqb, ne-eqb}
@@ -15,21 +15,21 @@ use Rattle.search.proofs.Eaches.{each-append}
 use Rattle.search.proofs.Ascents.{each-ascending}
 use Rattle.field.specs.declared.Field.{Field}
 use Rattle.field.specs.declared.Field.the-variants.{Value}
-use Rattle.guideline.specs.Sizes.{blocks, blockFigures, FitsColumns}
+use Rattle.guideline.specs.Sizes.{blocks, blockFigures, numberColumns, FitsColumns}
 use Rattle.report_line.specs.Line.{Row, printRows, equalBytes, numberAt}
-use Rattle.report_line.proofs.ReadBack.{Printable, rowIs, numberAmong, rows-read}
+use Rattle.report_line.proofs.ReadBack.{PrintableIn, Printable, rowIs, numberAmong, rows-read}
 use Rattle.report.specs.Rows.{BLK, TOT, row, itemsFrom, blockRows, totalRows}
 
-pub items-printable : (c : List ℕ) (b i : ℕ) (ns : List ℕ) → length c ≡ 3 → b < 100 → i + length ns ≤ 100 → Each FitsColumns ns → Each Printable (itemsFrom i c b ns)
+pub items-printable : (w : ℕ) (c : List ℕ) (b i : ℕ) (ns : List ℕ) → length c ≡ 3 → b < 100 → i + length ns ≤ 100 → Each (λ n. n < 10 ^ w) ns → Each (PrintableIn w) (itemsFrom i c b ns)
 unfolding itemsFrom
-items-printable c b i [] h k l f = tt
-items-printable c b i (n ∷ ns) h k l f =
-    (record { code = h; block = k; item = omega arith; number = f .0 }, items-printable c b (suc i) ns h k (omega arith) (f .1))
+items-printable w c b i [] h k l f = tt
+items-printable w c b i (n ∷ ns) h k l f =
+    (record { code = h; block = k; item = omega arith; number = f .0 }, items-printable w c b (suc i) ns h k (omega arith) (f .1))
 
 -- ---- which row is found
 
 module _ (c : List ℕ) (b i : ℕ) where
-  number-append : (rs ss : List Row) (z : Field) → numberAmong (rs ++ ss) c b i z ≡ numberAmong rs c b i (numberAmong ss c b i z)
+  pub number-append : (rs ss : List Row) (z : Field) → numberAmong (rs ++ ss) c b i z ≡ numberAmong rs c b i (numberAmong ss c b i z)
   unfolding numberAmong
   number-append [] ss z = refl
   number-append (r ∷ rs) ss z = rw (number-append rs ss z)
@@ -42,7 +42,7 @@ module _ (c : List ℕ) (b i : ℕ) where
   items-passed c′ b′ h j (n ∷ ns) z = if-false _ (h j n) ∙ items-passed c′ b′ h (suc j) ns z
 
   -- lines of that code and block, the item among them
-  items-found : equalBytes c c ≡ true → (j : ℕ) (ns : List ℕ) (z : Field) → j ≤ i → i < j + length ns
+  pub items-found : equalBytes c c ≡ true → (j : ℕ) (ns : List ℕ) (z : Field) → j ≤ i → i < j + length ns
       → numberAmong (itemsFrom j c b ns) c b i z ≡ Value (getD ns (i - j) 0)
   unfolding itemsFrom numberAmong rowIs
   items-found h j [] z l k = absurd (omega arith)
@@ -100,8 +100,8 @@ module _ (exists : ℕ → Bool) (f : ℕ → List ℕ) (sum ro buffer : ℕ) (r
   all-printable =
       each-append Printable (linesTo exists f blocks) _
       (each-ascending exists (λ b. blockRows b (f b)) Printable blocks
-      (λ b l h t. let g = five b l h t in items-printable BLK b 1 (f b) refl (omega arith) (omega (arith, g .0)) (g .1)))
-      (items-printable TOT 0 1 _ refl (omega arith) (omega arith) totals)
+      (λ b l h t. let g = five b l h t in items-printable numberColumns BLK b 1 (f b) refl (omega arith) (omega (arith, g .0)) (g .1)))
+      (items-printable numberColumns TOT 0 1 _ refl (omega arith) (omega arith) totals)
 
   reads : (c : List ℕ) (b i : ℕ) → length c ≡ 3 → b < 100 → i < 100
       → numberAt (printRows rows ++ rest) c b i ≡ numberAmong (linesTo exists f blocks) c b i (numberAmong (totalRows sum ro buffer) c b i (numberAt rest c b i))

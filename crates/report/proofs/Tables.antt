@@ -3,12 +3,12 @@ use borrow.Rule.Slice.PartMut.{putMid}
 use mathlib.Core.Path.{_≡_, refl, sym, ap, _∙_}
 use mathlib.Core.List.{List, [], _∷_, _++_}
 use Prim.Native.Nat.{ℕ, _+_, _-_, _*_, _≤_}
-use native.Mathlib.Nat.{add-sub-cancel-left}
 use native.Mathlib.Numerals.{add-one}
 use native.Mathlib.Omega.{arith}
 use lib.ListN.{length, getD, take, drop, length-append, length-drop}
 use lib.Seq.{length-take-le}
-use Rattle.search.proofs.Stretches.{Wrote, nothing, part}
+use Rattle.search.proofs.Stretches.{Wrote, nothing, lent-part}
+use Rattle.search.proofs.Stretches as lent
 use Rattle.guideline.specs.Sizes.{blockFigures, rowNumbers}
 use Rattle.report_line.specs.Line.{reportLineBytes, rowsIn, printRows}
 use Rattle.report_line.proofs.ReadBack.{rows-append}
@@ -44,7 +44,7 @@ module _ (t : List ℕ) (i : ℕ) (within : rowNumbers * i + rowNumbers ≤ leng
 
   pub stretch-long : (l : List ℕ) → blockBytes * i + blockBytes ≤ length l → length (stretch l i) ≡ reportLineBytes * length (rowFigures t i)
   stretch-long l h =
-      rw (add-sub-cancel-left (blockBytes * i) blockBytes, row-figures-long) (length-take-le blockBytes (drop (blockBytes * i) l) (rw length-drop (omega arith)))
+      rw row-figures-long (lent.stretch-long l (blockBytes * i) blockBytes h)
 
   module _ (l₀ l : List ℕ) (W : Rows t i l₀ l) where
     -- one row more, put back as the code lends its stretch
@@ -56,7 +56,7 @@ module _ (t : List ℕ) (i : ℕ) (within : rowNumbers * i + rowNumbers ≤ leng
         let f : rowNumbers * i + rowNumbers - (rowNumbers * i + 1) ≡ blockFigures = omega arith in
         let n : length ys ≡ blockBytes = ap length e ∙ items-long BLK _ refl 1 (rowFigures t i) ∙ rw row-figures-long in
         let p : printRows (tableRows t (i + 1)) ≡ printRows (tableRows t i) ++ ys = rw (add-one i, rows-append, e, f) in
-        rw (add-sub-cancel-left (blockBytes * i) blockBytes, a, p) (part W blockBytes ys (omega (arith, W .long)) n)
+        rw (a, p) (lent-part W blockBytes ys (omega (arith, W .long)) n)
 
 pub all-rows : (t l₀ l : List ℕ) (i n : ℕ) → Rows t i l₀ l → i ≡ n → l ≡ printRows (tableRows t n) ++ drop (reportLineBytes * (blockFigures * n)) l₀
 all-rows t l₀ l i n W e =
@@ -80,5 +80,5 @@ module _ (t : List ℕ) (n sum ro buffer : ℕ) (l₀ l : List ℕ) (long : leng
       let a : blockBytes * n ≡ reportLineBytes * (blockFigures * n) = omega arith in
       let z : reportLineBytes * (blockFigures * n) + reportLineBytes * totals ≡ reportLength n = omega arith in
       let y : length ys ≡ reportLineBytes * totals = ap length f ∙ items-long TOT 0 refl 1 (sum ∷ ro ∷ buffer ∷ []) in
-      let w = part written (reportLineBytes * totals) ys (omega arith) y in
-      rw (a, add-sub-cancel-left (reportLineBytes * (blockFigures * n)) (reportLineBytes * totals)) (w .text ∙ rw (z, f, rows-append))
+      let w = lent-part written (reportLineBytes * totals) ys (omega arith) y in
+      rw a (w .text ∙ rw (z, f, rows-append))

@@ -31,6 +31,11 @@ key-filled l code block item xs ys h k p q =
     let y = put-is (putMid 4 2 l xs) 7 2 item ys q (omega arith) in
     rw (x, y, is-values 0 10 l h, is-values 0 3 code k) (filled (λ i. getD l i 0) (λ i. getD code i 0) block item)
 
+-- a line of a stretch has the columns for its number that its length leaves
+pub in-columns : (w : ℕ) (l code : List ℕ) (block item number : ℕ) {ys : List ℕ} → length l ≡ lineBytes w
+    → ys ≡ lineIn (length l - lineBytes 0) code block item number → ys ≡ lineIn w code block item number
+in-columns w l code block item number h e = let n : length l - lineBytes 0 ≡ w = omega arith in e ∙ ap (λ (k : ℕ). lineIn k code block item number) n
+
 -- columns 1–10 have ten bytes, where the code has three
 pub length-key : (code : List ℕ) (block item : ℕ) → length code ≡ 3 → length (key code block item ++ (32 ∷ [])) ≡ 10
 unfolding key

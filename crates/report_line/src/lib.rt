@@ -20,7 +20,7 @@ pub fn write_line(out: &mut [u8], code: [u8; 3], block: u64, item: u64, number: 
     write_line_in(out, code, block, item, number);
 }
 
-// Writes a line into a stretch of any length: the number has the columns that are left beside the rest of the line.
+// Writes a line into a stretch that is longer than a line without its number: the number has the columns that are left beside the rest of it.
 pub fn write_line_in(out: &mut [u8], code: [u8; 3], block: u64, item: u64, number: u64)
     requires { ⌜ lineBytes 0 < length (now out) ⌝ }
     ensures { λ _. ⌜ now (out .exit) ≡ lineIn (length (now (out .entry)) - lineBytes 0) code block item number ⌝ }

@@ -122,7 +122,7 @@ fn write_one(
     let Need::Companion(companion) = need else {
         return at;
     };
-    needs::write_listed(&mut room[at..at + LISTED_BYTES], line, companion);
+    listing::write_listed(&mut room[at..at + LISTED_BYTES], line, companion);
     at + LISTED_BYTES
 }
 

@@ -6,12 +6,12 @@ use Prim.Native.Nat.{ℕ}
 use native.Mathlib.Omega.{arith}
 use lib.ListN.{length, take, drop}
 use Rattle.stream.specs.Sheets.{sheetsOf}
-use Rattle.stream.specs.Steps.{Kept, fresh, Next, next, follow, Run, first, run, onwards, scanned, scannedRun, kept, Fresh, ScannedTo, SoFar}
+use Rattle.stream.specs.Steps.{Kept, fresh, Next, next, follow, Run, closedThen, run, scanned, kept, Fresh, ScannedTo, SoFar}
 use Rattle.stream.specs.Steps.Next.{on, closed}
 use Rattle.stream.specs.Steps.Scanned.{going, found}
 use Rattle.stream.specs.declared.Held.{Held}
 use Rattle.stream.specs.declared.Fed.the-variants as fed
-use Rattle.stream.proofs.Whole.{whole, run-append, run-scanned}
+use Rattle.stream.proofs.Whole.{onwards, scannedRun, whole, run-append, run-scanned}
 
 -- ---- the bytes up to a closing line
 
@@ -36,7 +36,7 @@ read-closing room (b ∷ c) k x r q = go (next room k b) refl q (read-closing ro
         record {
           bytes = b ∷ R .bytes;
           all = ap (λ (l : List ℕ). b ∷ l) (R .all);
-          closes = ap (λ (n : Next). follow n (λ j. run room j (R .bytes)) (λ y. first y (run room fresh (R .bytes)))) e ∙ R .closes;
+          closes = ap (λ (n : Next). follow n (λ j. run room j (R .bytes)) (λ y. closedThen y (run room fresh (R .bytes)))) e ∙ R .closes;
         }
     go (closed y) e q ih =
         let p : y ≡ x = cc in
@@ -44,7 +44,7 @@ read-closing room (b ∷ c) k x r q = go (next room k b) refl q (read-closing ro
         record {
           bytes = b ∷ [];
           all = ap (λ (l : List ℕ). b ∷ l) s;
-          closes = ap (λ (n : Next). follow n (λ j. run room j []) (λ y. first y (run room fresh []))) e ∙ ap (λ (z : List ℕ). record { closed = z ∷ []; held = fresh }) p;
+          closes = ap (λ (n : Next). follow n (λ j. run room j []) (λ y. closedThen y (run room fresh []))) e ∙ ap (λ (z : List ℕ). record { closed = z ∷ []; held = fresh }) p;
         }
 
 -- ---- the bytes so far

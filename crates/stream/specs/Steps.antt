@@ -52,39 +52,18 @@ pub record Run : Type 0 where
   pub closed : List (List ℕ)
   pub held : Kept
 
-abbrev pub first : List ℕ → Run → Run
-first s r = record { closed = s ∷ r .closed; held = r .held }
+-- a sheet more, before the others
+abbrev pub closedThen : List ℕ → Run → Run
+closedThen s r = record { closed = s ∷ r .closed; held = r .held }
 
 unfoldable pub run : ℕ → Kept → List ℕ → Run
 run room k [] = record { closed = []; held = k }
-run room k (b ∷ bs) = follow (next room k b) (λ j. run room j bs) (λ s. first s (run room fresh bs))
-
--- before any byte
-abbrev pub nothing : Run
-nothing = record { closed = []; held = fresh }
-
--- a chunk more after some bytes
-unfoldable pub onwards : ℕ → Run → List ℕ → Run
-onwards room r c = record { closed = r .closed ++ run room (r .held) c .closed; held = run room (r .held) c .held }
-
--- chunks, one after the other
-unfoldable pub runs : ℕ → Run → List (List ℕ) → Run
-runs room r [] = r
-runs room r (c ∷ cs) = runs room (onwards room r c) cs
-
-abbrev pub concat : List (List ℕ) → List ℕ
-concat [] = []
-concat (c ∷ cs) = c ++ concat cs
+run room k (b ∷ bs) = follow (next room k b) (λ j. run room j bs) (λ s. closedThen s (run room fresh bs))
 
 -- the bytes up to the first closing line: what is held after all of them, or the sheet that is closed and the bytes after its closing line
 pub data Scanned : Type 0 where
   going : Kept → Scanned
   found : List ℕ → List ℕ → Scanned
-
--- what all bytes do, by what the first of them do
-abbrev pub scannedRun : ℕ → Scanned → Run
-scannedRun room (going k) = record { closed = []; held = k }
-scannedRun room (found s bs) = first s (run room fresh bs)
 
 unfoldable pub scanned : ℕ → Kept → List ℕ → Scanned
 scanned room k [] = going k

@@ -56,7 +56,7 @@ abbrev pub itemsOf : Summary → List ℕ
 itemsOf s =
     s .count ∷ s .smallest .buffer ∷ s .smallest .sheet ∷ s .largest .buffer ∷ s .largest .sheet ∷ s .total ∷ mean s ∷ remainder s ∷ []
 
--- ---- what proofs/Summaries shows of the summary of some sheets
+-- ---- what the summary of some sheets says of them
 
 -- x is among the sheets; its buffer is at least as good as each of theirs, and better than those of all sheets ahead of it
 pub record FirstBest (AtLeast Better : ℕ → ℕ → Type 0) (xs : List Accepted) (x : Accepted) : Type 0 where

@@ -1,1 +1,1 @@
--- Each module's laws stand in its folder.
+-- The laws of the module `words` stand in its folder.

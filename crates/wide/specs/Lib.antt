@@ -1,3 +1,2 @@
--- What two words and a running sum stand for.
+-- What two words stand for. Assumes nothing.
 pub mod Value
-pub mod Sum

@@ -1,11 +1,10 @@
-// Numbers of two machine words: products, sums, differences and quarters.
+// Numbers of two machine words: products, sums and quarters.
 ghost use mathlib.Core.Path.{_≡_};
-ghost use Prim.Native.Nat.{_+_, _*_, _/_, _^_, _<_, _≤_};
+ghost use Prim.Native.Nat.{_+_, _*_, _/_, _^_, _<_};
 ghost use Rattle.wide.specs.Value.{value};
+use crate::LARGEST_WORD;
 use crate::Wide;
 
-// 2^64 - 1, the largest word.
-const LARGEST_WORD: u64 = 18446744073709551615;
 // 2^32: half words are digits in this base, and the product of two fits a word.
 const HALF_BASE: u64 = 4294967296;
 // 2^62, a quarter of what one of the upper word counts.
@@ -79,27 +78,5 @@ pub fn quarter_up(n: Wide) -> Wide
         down
     } else {
         add(down, Wide { high: 0, low: 1 })
-    }
-}
-
-// The difference of a and b, which is at most a.
-pub(crate) fn subtract(a: Wide, b: Wide) -> Wide
-    requires { ⌜ value b ≤ value a ⌝ }
-    ensures { λ r. ⌜ value r + value b ≡ value a ⌝ }
-{
-    let ah = a.high;
-    let al = a.low;
-    let bh = b.high;
-    let bl = b.low;
-    if bl <= al {
-        Wide {
-            high: ah - bh,
-            low: al - bl,
-        }
-    } else {
-        Wide {
-            high: ah - bh - 1,
-            low: LARGEST_WORD - (bl - al) + 1,
-        }
     }
 }

@@ -4,7 +4,7 @@ use Prim.Native.Nat.{ℕ, _/_, _%_}
 use native.Mathlib.Omega.{arith}
 use borrow.Author.Needs.{needs}
 use Rattle.wide.specs.Value.{value}
-use Rattle.wide.proofs.division.Quotients.{quotient-below}
+use Rattle.division.proofs.Quotients.{quotient-below}
 use Rattle.apportion.proofs.Parts.{quotient-is, rest-is, product-fits}
 use Rattle.apportion.proofs.part_of.Statement.{statement}
 use Rattle.apportion.proofs.part_of.Tie as tie

@@ -5,7 +5,7 @@ use borrow.Author.Needs.{needs}
 use Rattle.block.specs.Call.{stated}
 use Rattle.block.proofs.Accepted.{accepts-block}
 use Rattle.block.specs.Accepted.{BlockDemand3, FewSteps}
-use Rattle.exports.proofs.Answered.{answered, with-promise}
+use Rattle.answers.proofs.Answered.{answered, with-promise}
 use Rattle.exports.proofs.tsav_block.Statement.{statement}
 use Rattle.exports.proofs.tsav_block.Tie as tie
 

@@ -5,7 +5,7 @@ use borrow.Author.Needs.{needs}
 use Rattle.refusal.specs.Outcome.{Outcome}
 use Rattle.sheet_check.specs.Call.{ListsExactly}
 use Rattle.judged_text.proofs.Judged.{never-0}
-use Rattle.exports.proofs.Answered.{no-zero, told}
+use Rattle.answers.proofs.Answered.{no-zero, told}
 use Rattle.exports.proofs.tsav_check.Statement.{statement}
 use Rattle.exports.proofs.tsav_check.Tie as tie
 

@@ -5,7 +5,7 @@ use borrow.Author.Needs.{needs}
 use Rattle.refusal.specs.Outcome.{Outcome}
 use Rattle.convert.specs.Call.{ConvertsBack}
 use Rattle.convert.proofs.Calls.{never-0}
-use Rattle.exports.proofs.Answered.{no-zero, told}
+use Rattle.answers.proofs.Answered.{no-zero, told}
 use Rattle.exports.proofs.tsav_convert.Statement.{statement}
 use Rattle.exports.proofs.tsav_convert.Tie as tie
 

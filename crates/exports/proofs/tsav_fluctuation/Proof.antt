@@ -5,7 +5,7 @@ use borrow.Author.Needs.{needs}
 use Rattle.fluctuation.specs.Call.{stated}
 use Rattle.fluctuation.specs.Accepted.{FluctuationDemand}
 use Rattle.fluctuation.proofs.Accepted.{accepts-fluctuation}
-use Rattle.exports.proofs.Answered.{answered, with-promise}
+use Rattle.answers.proofs.Answered.{answered, with-promise}
 use Rattle.exports.proofs.tsav_fluctuation.Statement.{statement}
 use Rattle.exports.proofs.tsav_fluctuation.Tie as tie
 

@@ -3,7 +3,7 @@ use mathlib.Core.Path.{refl}
 use borrow.Author.Needs.{needs}
 use Rattle.operational.specs.Call.{stated}
 use Rattle.operational.proofs.Accepted.{accepts-operational}
-use Rattle.exports.proofs.Answered.{answered}
+use Rattle.answers.proofs.Answered.{answered}
 use Rattle.exports.proofs.tsav_operational.Statement.{statement}
 use Rattle.exports.proofs.tsav_operational.Tie as tie
 

@@ -5,7 +5,7 @@ use borrow.Author.Needs.{needs}
 use Rattle.shares.specs.Call.{stated}
 use Rattle.shares.specs.Accepted.{SharesDemand}
 use Rattle.shares.proofs.Accepted.{accepts-shares}
-use Rattle.exports.proofs.Answered.{answered, with-promise}
+use Rattle.answers.proofs.Answered.{answered, with-promise}
 use Rattle.exports.proofs.tsav_shares.Statement.{statement}
 use Rattle.exports.proofs.tsav_shares.Tie as tie
 

@@ -5,7 +5,7 @@ use borrow.Author.Needs.{needs}
 use Rattle.refusal.specs.Outcome.{Outcome}
 use Rattle.aggregate.specs.Demand.{Demand3}
 use Rattle.judged_text.proofs.Judged.{never-0}
-use Rattle.exports.proofs.Answered.{no-zero, told}
+use Rattle.answers.proofs.Answered.{no-zero, told}
 use Rattle.exports.proofs.tsav_sheet.Statement.{statement}
 use Rattle.exports.proofs.tsav_sheet.Tie as tie
 

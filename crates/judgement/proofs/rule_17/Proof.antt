@@ -10,7 +10,7 @@ use Rattle.guideline.specs.Sizes.{blocks}
 use Rattle.guideline.specs.Buffer.{free, available, mostAvailable}
 use Rattle.sheet_line.specs.declared.Entry.{Entry}
 use Rattle.judgement.specs.Sheet.{sheetOf}
-use Rattle.judgement.specs.Judgement.{dividendBarred}
+use Rattle.sheet_blocks.specs.Blocks.{dividendBarred}
 use Rattle.ledger.specs.Tables.{Holds}
 use Rattle.ledger.proofs.Tables.{general-is}
 use Rattle.judgement.proofs.Accepted.{dividends-most, available-small, free-small, scalar-ranged}

@@ -5,10 +5,11 @@ use native.Mathlib.Omega.{arith}
 use lib.ListN.{length}
 use lib.Seq.{length-take-le}
 use borrow.Author.Needs.{needs}
+use Rattle.search.proofs.Stretches.{stretch-long}
 use Rattle.report_line.specs.Line.{lineBytes}
 use Rattle.quarter_lines.specs.Printout.{columns}
 use Rattle.quarter.specs.Steps.{linesLong, longestOutput}
-use Rattle.quarter.proofs.Taking.{Taking, at-first, of-false, rooms, outs, out-is, held-within, few, line-fits, line-long, taken-all, taken-many, taken-on, closed-at, taken-next}
+use Rattle.quarter.proofs.Taking.{Taking, at-first, of-false, rooms, outs, out-is, held-within, few, line-fits, taken-all, taken-many, taken-on, closed-at, taken-next}
 use Rattle.quarter.proofs.take_bytes.Statement.{statement}
 use Rattle.quarter.proofs.take_bytes.Tie as tie
 
@@ -71,7 +72,7 @@ answer-sheet-requires c κs =
     let f = c .before .before .before .before .before .before .before in
     let i = f .before .before in
     let l = i .before .before in
-    (line-long (l .loop .inv) (i .if1 .left), few (l .loop .inv))
+    (stretch-long _ _ _ (line-fits (l .loop .inv) (i .if1 .left)), few (l .loop .inv))
 
 loop-less : tie.Need-loop-less Inv-loop μ-loop
 loop-less c = let k = c .before .before .before .before .before .before in omega (arith, closed k .3, closed k .4)

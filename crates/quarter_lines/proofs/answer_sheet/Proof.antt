@@ -4,7 +4,9 @@ use borrow.Author.Needs.{needs}
 use Rattle.judgement.specs.Judgement.{judgement}
 use Rattle.sheet_buffer.specs.Answer.{stated, bufferOf}
 use Rattle.sheet_buffer.specs.declared.BufferAnswer.{BufferAnswer}
-use Rattle.quarter_lines.proofs.Closed.{in-columns, accepted-line, accepted-fits, accepted-with, refused-line, refused-with}
+use Rattle.report_line.proofs.Filled.{in-columns}
+use Rattle.quarter_lines.specs.Printout.{columns}
+use Rattle.quarter_lines.proofs.Closed.{accepted-line, accepted-fits, accepted-with, refused-line, refused-with}
 use Rattle.quarter_lines.proofs.answer_sheet.Statement.{statement}
 use Rattle.quarter_lines.proofs.answer_sheet.Tie as tie
 
@@ -27,7 +29,7 @@ returns c =
     let b = k .before .before .before in
     let s = b .before .before .before in
     let e = tells b _ (k .before .answer .given .1) in (
-      in-columns (s .args .line .now) _ _ _ _ _ (s .pre .0) (rw (n .word .ensures) at (w .write-line-in .ensures)) ∙ sym (accepted-line _ _ e),
+      in-columns columns (s .args .line .now) _ _ _ _ (s .pre .0) (rw (n .word .ensures) at (w .write-line-in .ensures)) ∙ sym (accepted-line _ _ e),
       λ zs q. accepted-with _ _ e zs (n .word .ensures) q (c .with-sheet .ensures),
     )
 
@@ -37,7 +39,8 @@ returns-2 c =
     let k = w .before .before in
     let b = k .before .before .before in
     let e = tells b _ (k .before .answer2 .given .1) in
-    (w .write-refusal .ensures ∙ sym (refused-line _ _ e), λ zs q. refused-with _ _ e zs q)
+    let s = b .before .before .before in
+    (in-columns columns (s .args .line .now) _ _ _ _ (s .pre .0) (w .write-refusal .ensures) ∙ sym (refused-line _ _ e), λ zs q. refused-with _ _ e zs q)
 
 pub answer-sheet-spec : {M : Type 1} → statement M
 answer-sheet-spec =

@@ -1,7 +1,9 @@
 -- The raise passes the limit, or the raised block is accepted and its K is told beside k. Assumes nothing.
 use mathlib.Core.Path.{_∙_}
 use native.Mathlib.Omega.{arith}
+use Rattle.guideline.specs.Sizes.{numberColumns}
 use Rattle.figures.specs.Parts.{figures-are}
+use Rattle.report_line.proofs.Filled.{in-columns}
 use Rattle.movement.proofs.Lines.{component, still-accepted, moved-line, refused-line}
 use borrow.Author.Needs.{needs}
 use Rattle.movement.proofs.moves.write_movement.Statement.{statement}
@@ -15,7 +17,7 @@ returns c =
     let w = c .before .before in
     let t = w .before .before in
     let s = t .before .before .before in
-    w .write-refusal .ensures ∙ refused-line (s .pre .0) _ _ (s .pre .1) (omega (arith, t .if1 .taken))
+    in-columns numberColumns (s .args .out .now) _ _ _ _ (s .pre .2) (w .write-refusal .ensures) ∙ refused-line (s .pre .0) _ _ (s .pre .1) (omega (arith, t .if1 .taken))
 
 add-raised : tie.Need-add-raised
 add-raised c =

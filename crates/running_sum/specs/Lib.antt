@@ -1,0 +1,2 @@
+-- What a running sum stands for. Assumes nothing.
+pub mod Sum
