@@ -84,7 +84,8 @@ module _ {s room out : List ℕ} {q : Quarter} (A : After s room out q) where
     unfolding closedOr25
     ends-25 d =
         let n : q .sheets + 1 ≡ suc (length (sheetsOf s .closed)) = omega (arith, how-many (to-going A f)) in
-        ap (λ (k : ℕ). rowIn columns (refusalRow 25 (place.Sheet k))) n ∙ sym (row-alone _) ∙ ap (rowsIn columns) (sym (open-rest (sheetsOf s .rest) (rest-some (to-going A f) d)) ∙ sym (not-more (sheetsOf s) (to-going A f .few)))
+        let e = not-more (sheetsOf s) (to-going A f .few) ∙ open-rest (sheetsOf s .rest) (rest-some (to-going A f) d) in
+        ap (λ (k : ℕ). rowIn columns (refusalRow 25 (place.Sheet k))) n ∙ sym (row-alone _) ∙ ap (rowsIn columns) (sym e)
       where
         open-rest : (r : List ℕ) → (r ≡ [] → ⊥) → closedOr25 (sheetsOf s .closed) r ≡ refusalRow 25 (place.Sheet (suc (length (sheetsOf s .closed)))) ∷ []
         open-rest [] e = absurd (e refl)
