@@ -22,13 +22,14 @@ use Rattle.order.specs.Reading.{Reading, printBy}
 use Rattle.order.specs.Reading.Reading.{complete, stopped}
 use Rattle.order.proofs.Lines.{Passes, accepted-by, passes-by, ascending-by}
 use Rattle.order.proofs.Printed.{printed-by, read-by, length-by}
-use Rattle.convert.specs.Scale.{other, raise, lower, lettersIn, scaleOf, printIn}
-use Rattle.convert.specs.Amounts.{convertible, rescaled}
-use Rattle.convert.specs.Call.{readingIn, otherLine, afterReading, conversion}
+use Rattle.scaled_line.specs.Scale.{other, raise, lower, lettersIn, scaleOf, printIn}
+use Rattle.scaled_line.specs.Amounts.{convertible, rescaled}
+use Rattle.convert.specs.Call.{readingIn, afterReading, conversion}
 use Rattle.printing.specs.Lent.Text.{noText, bytes}
-use Rattle.convert.specs.declared.Scale.{Scale}
-use Rattle.convert.specs.declared.Scale.the-variants.{Cents, Thousands}
-use Rattle.convert.proofs.Scaled.{passes-convertible, rescaled-accepted, rescaled-passes, rescaled-back}
+use Rattle.scaled_line.specs.Other.{otherLine}
+use Rattle.scaled_line.specs.declared.Scale.{Scale}
+use Rattle.scaled_line.specs.declared.Scale.the-variants.{Cents, Thousands}
+use Rattle.scaled_line.proofs.Scaled.{passes-convertible, rescaled-accepted, rescaled-passes, rescaled-back}
 use Rattle.convert.proofs.Reading.{reads, inverse}
 
 -- ---- the sort of a printed sheet

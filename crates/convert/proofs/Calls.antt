@@ -21,16 +21,16 @@ use Rattle.order.specs.Reading.{Reading, outcomeOf}
 use Rattle.order.specs.Reading.Reading.{complete, stopped}
 use Rattle.order.proofs.Lines.{stopped-by}
 use Rattle.printing.specs.declared.RoomAnswer.{RoomAnswer}
-use Rattle.printing.specs.Lent.{Text, Done, stated, untouched}
+use Rattle.printing.specs.Lent.{Done, stated, untouched}
 use Rattle.printing.specs.Lent.Text.{noText}
 use Rattle.printing.specs.Printing.{printout, Printed, Shown}
 use Rattle.printing.proofs.Lent as lent
 use Rattle.printing.proofs.Lent.{RoomFor, Numbered}
-use Rattle.convert.specs.Scale.{scaleOf, parseIn}
-use Rattle.convert.specs.Amounts.{convertible}
+use Rattle.scaled_line.specs.Scale.{scaleOf, parseIn}
+use Rattle.scaled_line.specs.Amounts.{convertible}
 use Rattle.convert.specs.Call.{readingIn, afterReading, conversion, convertCall, ConvertsBack}
 use Rattle.convert.specs.Steps.{LinesWritten, linesCall}
-use Rattle.convert.specs.declared.Scale.{Scale}
+use Rattle.scaled_line.specs.declared.Scale.{Scale}
 use Rattle.convert.proofs.Reading.{judged}
 use Rattle.convert.proofs.Back.{short-sheet, same-length, lines-long, back}
 

@@ -1,6 +1,4 @@
--- What holds of the two sorts of sheet and of their conversion. Assumes nothing.
-pub mod Small
-pub mod Scaled
+-- What holds of the conversion of a sheet. Assumes nothing.
 pub mod Reading
 pub mod Back
 pub mod Passes

@@ -2,22 +2,19 @@
 -- Assumes nothing.
 use borrow.Rule.Slice.PartMut.{putMid, same-len-mid}
 use mathlib.Core.Path.{_≡_, refl, sym, ap, _∙_, subst}
-use mathlib.Core.List.{List, [], _∷_, _++_, map}
+use mathlib.Core.List.{List, [], _∷_, _++_}
 use Prim.Native.Nat.{ℕ, _+_, _-_, _*_, _%_, _≤_, _<_}
 use native.Mathlib.Omega.{arith}
-use lib.ListN.{length, take, drop, length-drop}
+use lib.ListN.{length, drop, length-drop}
 use lib.Seq.{length-take-le}
 use Rattle.search.proofs.Picks.{never}
 use Rattle.search.proofs.Stretches.{Wrote, nothing, part}
 use Rattle.refusal.specs.Outcome.Outcome.{accepted, refused}
 use Rattle.refusal.specs.declared.Place.the-variants as place
 use Rattle.codes.specs.Codes.{Key}
-use Rattle.layout.specs.Columns.{sheetLineBytes, lettered}
+use Rattle.layout.specs.Columns.{sheetLineBytes}
 use Rattle.layout.specs.Whole.{wholeLines, lineAt}
-use Rattle.layout.specs.declared.Numbers.{Numbers}
 use Rattle.layout.proofs.Lent.{lent, lent-is}
-use Rattle.sheet_line.specs.Line.{numbersOf}
-use Rattle.sheet_line.specs.Rules.{AcceptedLine}
 use Rattle.sheet_line.specs.declared.Entry.{Entry}
 use Rattle.sheet_line.specs.declared.Line.{Line}
 use Rattle.sheet_line.specs.declared.Line.the-variants.{Good, Refused}
@@ -29,14 +26,15 @@ use Rattle.order.specs.Reading.{lineAfter, readFrom, outcomeOf, printBy}
 use Rattle.order.specs.Reading.Reading.{complete}
 use Rattle.order.proofs.Lines as lines
 use Rattle.order.proofs.Lines.{ReadTo}
-use Rattle.convert.specs.Scale.{other, lettersIn, parseIn}
-use Rattle.convert.specs.Amounts.{convertible, rescaled}
-use Rattle.convert.specs.Call.{readingIn, otherLine}
-use Rattle.convert.specs.Steps.{otherLetter, LineWritten, LinesWritten}
-use Rattle.convert.specs.declared.Scale.{Scale}
-use Rattle.convert.proofs.Small.{letters-first, three-in, letters-turned}
-use Rattle.convert.proofs.Scaled.{keeps}
-use Rattle.convert.proofs.Reading.{reads, line-printed, length-in}
+use Rattle.scaled_line.specs.Scale.{other, parseIn}
+use Rattle.scaled_line.specs.Amounts.{convertible, rescaled}
+use Rattle.scaled_line.specs.Other.{otherLine, otherOver}
+use Rattle.scaled_line.specs.declared.Scale.{Scale}
+use Rattle.scaled_line.proofs.Scaled.{keeps}
+use Rattle.scaled_line.proofs.Lines.{length-in}
+use Rattle.convert.specs.Call.{readingIn}
+use Rattle.convert.specs.Steps.{LinesWritten}
+use Rattle.convert.proofs.Reading.{reads}
 
 -- ---- the lines tested
 
@@ -63,29 +61,6 @@ module _ {d : Scale} {s m : List ℕ} {last i : ℕ} (B : TestedTo d s m last i)
     pub test-again : {e : Entry} → l ≡ Good e → {k : ℕ} → k ≡ keyFor e → TestedTo d s m′ k (i + 1)
     test-again {e} q k = record { seen = e ∷ B .seen; read = lines.again (reads d) (B .read) h A (sym c ∙ q) k }
 
--- ---- a line written
-
-module _ (d : Scale) (s : List ℕ) (h : length s ≡ sheetLineBytes) {e : Entry} (q : parseIn d s ≡ Good e) where
-  pub line-accepted : AcceptedLine e
-  line-accepted = reads d .good s h e q
-
-  -- its letters are those of its code
-  letters-other : map (otherLetter d) (take 3 s) ≡ lettersIn (other d) (e .code)
-  letters-other =
-      let k = e .code in
-      ap (λ (t : List ℕ). map (otherLetter d) (take 3 t)) (line-printed d s h e q)
-      ∙ ap (map (otherLetter d)) (letters-first (lettersIn d k) (three-in d k) (numbersOf e))
-      ∙ letters-turned d k
-
-  pub line-other : {w out : List ℕ} {n : Numbers} → w ≡ map (otherLetter d) (take 3 s) → n ≡ numbersOf (rescaled d e) → out ≡ lettered w n
-      → LineWritten d s out
-  line-other x y z f p =
-      let g : e ≡ f = cc in
-      z ∙ (λ i. lettered ((x ∙ letters-other) i) (y i)) ∙ ap (otherLine d) g
-
-pub line-none : (d : Scale) (s out : List ℕ) {r : ℕ} → parseIn d s ≡ Refused r → LineWritten d s out
-line-none d s out q e p = never (cc)
-
 -- ---- the lines written
 
 -- what is left to read gives the lines es, and those seen are written in front of the room
@@ -107,7 +82,7 @@ write-start d s r =
     record { some = omega arith; long = refl; lines = λ es q. record { seen = []; rest = rw z q; wrote = nothing r } }
 
 module _ {d : Scale} {s r₀ r : List ℕ} {i : ℕ} (W : Writing d s r₀ r i) where
-  module _ (h : i < wholeLines s) (fits : length s ≤ length r₀) (ys : List ℕ) (w : LineWritten d (lent s i) ys) where
+  module _ (h : i < wholeLines s) (fits : length s ≤ length r₀) (ys old : List ℕ) (w : ys ≡ otherOver d (parseIn d (lent s i)) old) where
     line-long : length (lineAt s i) ≡ sheetLineBytes
     line-long = length-take-le sheetLineBytes (drop (sheetLineBytes * i) s) (rw length-drop (omega arith))
 
@@ -120,7 +95,7 @@ module _ {d : Scale} {s r₀ r : List ℕ} {i : ℕ} (W : Writing d s r₀ r i) 
         (convertible d (lineAfter (T .seen) (parseIn d (lineAt s i)))) (λ n p q. never (cc))
         (λ e p q.
         let a = lines.next-line (reads d) (T .seen) (lineAt s i) line-long e p in
-        let y : ys ≡ otherLine d e = w e (ap (parseIn d) (lent-is s i) ∙ a .parsed) in
+        let y : ys ≡ otherLine d e = w ∙ ap (λ (l : Line). otherOver d l old) (ap (parseIn d) (lent-is s i) ∙ a .parsed) in
         let k : sheetLineBytes * i + sheetLineBytes ≡ sheetLineBytes * (i + 1) = omega arith in
         let p = part (T .wrote) sheetLineBytes ys (omega arith) (ap length y ∙ length-in (other d) (rescaled d e)) in
         record { seen = e ∷ T .seen; rest = q; wrote = rw k at (subst Put y p) })

@@ -10,24 +10,20 @@ use Rattle.refusal.specs.Outcome.{Outcome}
 use Rattle.refusal.specs.Outcome.Outcome.{accepted, refused}
 use Rattle.refusal.specs.declared.Place.the-variants.{Line}
 use Rattle.sheet_length.specs.Measured.{measured, afterLength}
-use Rattle.sheet_line.specs.declared.Entry.{Entry}
 use Rattle.order.specs.Reading.{Reading, readingBy, printBy}
 use Rattle.order.specs.Reading.Reading.{complete, stopped}
 use Rattle.printing.specs.Lent.{Text, Done, lent}
 use Rattle.printing.specs.Lent.Text.{noText, bytes}
-use Rattle.convert.specs.Scale.{other, scaleOf, parseIn, printIn}
-use Rattle.convert.specs.Amounts.{convertible, rescaled}
-use Rattle.convert.specs.declared.Scale.{Scale}
+use Rattle.scaled_line.specs.Scale.{scaleOf, parseIn}
+use Rattle.scaled_line.specs.Amounts.{convertible}
+use Rattle.scaled_line.specs.Other.{otherLine}
+use Rattle.scaled_line.specs.declared.Scale.{Scale}
 
 -- ---- a sheet converted
 
 -- the lines of a sheet of this sort
 abbrev pub readingIn : Scale → List ℕ → Reading
 readingIn d s = readingBy (parseIn d) (convertible d) s
-
--- the line of an entry as the other sort of sheet has it
-abbrev pub otherLine : Scale → Entry → List ℕ
-otherLine d e = printIn (other d) (rescaled d e)
 
 -- by what was read: the first bad line, or all lines in the other sort
 abbrev pub afterReading : Scale → Reading → Text

@@ -1,5 +1,3 @@
--- The two sorts of sheet, how one becomes the other, the call that converts, and its steps. Assumes nothing.
-pub mod Scale
-pub mod Amounts
+-- The call that converts a sheet, and its steps. Assumes nothing.
 pub mod Call
 pub mod Steps

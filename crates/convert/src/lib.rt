@@ -3,11 +3,6 @@
 // A sheet is read twice: first every line is tested, with the marks of those before it and the last key, then each is written. So a refusal
 // writes nothing, and no table of amounts is held.
 
-// The letters of the two sorts.
-pub mod letters;
-// The amounts of a line in the two sorts, rules 20 and 21.
-pub mod amounts;
-
 ghost use mathlib.Core.Path.{_≡_};
 ghost use mathlib.Core.List.{[]};
 ghost use Prim.Native.Nat.{_%_, _≤_};
@@ -18,22 +13,16 @@ ghost use Rattle.order.specs.Places.{table};
 ghost use Rattle.order.specs.Reading.{outcomeOf};
 ghost use Rattle.printing.specs.Lent.{stated, Done};
 ghost use Rattle.printing.specs.Printing.{printout, Printed};
-ghost use Rattle.convert.specs.Scale.{parseIn};
 ghost use Rattle.convert.specs.Call.{conversion, readingIn, convertCall, ConvertsBack};
-ghost use Rattle.convert.specs.Steps.{LineWritten, LinesWritten, linesCall};
+ghost use Rattle.convert.specs.Steps.{LinesWritten, linesCall};
 use layout::SHEET_LINE_BYTES;
 use order::PLACES;
 use printing::RoomAnswer;
 use refusal::Place;
+use scaled_line::Scale;
 use sheet_length::LONGEST_SHEET;
 use sheet_length::Length;
 use sheet_line::Line;
-
-// The sort of a sheet, by what its amounts count.
-pub enum Scale {
-    Cents,
-    Thousands,
-}
 
 // A sheet of any bytes, and lent room of any length: nothing is written into it before every rule passes.
 pub fn convert_call(sheet: &[u8], room: &mut [u8]) -> RoomAnswer
@@ -43,7 +32,7 @@ pub fn convert_call(sheet: &[u8], room: &mut [u8]) -> RoomAnswer
     let length = sheet_length::measure(sheet);
     match length {
         Length::Refused(rule, place) => RoomAnswer::Refused(rule, place),
-        Length::Whole => convert_lines(letters::scale_of(sheet), sheet, room),
+        Length::Whole => convert_lines(scaled_line::letters::scale_of(sheet), sheet, room),
     }
 }
 
@@ -85,9 +74,9 @@ fn test_lines(scale: Scale, sheet: &[u8], marks: &mut [u8; PLACES]) -> RoomAnswe
     let mut i = 0;
     while i < n {
         let from = SHEET_LINE_BYTES * i;
-        let read = read_in(scale, &sheet[from..from + SHEET_LINE_BYTES]);
+        let read = scaled_line::read_in(scale, &sheet[from..from + SHEET_LINE_BYTES]);
         let admitted = order::admit(read, last, marks);
-        let line = amounts::convertible(scale, admitted);
+        let line = scaled_line::amounts::convertible(scale, admitted);
         match line {
             Line::Refused(rule) => return RoomAnswer::Refused(rule, Place::Line(i + 1)),
             Line::Good(e) => {
@@ -99,20 +88,6 @@ fn test_lines(scale: Scale, sheet: &[u8], marks: &mut [u8; PLACES]) -> RoomAnswe
     RoomAnswer::Accepted(n)
 }
 
-// Reads a line of a sheet of this sort: one in small letters as that with its letters raised.
-fn read_in(scale: Scale, s: &[u8]) -> Line
-    requires { ⌜ length (now s) ≡ sheetLineBytes ⌝ }
-    ensures { λ r. ⌜ r ≡ parseIn scale (now (s .entry)) ⌝ }
-{
-    match scale {
-        Scale::Cents => sheet_line::read_line(s),
-        Scale::Thousands => {
-            let line = letters::raised(s);
-            sheet_line::read_line(&line)
-        }
-    }
-}
-
 // Writes the lines of a sheet, all of them good, as the other sort has them, each into its own stretch of the room.
 fn write_lines(scale: Scale, sheet: &[u8], room: &mut [u8])
     requires { ⌜ (length (now sheet) % sheetLineBytes ≡ 0) × (length (now sheet) ≤ length (now room)) ⌝ }
@@ -122,27 +97,11 @@ fn write_lines(scale: Scale, sheet: &[u8], room: &mut [u8])
     let mut i = 0;
     while i < n {
         let from = SHEET_LINE_BYTES * i;
-        write_other(
+        scaled_line::write_other(
             scale,
             &sheet[from..from + SHEET_LINE_BYTES],
             &mut room[from..from + SHEET_LINE_BYTES],
         );
         i += 1;
     }
-}
-
-// Writes a good line as the other sort of sheet has it.
-fn write_other(scale: Scale, s: &[u8], out: &mut [u8])
-    requires { ⌜ (length (now s) ≡ sheetLineBytes) × (length (now out) ≡ sheetLineBytes) ⌝ }
-    ensures { λ _. ⌜ LineWritten scale (now (s .entry)) (now (out .exit)) ⌝ }
-{
-    let read = read_in(scale, s);
-    let Line::Good(e) = read else {
-        return;
-    };
-    sheet_writer::write_lettered(
-        out,
-        letters::other_letters(scale, s),
-        amounts::rescaled(scale, e),
-    );
 }

@@ -17,11 +17,12 @@ use Rattle.codes.specs.declared.Code.the-variants.{Gen}
 use Rattle.sheet_line.specs.declared.Entry.{Entry}
 use Rattle.order.specs.Entries.{hasLine}
 use Rattle.order.specs.Reading.{Reading, reading, entriesOf, outcomeOf}
-use Rattle.ledger.specs.Tables as ledger
 use Rattle.order.specs.Reading.Reading.{complete, stopped}
-use Rattle.ledger.specs.Tables.{Filled, Holds}
-use Rattle.ledger.specs.declared.Answer.{Answer}
-use Rattle.ledger.specs.declared.Answer.the-variants as answer
+use Rattle.ledger.specs.Tables.{Holds}
+use Rattle.sheet_reader.specs.Filling as reader
+use Rattle.sheet_reader.specs.Filling.{Filled}
+use Rattle.sheet_reader.specs.declared.Answer.{Answer}
+use Rattle.sheet_reader.specs.declared.Answer.the-variants as answer
 use Rattle.order.proofs.Lines.{all-read}
 use Rattle.sheet_blocks.specs.Blocks.{rowsTo, dividendBarred}
 use Rattle.judgement.specs.Sheet.{sheetOf}
@@ -48,18 +49,18 @@ module _ (s : List ℕ) where
     module _ (a : Answer) (f g m : List ℕ) (F : Filled (reading s) a f g m) where
       pub bad-line : (n : ℕ) (p : Place) → a ≡ answer.Refused n p → refusal n p ≡ findings (judgement s)
       unfolding ruleLines findings
-      bad-line n p e = go (reading s) (sym (F .answer) ∙ ap ledger.stated e) ∙ sym (ap findings lined)
+      bad-line n p e = go (reading s) (sym (F .answer) ∙ ap reader.stated e) ∙ sym (ap findings lined)
         where
-          go : (o : Reading) → outcomeOf o ≡ ledger.stated (answer.Refused n p) → refusal n p ≡ findings (ruleLines o)
+          go : (o : Reading) → outcomeOf o ≡ reader.stated (answer.Refused n p) → refusal n p ≡ findings (ruleLines o)
           go (complete es) c = never (cc)
           go (stopped es k i) c = cc
 
       -- all lines are good
       module _ (k : ℕ) (e : a ≡ answer.Accepted k) where
         read : reading s ≡ complete (entriesOf (reading s))
-        read = go (reading s) (sym (F .answer) ∙ ap ledger.stated e)
+        read = go (reading s) (sym (F .answer) ∙ ap reader.stated e)
           where
-            go : (o : Reading) → outcomeOf o ≡ ledger.stated (answer.Accepted k) → o ≡ complete (entriesOf o)
+            go : (o : Reading) → outcomeOf o ≡ reader.stated (answer.Accepted k) → o ≡ complete (entriesOf o)
             go (complete es) c = refl
             go (stopped es n i) c = never (cc)
 

@@ -10,7 +10,7 @@ ghost use Rattle.ledger.specs.Tables.{Empty, Ledger, OfLines};
 ghost use Rattle.credits.specs.Credits.{Credited};
 ghost use Rattle.judgement.specs.Judgement.{judgement, rule12, rule17, findings, stated};
 ghost use Rattle.judgement.specs.Sheet.{sheetOf};
-ghost use Rattle.judgement.specs.Steps.{LinesOf};
+ghost use Rattle.judgement.specs.Steps.{LinesOf, BehindRows};
 use codes::CEDED_CLASS;
 use codes::CREDITS_CLASS;
 use codes::GROSS_CLASS;
@@ -19,10 +19,10 @@ use codes::SCALAR_CLASS;
 use guideline::NON_PARTICIPATING;
 use guideline::TABLE_NUMBERS;
 use guideline::TEN_THOUSANDTHS;
-use ledger::Answer;
 use order::PLACES;
 use refusal::Place;
 use sheet_length::Length;
+use sheet_reader::Answer;
 
 // What a sheet comes to: how many blocks exist, the sum of their K, RO and the buffer.
 pub struct Totals {
@@ -38,8 +38,8 @@ pub enum Verdict {
     TurnedAway(u8, Place),
 }
 
-// Judges a sheet of any bytes. Where it is sound, the rows of its blocks' figures stand in front of the lent table of rows, and the other
-// tables hold its lines. What the tables hold of a sheet that is turned away is left free, as is the table of rows behind the rows.
+// Judges a sheet of any bytes. Where it is sound, the rows of its blocks' figures stand in front of the lent table of rows, which is as it was
+// behind them, and the other tables hold its lines. What the tables hold of a sheet that is turned away is left free.
 pub fn judge(
     sheet: &[u8],
     firsts: &mut [u64; PLACES],
@@ -50,12 +50,13 @@ pub fn judge(
     requires { ⌜ Empty (now firsts) (now seconds) (now marks) ⌝ }
     ensures { λ r. ⌜ stated r (now (rows .exit)) ≡ findings (judgement (now (sheet .entry))) ⌝ }
     ensures { λ _. ⌜ LinesOf (judgement (now (sheet .entry))) (now (firsts .exit)) (now (seconds .exit)) (now (marks .exit)) ⌝ }
+    ensures { λ r. ⌜ BehindRows r (now (rows .entry)) (now (rows .exit)) ⌝ }
 {
     let length = sheet_length::measure(sheet);
     if let Length::Refused(rule, place) = length {
         return Verdict::TurnedAway(rule, place);
     }
-    let read = ledger::read_lines(sheet, firsts, seconds, marks);
+    let read = sheet_reader::read_lines(sheet, firsts, seconds, marks);
     match read {
         Answer::Refused(rule, place) => Verdict::TurnedAway(rule, place),
         Answer::Accepted(_) => after_lines(firsts, seconds, marks, rows),
@@ -71,6 +72,7 @@ fn after_lines(
 ) -> Verdict
     requires { ⌜ Ledger (now firsts) (now seconds) (now marks) ⌝ }
     ensures { λ r. ⌜ OfLines (now (firsts .entry)) (now (seconds .entry)) (now (marks .entry)) (λ es. stated r (now (rows .exit)) ≡ findings (rule12 es)) ⌝ }
+    ensures { λ r. ⌜ BehindRows r (now (rows .entry)) (now (rows .exit)) ⌝ }
 {
     if !order::has_scalar(marks) {
         return Verdict::TurnedAway(12, Place::Nowhere);
@@ -93,6 +95,7 @@ fn rule_17(
     requires { ⌜ Ledger (now firsts) (now seconds) (now marks) ⌝ }
     requires { ⌜ OfLines (now firsts) (now seconds) (now marks) (λ es. Credited es (now credits)) ⌝ }
     ensures { λ r. ⌜ OfLines (now (firsts .entry)) (now (seconds .entry)) (now (marks .entry)) (λ es. stated r (now (rows .exit)) ≡ findings (rule17 es)) ⌝ }
+    ensures { λ r. ⌜ BehindRows r (now (rows .entry)) (now (rows .exit)) ⌝ }
 {
     let w = sheet_blocks::work_out(firsts, seconds, marks, credits, rows);
     let count = w.count;

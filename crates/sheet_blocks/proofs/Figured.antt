@@ -6,7 +6,7 @@ use mathlib.Core.List.{List, [], _∷_, append-assoc}
 use Prim.Native.Nat.{ℕ, suc, _+_, _-_, _*_, _≤_, _<_}
 use native.Mathlib.Omega.{arith}
 use lib.Dec.{ltb}
-use lib.ListN.{length, set, length-append}
+use lib.ListN.{length, set, take, length-append}
 use lib.Seq.{sets-eq, drop-drop}
 use Rattle.search.specs.Each.{Each}
 use Rattle.search.specs.Ascending.{ascending}
@@ -17,7 +17,7 @@ use Rattle.search.specs.Total.{sumTo}
 use Rattle.search.proofs.Picks.{if-true, if-false}
 use Rattle.search.proofs.Anys.{any-next}
 use Rattle.search.proofs.Totals.{sum-next, sum-most}
-use Rattle.search.proofs.Stretches.{front, part, from-front}
+use Rattle.search.proofs.Stretches.{front, behind, part, from-front}
 use Rattle.amount.specs.Amount.{limit}
 use Rattle.guideline.specs.Sizes.{blocks, rowNumbers, tableNumbers}
 use Rattle.guideline.specs.Block.{K, figuresOf, AcceptedBlock}
@@ -32,7 +32,7 @@ use Rattle.ledger.specs.Numbers.{dividendCredit}
 use Rattle.ledger.proofs.Bounds.{first-most}
 use Rattle.credits.specs.Credits.{afterCredit, Covered}
 use Rattle.sheet_blocks.specs.Blocks.{blocksTo, rowsTo, dividendBarred}
-use Rattle.sheet_blocks.specs.Steps.{join, WorkedOut}
+use Rattle.sheet_blocks.specs.Steps.{join, WorkedOut, RestKept}
 use Rattle.sheet_blocks.specs.declared.Worked.{Worked}
 use Rattle.credits.proofs.Accepted.{block-accepted}
 
@@ -56,6 +56,13 @@ row-put l at b i d u lt k room =
     let e₄ : at + 4 ≡ suc (suc (suc (suc at))) = omega arith in
     let e₅ : at + 5 ≡ suc (suc (suc (suc (suc at)))) = omega arith in
     rw (e₁, e₂, e₃, e₄, e₅, drop-drop rowNumbers at l) (sets-eq (b ∷ i ∷ d ∷ u ∷ lt ∷ k ∷ []) l at room ∙ simp append-assoc)
+
+-- a row put behind those of k blocks leaves what is behind it
+pub row-behind : (rows : List ℕ) (k : ℕ) (ys : List ℕ) → rowNumbers * k + rowNumbers ≤ length rows → length ys ≡ rowNumbers
+    → RestKept (k + 1) rows (putMid (rowNumbers * k) rowNumbers rows ys)
+row-behind rows k ys h e =
+    let a : rowNumbers * k + rowNumbers ≡ rowNumbers * (k + 1) = omega arith in
+    rw (← a) (behind (part (from-front {P = take (rowNumbers * k) rows} refl (omega arith)) rowNumbers ys h e))
 
 pub none : (es : List Entry) (rows : List ℕ) → length rows ≡ tableNumbers → WorkedOut es 0 (record { count = 0; sum = 0; dividends = 0; barred = false }) rows
 unfolding blocksTo rowsTo ascending sumK sumTo anyTo

@@ -1,9 +1,10 @@
--- What is worked out of a sheet's blocks, one after the other. Assumes nothing.
+-- What is worked out of a sheet's blocks, one after the other: sections 11.2 and 11.3 by document 01's sheet, and rule 17 of document 02's #102.
+-- Assumes nothing.
 use mathlib.Core.Path.{_≡_}
 use mathlib.Core.Bool.{true}
 use mathlib.Core.List.{List}
 use Prim.Native.Nat.{ℕ, _+_, _*_}
-use lib.ListN.{length, take}
+use lib.ListN.{length, take, drop}
 use Rattle.search.specs.First.{anyTo}
 use Rattle.search.specs.Pick.{pick}
 use Rattle.search.specs.Total.{sumTo}
@@ -33,3 +34,7 @@ pub record WorkedOut (es : List Entry) (n : ℕ) (w : Worked) (rows : List ℕ) 
   pub barred : w .barred ≡ anyTo (dividendBarred es) n
   pub front : take (rowNumbers * w .count) rows ≡ rowsTo es n
   pub long : length rows ≡ tableNumbers
+
+-- behind the rows of so many blocks the table is as it was
+abbrev pub RestKept : ℕ → List ℕ → List ℕ → Type 0
+RestKept count rows rows′ = drop (rowNumbers * count) rows′ ≡ drop (rowNumbers * count) rows

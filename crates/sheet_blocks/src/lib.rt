@@ -10,7 +10,7 @@ ghost use Rattle.guideline.specs.Sizes.{blocks, rowNumbers, tableNumbers};
 ghost use Rattle.figures.specs.Parts.{figureList};
 ghost use Rattle.ledger.specs.Tables.{Ledger, OfLines};
 ghost use Rattle.credits.specs.Credits.{Credited};
-ghost use Rattle.sheet_blocks.specs.Steps.{join, WorkedOut};
+ghost use Rattle.sheet_blocks.specs.Steps.{join, WorkedOut, RestKept};
 use figures::Figures;
 use guideline::BLOCKS;
 use guideline::NON_PARTICIPATING;
@@ -26,7 +26,7 @@ pub struct Worked {
     pub barred: bool,
 }
 
-// The rows of the blocks that exist, ascending, from the table's front on.
+// The rows of the blocks that exist, ascending, from the table's front on; behind them the table is as it was.
 pub fn work_out(
     firsts: &[u64; PLACES],
     seconds: &[u64; PLACES],
@@ -38,6 +38,7 @@ pub fn work_out(
     requires { ⌜ OfLines (now firsts) (now seconds) (now marks) (λ es. Credited es (now credits)) ⌝ }
     requires { ⌜ length (now rows) ≡ tableNumbers ⌝ }
     ensures { λ r. ⌜ OfLines (now (firsts .entry)) (now (seconds .entry)) (now (marks .entry)) (λ es. WorkedOut es blocks r (now (rows .exit))) ⌝ }
+    ensures { λ r. ⌜ RestKept (r .count) (now (rows .entry)) (now (rows .exit)) ⌝ }
 {
     let mut w = Worked {
         count: 0,
@@ -68,6 +69,7 @@ fn work_block(
     requires { ⌜ OfLines (now firsts) (now seconds) (now marks) (λ es. Credited es (now credits)) ⌝ }
     requires { ⌜ OfLines (now firsts) (now seconds) (now marks) (λ es. WorkedOut es (block - 1) w (now rows)) ⌝ }
     ensures { λ r. ⌜ OfLines (now (firsts .entry)) (now (seconds .entry)) (now (marks .entry)) (λ es. WorkedOut es block r (now (rows .exit))) ⌝ }
+    ensures { λ r. ⌜ (w .count ≤ r .count) × RestKept (r .count) (now (rows .entry)) (now (rows .exit)) ⌝ }
 {
     let dividend = credits::dividend_credit(firsts, seconds, marks, block);
     if !order::block_exists(marks, block) {

@@ -1,4 +1,3 @@
--- Laws of the check: what tables are asked for, the listing that is gathered of them, and the call's answers.
-pub mod Asking
+-- Laws of the check: the listing that is gathered of the tables, and the call's answers. Assumes nothing.
 pub mod Walking
 pub mod Calls

@@ -4,16 +4,13 @@ use borrow.Rule.Slice.PartMut.{putMid}
 use mathlib.Core.Path.{_≡_}
 use mathlib.Core.Bool.{Bool}
 use mathlib.Core.List.{List, [], _∷_}
-use Prim.Native.Nat.{ℕ, _+_, _≤_}
+use Prim.Native.Nat.{ℕ, _+_}
 use lib.ListN.{length}
 use Rattle.search.specs.Pick.{pick}
 use Rattle.search.specs.Ascending.{ascending}
-use Rattle.guideline.specs.Sizes.{blocks}
-use Rattle.codes.specs.Codes.{Key}
 use Rattle.order.specs.Places.{tabled}
 use Rattle.needs.specs.Needs.{unmetBy}
 use Rattle.needs.specs.Needing.{mostListed, needing, lineAt, listedTo}
-use Rattle.needs.specs.declared.Label.{Label}
 use Rattle.printing.specs.Lent.{Done, lent}
 use Rattle.printing.specs.Lent.Text.{bytes}
 
@@ -45,8 +42,3 @@ oneAt firsts seconds n = pick (unmetAt firsts seconds n) (lineAt n) []
 pub record PutAt (bytes : List ℕ) (at : ℕ) (room : List ℕ) (next : ℕ) (room′ : List ℕ) : Type 0 where
   pub behind : next ≡ at + length bytes
   pub holds : room′ ≡ putMid at (length bytes) room bytes
-
--- a companion that tables can be asked for: a block's RSK lines, or the line of a code, block and class
-pub record Asked (m : Label) : Type 0 where
-  pub of-block : m .class ≡ 0 → (1 ≤ m .block) × (m .block ≤ blocks)
-  pub of-class : (m .class ≡ 0 → ⊥) → Key (m .code) (m .block) (m .class)

@@ -6,23 +6,16 @@ ghost use mathlib.Core.Path.{_≡_};
 ghost use mathlib.Core.List.{_++_};
 ghost use Prim.Native.Nat.{_+_, _-_, _≤_};
 ghost use lib.ListN.{length, drop};
-ghost use Rattle.guideline.specs.Sizes.{blocks};
-ghost use Rattle.codes.specs.Codes.{Key};
-ghost use Rattle.order.specs.Places.{tabled};
 ghost use Rattle.printing.specs.Lent.{stated, Done};
 ghost use Rattle.printing.specs.Printing.{printout, Printed};
 ghost use Rattle.judgement.specs.Judgement.{judgement};
-ghost use Rattle.needs.specs.Needs.{someRisk, counts, allZero, unmetBy};
 ghost use Rattle.needs.specs.Needing.{mostListed};
 ghost use Rattle.sheet_check.specs.Call.{listingTo, checkCall, ListsExactly};
-ghost use Rattle.sheet_check.specs.Walk.{walked, walkedCall, countedTo, oneAt, PutAt, Asked};
-use codes::Code;
-use codes::RISK_CLASSES;
+ghost use Rattle.sheet_check.specs.Walk.{walked, walkedCall, countedTo, oneAt, PutAt};
 use guideline::TABLE_NUMBERS;
 use judgement::Verdict;
 use needs::LISTED_BYTES;
 use needs::LONGEST_LISTING;
-use needs::Label;
 use needs::MOST_LISTED;
 use needs::Need;
 use order::PLACES;
@@ -84,7 +77,7 @@ fn count_one(firsts: &[u64; PLACES], seconds: &[u64; PLACES], n: usize, count: u
     requires { ⌜ (1 ≤ n) × (n ≤ mostListed) × (count ≡ countedTo (now firsts) (now seconds) (n - 1)) ⌝ }
     ensures { λ r. ⌜ r ≡ countedTo (now (firsts .entry)) (now (seconds .entry)) n ⌝ }
 {
-    if unmet(firsts, seconds, needs::needing(n)) {
+    if unmet::unmet(firsts, seconds, needs::needing(n)) {
         return count + 1;
     }
     count
@@ -115,7 +108,7 @@ fn write_one(
     ensures { λ r. ⌜ PutAt (oneAt (now (firsts .entry)) (now (seconds .entry)) n) at (now (room .entry)) r (now (room .exit)) ⌝ }
 {
     let line = needs::needing(n);
-    if !unmet(firsts, seconds, line) {
+    if !unmet::unmet(firsts, seconds, line) {
         return at;
     }
     let need = needs::need_of(line);
@@ -124,59 +117,4 @@ fn write_one(
     };
     listing::write_listed(&mut room[at..at + LISTED_BYTES], line, companion);
     at + LISTED_BYTES
-}
-
-// Whether the need of a line is unmet.
-fn unmet(firsts: &[u64; PLACES], seconds: &[u64; PLACES], l: Label) -> bool
-    requires { ⌜ Key (l .code) (l .block) (l .class) ⌝ }
-    ensures { λ r. ⌜ r ≡ unmetBy (tabled (now (firsts .entry))) (tabled (now (seconds .entry))) l ⌝ }
-{
-    let code = l.code;
-    let first = ledger::amount_of(firsts, code, l.block, l.class);
-    let second = ledger::amount_of(seconds, code, l.block, l.class);
-    if all_zero(first, second) {
-        return false;
-    }
-    let need = needs::need_of(l);
-    let Need::Companion(companion) = need else {
-        return false;
-    };
-    !counts(firsts, companion)
-}
-
-// Whether both amounts are zero.
-fn all_zero(first: u64, second: u64) -> bool
-    ensures { λ r. ⌜ r ≡ allZero first second ⌝ }
-{
-    if first != 0 {
-        return false;
-    }
-    second == 0
-}
-
-// Whether a companion is there and its first amount isn't 0.
-fn counts(firsts: &[u64; PLACES], companion: Label) -> bool
-    requires { ⌜ Asked companion ⌝ }
-    ensures { λ r. ⌜ r ≡ counts (tabled (now (firsts .entry))) companion ⌝ }
-{
-    if companion.class == 0 {
-        return some_risk(firsts, companion.block);
-    }
-    let code = companion.code;
-    0 < ledger::amount_of(firsts, code, companion.block, companion.class)
-}
-
-// Whether an RSK line of a block has a first amount that isn't 0.
-fn some_risk(firsts: &[u64; PLACES], block: usize) -> bool
-    requires { ⌜ (1 ≤ block) × (block ≤ blocks) ⌝ }
-    ensures { λ r. ⌜ r ≡ someRisk (tabled (now (firsts .entry))) block ⌝ }
-{
-    let mut class = 0;
-    while class < RISK_CLASSES {
-        class += 1;
-        if 0 < ledger::amount_of(firsts, Code::Rsk, block, class) {
-            return true;
-        }
-    }
-    false
 }

@@ -2,7 +2,7 @@
 // or a write that fails is said on standard error; a sheet that could not be read gets neither.
 use libc::STDERR_FILENO;
 use sheet_length::LONGEST_SHEET;
-use streams::Got;
+use stdio::Got;
 
 // One byte more than the longest sheet, so that a sheet that is too long is seen to be.
 const SHEET_ROOM: usize = LONGEST_SHEET + 1;
@@ -10,7 +10,7 @@ const SHEET_ROOM: usize = LONGEST_SHEET + 1;
 // Reads, has it answered, and writes.
 fn main() {
     let mut sheet = [0u8; SHEET_ROOM];
-    let got = streams::read_all(&mut sheet);
+    let got = stdio::read_all(&mut sheet);
     match got {
         Got::Bytes(n) => {
             answer(&sheet, n);
@@ -36,7 +36,7 @@ fn answer(bytes: &[u8], n: usize) {
 
 // The first n bytes of the room.
 fn put_room(room: &[u8; LONGEST_SHEET], n: usize) {
-    if streams::put(room, n) {
+    if stdio::put(room, n) {
         return;
     }
     io::write_all(

@@ -3,7 +3,7 @@
 use libc::STDERR_FILENO;
 use movement::MOVEMENT_BYTES;
 use movement_input::INPUT_BYTES;
-use streams::Got;
+use stdio::Got;
 
 // One byte more than the input has, so that one that is too long is seen to be.
 const INPUT_ROOM: usize = INPUT_BYTES + 1;
@@ -11,7 +11,7 @@ const INPUT_ROOM: usize = INPUT_BYTES + 1;
 // Reads, has it answered, and writes.
 fn main() {
     let mut input = [0u8; INPUT_ROOM];
-    let got = streams::read_all(&mut input);
+    let got = stdio::read_all(&mut input);
     match got {
         Got::Bytes(n) => {
             answer(&input, n);
@@ -37,7 +37,7 @@ fn answer(bytes: &[u8], n: usize) {
 
 // The first n bytes of the room.
 fn put_room(room: &[u8; MOVEMENT_BYTES], n: usize) {
-    if streams::put(room, n) {
+    if stdio::put(room, n) {
         return;
     }
     io::write_all(

@@ -4,7 +4,7 @@ ghost use Prim.Native.Nat.{_<_};
 use libc::STDERR_FILENO;
 use quarter::OUTPUT_ROOM;
 use quarter::SHEET_ROOM;
-use streams::Got;
+use stdio::Got;
 
 // How many bytes are read at a time.
 const CHUNK: usize = 4096;
@@ -20,7 +20,7 @@ fn main() {
     let mut q = quarter::start();
     let mut left = MOST_READS;
     while 0 < left {
-        let got = streams::read_some(&mut chunk);
+        let got = stdio::read_some(&mut chunk);
         match got {
             Got::Failed => return say_unread(),
             Got::Bytes(n) => {
@@ -54,7 +54,7 @@ fn say_unread() {
 
 // The first n bytes of the room.
 fn put_room(room: &[u8; OUTPUT_ROOM], n: usize) {
-    if streams::put(room, n) {
+    if stdio::put(room, n) {
         return;
     }
     io::write_all(

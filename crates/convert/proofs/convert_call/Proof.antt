@@ -1,7 +1,7 @@
 -- A sheet that its length turns away is refused; any other is what its lines give, and what was written converts back. Assumes nothing.
 use mathlib.Core.Path.{sym, ap, _∙_}
 use Rattle.convert.specs.Steps.{linesCall}
-use Rattle.convert.specs.declared.Scale.{Scale}
+use Rattle.scaled_line.specs.declared.Scale.{Scale}
 use Rattle.convert.proofs.Calls.{whole-lines, call-turned, call-lines, promised}
 use borrow.Author.Needs.{needs}
 use Rattle.convert.proofs.convert_call.Statement.{statement}

@@ -21,7 +21,7 @@ loop-again c =
     let t = w .before .before .before in
     let l = t .before in
     let s = l .before .before .before in
-    write-again (l .loop .inv) (t .loop-test .taken) (s .pre .1) _ (w .write-other .ensures) (search needs)
+    write-again (l .loop .inv) (t .loop-test .taken) (s .pre .1) _ _ (w .write-other .ensures) (search needs)
 
 returns : tie.Need-returns Inv-loop μ-loop
 returns c =

@@ -23,7 +23,7 @@ abbrev Lines : tie.Start → List Entry → Type 0
 Lines s es = Holds es (s .args .firsts .now) (s .args .seconds .now) (s .args .marks .now)
 
 returns : tie.Need-returns
-returns c es H = no-scalar es (sym (scalar-is H) ∙ sym (c .before .has-scalar .ensures) ∙ not-true _ (c .if1 .taken))
+returns c = (λ es H. no-scalar es (sym (scalar-is H) ∙ sym (c .before .has-scalar .ensures) ∙ not-true _ (c .if1 .taken)), tt)
 
 has-scalar-line : (c : tie.Else1) (es : List Entry) → Lines (c .before .before) es → hasLine es Gen 0 scalarClass ≡ true
 has-scalar-line c es H = sym (scalar-is H) ∙ sym (c .before .has-scalar .ensures) ∙ not-false _ (c .if1 .left)
@@ -32,9 +32,9 @@ any-credit-above-requires : tie.Need-any-credit-above-requires
 any-credit-above-requires c κs = (c .before .before .before .before .pre, c .before .credits-of .ensures)
 
 returns-2 : tie.Need-returns-2
-returns-2 c es H =
+returns-2 c =
     let a = c .before in
-    credit-above es (has-scalar-line (a .before .before .before) es H) (sym (a .any-credit-above .ensures es H) ∙ c .if2 .taken)
+    (λ es H. credit-above es (has-scalar-line (a .before .before .before) es H) (sym (a .any-credit-above .ensures es H) ∙ c .if2 .taken), tt)
 
 -- no credit is above its block's LT(1)
 none-above : (c : tie.Else2) (es : List Entry) →
@@ -52,9 +52,10 @@ rule-17-requires c κs =
     )
 
 returns-3 : tie.Need-returns-3
-returns-3 c es H =
+returns-3 c =
     let e = c .before .before .before in
-    c .rule-17 .ensures es H ∙ credits-pass es (has-scalar-line (e .before .before .before .before) es H) (none-above e es H)
+    let r = c .rule-17 .ensures in
+    (λ es H. r .0 es H ∙ credits-pass es (has-scalar-line (e .before .before .before .before) es H) (none-above e es H), r .1)
 
 pub after-lines-spec : {M : Type 1} → statement M
 after-lines-spec =

@@ -9,7 +9,8 @@ returns : tie.Need-returns
 returns c =
     let l = c .before in
     let m = l .before .before in
-    no-lines _ _ _ _ (length-refused (m .before .before .args .sheet .now) _ _ (sym (m .measure .ensures) ∙ l .length .given .1))
+    let n = no-lines _ _ _ _ (length-refused (m .before .before .args .sheet .now) _ _ (sym (m .measure .ensures) ∙ l .length .given .1)) in
+    (n .0, (n .1, tt))
 
 returns-2 : tie.Need-returns-2
 returns-2 c =
@@ -18,7 +19,8 @@ returns-2 c =
     let t = l .before .before .before .before in
     let m = t .before .before in
     let s = m .before .before .args .sheet .now in
-    no-lines _ _ _ _ (bad-line s (sym (m .measure .ensures) ∙ t .enum-told .given .1) _ _ _ _ (l .read-lines .ensures) _ _ (r .read .given .1))
+    let n = no-lines _ _ _ _ (bad-line s (sym (m .measure .ensures) ∙ t .enum-told .given .1) _ _ _ _ (l .read-lines .ensures) _ _ (r .read .given .1)) in
+    (n .0, (n .1, tt))
 
 after-lines-requires : tie.Need-after-lines-requires
 after-lines-requires c κs =
@@ -38,8 +40,8 @@ returns-3 c =
     let s = m .before .before .args .sheet .now in
     let w = sym (m .measure .ensures) ∙ t .enum-told .given .1 in
     let h = holds s w _ _ _ _ (l .read-lines .ensures) _ (e .enum-told2 .given .1) in (
-      c .after-lines .ensures _ h ∙ good-lines s w _ _ _ _ (l .read-lines .ensures) _ (e .enum-told2 .given .1),
-      lines-held s _ _ _ h,
+      c .after-lines .ensures .0 _ h ∙ good-lines s w _ _ _ _ (l .read-lines .ensures) _ (e .enum-told2 .given .1),
+      (lines-held s _ _ _ h, c .after-lines .ensures .1),
     )
 
 pub judge-spec : {M : Type 1} → statement M

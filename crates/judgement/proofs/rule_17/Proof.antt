@@ -24,11 +24,11 @@ abbrev Lines : tie.Start → List Entry → Type 0
 Lines s es = Holds es (s .args .firsts .now) (s .args .seconds .now) (s .args .marks .now)
 
 returns : tie.Need-returns
-returns c es H = dividend-above es (sym (c .before .work-out .ensures es H .barred) ∙ c .if1 .taken)
+returns c = (λ es H. dividend-above es (sym (c .before .work-out .ensures .0 es H .barred) ∙ c .if1 .taken), tt)
 
 -- rule 17 bars no dividend credit
 none-barred : (c : tie.Else1) (es : List Entry) → Lines (c .before .before .before) es → anyTo (dividendBarred es) blocks ≡ false
-none-barred c es H = sym (c .before .work-out .ensures es H .barred) ∙ c .if1 .left
+none-barred c es H = sym (c .before .work-out .ensures .0 es H .barred) ∙ c .if1 .left
 
 -- so they can be taken off the sum of K
 sub-available : tie.Need-sub-available
@@ -36,7 +36,7 @@ sub-available c =
     let i = c .before .before in
     let w = i .before in
     let l = w .before .before .pre .0 in
-    let e = w .work-out .ensures (l .0) (l .1) in
+    let e = w .work-out .ensures .0 (l .0) (l .1) in
     omega (arith, e .sum, e .dividends, dividends-most (l .0) (l .1 .lines) blocks (none-barred i (l .0) (l .1)))
 
 -- back from the guarantee requirement to what is worked out, and to the start
@@ -53,7 +53,7 @@ total : (c : tie.After-general-amount) →
     → w .sum - w .dividends + c .general-amount .result + c .before .before .operational-figure .result ≡ available (sheetOf es)
 unfolding sheetOf
 total c es H =
-    let e = tested c .before .work-out .ensures es H in
+    let e = tested c .before .work-out .ensures .0 es H in
     available-is es _ _ _ _ (e .sum) (e .dividends) (c .general-amount .ensures ∙ general-is H 2 (omega arith, omega arith))
     (c .before .before .operational-figure .ensures es H)
 
@@ -78,9 +78,9 @@ add-free : tie.Need-add-free
 add-free c = let l = start (c .before .before) .pre .0 in omega (arith, free-is c (l .0) (l .1), free-small (l .0) (l .1 .lines))
 
 returns-2 : tie.Need-returns-2
-returns-2 c es H =
+returns-2 c =
     let a = c .before .before .before in
-    credits-above es (none-barred (tested a) es H) (omega (arith, c .if2 .taken, total a es H, free-is (c .before) es H))
+    (λ es H. credits-above es (none-barred (tested a) es H) (omega (arith, c .if2 .taken, total a es H, free-is (c .before) es H)), tt)
 
 scalar-is-g : (c : tie.After-general-amount3) (es : List Entry) → Lines (start (c .before .before .before .before)) es
     → c .general-amount3 .result ≡ sheetOf es .g
@@ -96,20 +96,24 @@ scaled-requires c κs =
 
 returns-3 : tie.Need-returns-3
 unfolding sheetOf
-returns-3 c es H =
+returns-3 c =
     let g = c .before in
     let k = g .before .before in
     let a = k .before .before in
-    let worked = tested a .before .work-out .ensures es H in
-    figured es
-    (record {
-      count-is = worked .count;
-      rows-are = worked .front;
-      sum-is = worked .sum;
-      ro-is = a .before .before .operational-figure .ensures es H;
-      buffer-is = buffer-is es _ _ _ _ (scalar-is-g g es H) (total a es H) (free-is k es H) (c .scaled .ensures);
-    })
-    ∙ passes es (none-barred (tested a) es H) (omega (arith, g .before .if2 .left, total a es H, free-is k es H))
+    let w = tested a .before .work-out .ensures in (
+      λ es H.
+          let worked = w .0 es H in
+          figured es
+          (record {
+            count-is = worked .count;
+            rows-are = worked .front;
+            sum-is = worked .sum;
+            ro-is = a .before .before .operational-figure .ensures es H;
+            buffer-is = buffer-is es _ _ _ _ (scalar-is-g g es H) (total a es H) (free-is k es H) (c .scaled .ensures);
+          })
+          ∙ passes es (none-barred (tested a) es H) (omega (arith, g .before .if2 .left, total a es H, free-is k es H)),
+      w .1,
+    )
 
 pub rule-17-spec : {M : Type 1} → statement M
 rule-17-spec =

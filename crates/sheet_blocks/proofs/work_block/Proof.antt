@@ -1,6 +1,6 @@
 -- A block that doesn't exist adds its dividend credit alone; the row of one that does goes behind those before it. Assumes nothing.
-use mathlib.Core.Path.{_≡_, sym, ap, _∙_}
-use mathlib.Core.List.{List}
+use mathlib.Core.Path.{_≡_, refl, sym, ap, _∙_}
+use mathlib.Core.List.{List, _∷_}
 use Prim.Native.Nat.{_+_, _*_, _≤_, _<_}
 use native.Mathlib.Omega.{arith}
 use borrow.Author.Needs.{needs}
@@ -16,7 +16,7 @@ use Rattle.credits.specs.Credits.{afterCredit}
 use Rattle.ledger.specs.Tables.{Holds}
 use Rattle.ledger.proofs.Tables.{exists-is}
 use Rattle.credits.proofs.Accepted.{block-accepted}
-use Rattle.sheet_blocks.proofs.Figured.{absent, present, fits, dividends-fit}
+use Rattle.sheet_blocks.proofs.Figured.{row-behind, absent, present, fits, dividends-fit}
 use Rattle.sheet_blocks.proofs.work_block.Statement.{statement}
 use Rattle.sheet_blocks.proofs.work_block.Tie as tie
 
@@ -49,14 +49,17 @@ joined-requires c κs =
     omega (arith, room s, d .dividend-credit .ensures (s .pre .1 .0 .0) (s .pre .1 .0 .1))
 
 returns : tie.Need-returns
-returns c es H =
-    let h = c .before in
-    let i = h .before in
-    let e = i .before in
-    let d = e .before in
-    let s = d .before .before .pre in
-    rw (c .joined .ensures)
-    (absent es (s .0 .0) (s .1 .1 .1 es H) (sym (existence e es H) ∙ not-true _ (i .if1 .taken)) _ _ (d .dividend-credit .ensures es H) (h .has-dividend .ensures es H))
+returns c = (
+  λ es H.
+      let h = c .before in
+      let i = h .before in
+      let e = i .before in
+      let d = e .before in
+      let s = d .before .before .pre in
+      rw (c .joined .ensures)
+      (absent es (s .0 .0) (s .1 .1 .1 es H) (sym (existence e es H) ∙ not-true _ (i .if1 .taken)) _ _ (d .dividend-credit .ensures es H) (h .has-dividend .ensures es H)),
+  rw (c .joined .ensures) (omega arith, refl),
+)
 
 figures-of-requires : tie.Need-figures-of-requires
 figures-of-requires c κs =
@@ -99,15 +102,20 @@ joined-requires-2 c κs =
     omega (arith, room s, figured f (l .0) (l .1) .1, credit f .dividend-credit .ensures (l .0) (l .1))
 
 returns-2 : tie.Need-returns-2
-returns-2 c es H =
+returns-2 c =
     let o = c .before .before .before .before in
     let f = figures o in
     let i = f .before .before .before in
     let s = start f in
-    let w = figured f es H in
-    rw (c .joined2 .ensures, o .store .ensures)
-    (present es (s .pre .0 .0) (s .pre .1 .1 .1 es H) (room s .0) (sym (existence (i .before) es H) ∙ not-false _ (i .if1 .left)) _ _ _ (w .0) (w .1)
-    (credit f .dividend-credit .ensures es H))
+    let l = s .pre .1 .0 in (
+      λ es H.
+          let w = figured f es H in
+          rw (c .joined2 .ensures, o .store .ensures)
+          (present es (s .pre .0 .0) (s .pre .1 .1 .1 es H) (room s .0) (sym (existence (i .before) es H) ∙ not-false _ (i .if1 .left)) _ _ _ (w .0) (w .1)
+          (credit f .dividend-credit .ensures es H)),
+      rw (c .joined2 .ensures, o .store .ensures)
+          (omega arith, row-behind (s .args .rows .now) (s .args .w .count) (s .args .block ∷ figureList (f .figures-of .result)) (omega (arith, room s .0, s .pre .1 .1 .1 (l .0) (l .1) .long)) refl),
+    )
 
 pub work-block-spec : {M : Type 1} → statement M
 work-block-spec =

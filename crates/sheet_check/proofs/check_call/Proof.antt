@@ -30,7 +30,7 @@ returns-2 c =
     let l = c .before .before in
     let t = l .before .before .before .before in
     let j = t .before .before in
-    promised _ _ _ (l .list .ensures ∙ walks _ _ _ _ _ _ _ (tells j _ (t .enum-told .given .1)) _ _ _ (j .judge .ensures .1))
+    promised _ _ _ (l .list .ensures ∙ walks _ _ _ _ _ _ _ (tells j _ (t .enum-told .given .1)) _ _ _ (j .judge .ensures .1 .0))
 
 pub check-call-spec : {M : Type 1} → statement M
 check-call-spec =

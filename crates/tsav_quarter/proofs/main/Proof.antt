@@ -6,8 +6,8 @@ use native.Mathlib.Omega.{arith}
 use lib.ListN.{length}
 use lib.Seq.{length-take-le}
 use borrow.Author.Needs.{needs}
-use Rattle.streams.specs.Within.{Within}
-use Rattle.streams.specs.declared.Got.{Got}
+use Rattle.stdio.specs.Read.{ReadInto}
+use Rattle.stdio.specs.declared.Got.{Got}
 use Rattle.quarter.specs.Steps.{Begun}
 use Rattle.tsav_quarter.proofs.main.Statement.{statement}
 use Rattle.tsav_quarter.proofs.main.Tie as tie
@@ -31,7 +31,7 @@ within : (c : tie.After-known-told Inv-loop μ-loop) →
 within c =
     let r = c .before .before .before .before in
     let l = r .before .before .before in
-    let w = subst (λ (g : Got). Within g (l .loop .chunk) (r .read-some .last .0)) (c .before .got .given .1) (r .read-some .ensures) in
+    let w = subst (λ (g : Got). ReadInto g (l .loop .chunk) (r .read-some .last .0)) (c .before .got .given .1) (r .read-some .ensures) in
     (w .0, w .1 ∙ l .loop .inv .1)
 
 array-share-prefix-chunk : tie.Need-array-share-prefix-chunk Inv-loop μ-loop

@@ -1,0 +1,2 @@
+-- The lines of a sheet read into tables. Assumes nothing.
+pub mod Filling

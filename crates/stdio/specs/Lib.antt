@@ -1,0 +1,2 @@
+-- What holds of bytes that were read.
+pub mod Read

@@ -1,2 +1,0 @@
--- What holds of bytes that were read.
-pub mod Within

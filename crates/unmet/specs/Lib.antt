@@ -1,0 +1,2 @@
+-- What tables are asked for. Assumes nothing.
+pub mod Asked
