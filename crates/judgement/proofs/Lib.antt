@@ -3,4 +3,5 @@ pub mod Accepted
 pub mod Alike
 pub mod Available
 pub mod Rules
+pub mod Told
 pub mod Lengths

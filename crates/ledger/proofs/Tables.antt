@@ -1,8 +1,9 @@
 -- What is read off the tables that hold a sheet's lines is what the lines say. Assumes nothing.
-use mathlib.Core.Path.{_≡_}
+use mathlib.Core.Path.{_≡_, refl}
 use mathlib.Core.List.{List}
 use Prim.Native.Nat.{ℕ, _≤_}
 use native.Mathlib.Omega.{arith}
+use lib.ListN.{replicate}
 use Rattle.guideline.specs.Sizes.{blocks}
 use Rattle.codes.specs.Codes.{generalClasses, scalarClass, Key}
 use Rattle.codes.specs.declared.Code.{Code}
@@ -10,13 +11,18 @@ use Rattle.codes.specs.declared.Code.the-variants.{Vol, Acq, Gen}
 use Rattle.sheet_line.specs.declared.Entry.{Entry}
 use Rattle.order.specs.Entries.{lookup, firstOf, secondOf, exists, hasLine}
 use Rattle.ledger.specs.Numbers.{blockBy, joinedBy, blockOf, volumesOf, generalAmount}
-use Rattle.order.specs.Places.{tabled}
+use Rattle.order.specs.Places.{places, table, tabled}
 use Rattle.order.specs.Marks.{hasMark, blockMarked}
 use Rattle.ledger.proofs.Bounds.{first-most, second-most}
 use Rattle.order.proofs.Indexes.{lookup-table}
 use Rattle.order.proofs.Marks.{mark-table, exists-table}
 use Rattle.ledger.proofs.Numbers.{block-table, volumes-table, general-table}
-use Rattle.ledger.specs.Tables.{Holds, JoinedFits}
+use Rattle.ledger.specs.Tables.{Empty, Holds, JoinedFits}
+
+-- tables of zeros hold no line
+pub none-held : Empty (replicate places 0) (replicate places 0) (replicate places 0)
+unfolding table
+none-held = record { first = refl; second = refl; mark = refl }
 
 module _ {es : List Entry} {f s m : List ℕ} (H : Holds es f s m) where
   pub exists-is : (b : ℕ) → 1 ≤ b → b ≤ blocks → blockMarked m b ≡ exists es b
