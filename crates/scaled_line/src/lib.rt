@@ -33,7 +33,7 @@ pub fn read_in(scale: Scale, s: &[u8]) -> Line
     }
 }
 
-// Writes a line that is read as good as the other sort of sheet has it; rules 20 and 21 are tested before that. Of a bad line nothing is written.
+// Writes a line, where its rules let it pass, as the other sort of sheet has it; rules 20 and 21 are tested before. Of a bad line nothing is written.
 pub fn write_other(scale: Scale, s: &[u8], out: &mut [u8])
     requires { ⌜ (length (now s) ≡ sheetLineBytes) × (length (now out) ≡ sheetLineBytes) ⌝ }
     ensures { λ _. ⌜ now (out .exit) ≡ otherOver scale (parseIn scale (now (s .entry))) (now (out .entry)) ⌝ }
