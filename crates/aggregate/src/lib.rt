@@ -1,4 +1,6 @@
 // The sheet call: a sheet is judged, then come rule 14 and the report. And what tsav-sheet prints of a sheet.
+#![tactic(auto)]
+
 ghost use Rattle.std.specs.Prelude.{◌≡◌};
 ghost use Rattle.printing.specs.Lent.{stated, Done};
 ghost use Rattle.printing.specs.Printing.{printout, Printed};

@@ -1,4 +1,6 @@
 // Amounts of money: whole cents, 14 digits at most.
+#![tactic(auto)]
+
 ghost use Rattle.std.specs.Prelude.{◌≡◌, ◌-◌};
 ghost use Rattle.amount.specs.Amount.{first_above};
 

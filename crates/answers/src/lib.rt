@@ -1,4 +1,6 @@
 // What a call gives to C and Rust of its answer: its number, how many bytes it has written, or the place of its refusal.
+#![tactic(auto)]
+
 ghost use Rattle.std.specs.Prelude.{◌≡◌};
 ghost use Rattle.refusal.specs.Outcome.{place_of};
 ghost use Rattle.printing.specs.Lent.{stated};

@@ -1,4 +1,6 @@
 // A number divided among ten parts by their margins, to the whole cent: the second step of request #112.
+#![tactic(auto)]
+
 ghost use Rattle.std.specs.Prelude.{◌≡◌, ◌+◌, ◌*◌, ◌/◌, ◌%◌, ◌^◌, ◌≤◌, ◌<◌, ltb, eqb};
 ghost use Rattle.search.specs.Pick.{pick};
 ghost use Rattle.search.specs.Total.{one};
@@ -11,7 +13,7 @@ use guideline::PARTS;
 use wide::words;
 
 // The shares rounded down, their remainders, and the cents left over.
-#[derive(Drop)]
+#[derive(Clone, Copy)]
 struct RoundedDown {
     quotients: [u64; PARTS],
     rests: [u64; PARTS],
@@ -19,7 +21,7 @@ struct RoundedDown {
 }
 
 // A share rounded down, and its remainder.
-#[derive(Drop)]
+#[derive(Clone, Copy)]
 struct Part {
     quotient: u64,
     rest: u64,

@@ -1,4 +1,6 @@
 // The block call: chapter 11.2 for one block, behind rules 7, 8 and 9.
+#![tactic(auto)]
+
 ghost use Rattle.std.specs.Prelude.{◌≡◌};
 ghost use Rattle.block.specs.Call.{stated, block_call, first_lt_above};
 ghost use Rattle.block.specs.Accepted.{BlockDemand3, FewSteps};
@@ -8,7 +10,7 @@ use guideline::{BLOCK_NUMBERS, RISKS};
 use refusal::Place;
 
 // What the block call gives: the figures and the steps, or the number and the place of a refusal.
-#[derive(Drop)]
+#[derive(Clone, Copy)]
 pub enum BlockAnswer {
     Accepted(Figures, Steps),
     Refused(u8, Place),

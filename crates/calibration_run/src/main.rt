@@ -1,6 +1,8 @@
 // Runs the block, the operational, the fluctuation and the shares call on figures that others printed, and on bad input. What it writes is
 // compared with the file stdout beside src/: document 000's, 001's and 003's figures as they stand there, the answers that document 01's table
 // names, document 02's steps, fluctuation factors and shares.
+#![tactic(auto)]
+
 use amount::LARGEST_AMOUNT;
 use block::BlockAnswer;
 use fluctuation::FluctuationAnswer;

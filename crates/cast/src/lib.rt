@@ -1,4 +1,6 @@
 // Numbers of another width, none of which changes: a byte or a size as a word, and a word as a size.
+#![tactic(auto)]
+
 ghost use Rattle.std.specs.Prelude.{◌≡◌};
 
 // A byte as a word.

@@ -1,4 +1,6 @@
 // The code in columns 1 to 3, and the blocks and classes that it has.
+#![tactic(auto)]
+
 ghost use Rattle.std.specs.Prelude.{◌≡◌, ◌≤◌, length};
 ghost use Rattle.codes.specs.Codes.{range_of, is_code, code_of};
 
@@ -8,7 +10,7 @@ use guideline::{
 };
 
 // The code of a line.
-#[derive(Drop)]
+#[derive(Clone, Copy)]
 pub enum Code {
     Rsk,
     Oth,
@@ -20,7 +22,7 @@ pub enum Code {
 }
 
 // What the first three columns hold.
-#[derive(Drop)]
+#[derive(Clone, Copy)]
 pub enum Coded {
     Known(Code),
     Unknown,
@@ -28,7 +30,7 @@ pub enum Coded {
 
 // The blocks and the classes that a code has: blocks from the lowest to the highest, classes from 1 on. CRD has two such ranges, one for
 // block 0 and one for the others.
-#[derive(Drop)]
+#[derive(Clone, Copy)]
 pub struct Range {
     pub lowest: u64,
     pub highest: u64,

@@ -2,6 +2,8 @@
 //
 // A sheet is read twice: first every line is tested, with the marks of those before it and the last key, then each is written. So a refusal
 // writes nothing, and no table of amounts is held.
+#![tactic(auto)]
+
 
 ghost use Rattle.std.specs.Prelude.{◌≡◌, [], ◌%◌, ◌≤◌, length};
 ghost use Rattle.layout.specs.Columns.{sheet_line_bytes};

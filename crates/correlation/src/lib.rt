@@ -1,4 +1,6 @@
 // The sum under the root sign of section 11.2.1, in quarters: row by row over all 49 products of two risks.
+#![tactic(auto)]
+
 ghost use Rattle.std.specs.Prelude.{◌≡◌, ◌+◌, ◌*◌, ◌<◌, pos};
 ghost use Rattle.guideline.specs.Factors.{factor, quarter_sum};
 ghost use Rattle.guideline.specs.Sizes.{risks, products};

@@ -1,4 +1,6 @@
 // The credits of a sheet off the tables that hold its lines, and a block's numbers after its credit.
+#![tactic(auto)]
+
 ghost use Rattle.std.specs.Prelude.{◌≡◌, ◌≤◌};
 ghost use Rattle.search.specs.First.{any_to};
 ghost use Rattle.search.specs.Total.{sum_to};

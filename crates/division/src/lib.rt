@@ -1,4 +1,6 @@
 // The quotient and the rest of a number of two words by a word, and the quotient rounded up.
+#![tactic(auto)]
+
 ghost use Rattle.std.specs.Prelude.{◌≡◌, ◌+◌, ◌-◌, ◌*◌, ◌/◌, ◌%◌, ◌^◌, ◌<◌, ◌≤◌, leb};
 ghost use Rattle.search.specs.Least.{least};
 ghost use Rattle.wide.specs.Value.{value};
@@ -6,14 +8,14 @@ ghost use Rattle.wide.specs.Value.{value};
 use wide::{Wide, words};
 
 // A quotient of two words, and its rest.
-#[derive(Drop)]
+#[derive(Clone, Copy)]
 pub struct Division {
     pub quotient: Wide,
     pub rest: u64,
 }
 
 // A quotient of one word, and its rest.
-#[derive(Drop)]
+#[derive(Clone, Copy)]
 struct WordDivision {
     quotient: u64,
     rest: u64,

@@ -1,4 +1,6 @@
 // A decimal number in columns: read and written.
+#![tactic(auto)]
+
 
 // A number that may be below 0.
 pub mod signed;
@@ -7,7 +9,7 @@ ghost use Rattle.std.specs.Prelude.{◌≡◌, ◌+◌, ◌-◌, ◌*◌, ◌%�
 ghost use Rattle.field.specs.Field.{most_columns, digits, field, digit_or_space, decimal};
 
 // What a number field holds.
-#[derive(Drop)]
+#[derive(Clone, Copy)]
 pub enum Field {
     Value(u64),
     Bad,

@@ -1,4 +1,6 @@
 // A block's figures, sections 11.2.1 to 11.2.4, with the steps of its two roots.
+#![tactic(auto)]
+
 ghost use Rattle.std.specs.Prelude.{◌≡◌, ◌+◌, ◌-◌, ◌*◌, ◌^◌, ◌≤◌, ◌<◌, leb};
 ghost use Rattle.search.specs.Least.{least};
 ghost use Rattle.amount.specs.Amount.{limit};
@@ -16,7 +18,7 @@ use wide::words;
 const OVER_V: u64 = 60 * FINENESS * FINENESS;
 
 // The reported figures of a block: I and D in half cents, the others in cents.
-#[derive(Drop)]
+#[derive(Clone, Copy)]
 pub struct Figures {
     pub i: u64,
     pub d: u64,
@@ -26,14 +28,14 @@ pub struct Figures {
 }
 
 // The steps of a block's two roots: that of I, and that of D.
-#[derive(Drop)]
+#[derive(Clone, Copy)]
 pub struct Steps {
     pub i: u64,
     pub d: u64,
 }
 
 // A block's figures, and the steps of its roots.
-#[derive(Drop)]
+#[derive(Clone, Copy)]
 pub struct Worked {
     pub figures: Figures,
     pub steps: Steps,

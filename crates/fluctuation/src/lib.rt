@@ -1,4 +1,6 @@
 // The fluctuation call: the factors of section 11.1.2, which reduce a large requirement.
+#![tactic(auto)]
+
 ghost use Rattle.std.specs.Prelude.{◌≡◌, ◌*◌, ◌≤◌, leb};
 ghost use Rattle.search.specs.Least.{least};
 ghost use Rattle.fluctuation.specs.Rows.{row_count, row_of};
@@ -16,7 +18,7 @@ const SCALE: u64 = 40000;
 const ROWS: u64 = 7;
 
 // What the fluctuation call gives: the requirement times its factor, or the number and the place of a refusal.
-#[derive(Drop)]
+#[derive(Clone, Copy)]
 pub enum FluctuationAnswer {
     Accepted(u64),
     Refused(u8, Place),
@@ -24,7 +26,7 @@ pub enum FluctuationAnswer {
 
 // The factor of a requirement: 1, or a first number, in twentieths, a second number and the base, in cents: the first plus the second over
 // the root of the base in dollars.
-#[derive(Drop)]
+#[derive(Clone, Copy)]
 enum Factor {
     One,
     Falling(u64, u64, u64),

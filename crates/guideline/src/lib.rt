@@ -1,4 +1,6 @@
 // The constants of chapters 8 and 11, each with the function that reads it.
+#![tactic(auto)]
+
 ghost use Rattle.std.specs.Prelude.{◌≡◌, ◌<◌, get_or};
 ghost use Rattle.guideline.specs.Sizes.{products, volume_classes};
 ghost use Rattle.guideline.specs.Factors.{factor};

@@ -4,6 +4,8 @@
 //
 // The print lost the root sign; its example's figures show it, and document 01 says it. Here I is in hundredths of the half cent (document 02,
 // #109) and ρ_ij in quarters.
+#![tactic(auto)]
+
 ghost use Rattle.std.specs.Prelude.{◌≡◌, ◌+◌, ◌*◌, ◌^◌, ◌<◌, max};
 ghost use Rattle.guideline.specs.Sizes.{fineness};
 ghost use Rattle.guideline.specs.Block.{AcceptedBlock, ys, largest_of, fine_i};

@@ -1,4 +1,6 @@
 // A sheet judged by every rule but 14, and what its report is to say.
+#![tactic(auto)]
+
 ghost use Rattle.std.specs.Prelude.{◌≡◌, ◌*◌, ◌≤◌, leb};
 ghost use Rattle.guideline.specs.Buffer.{most_available};
 ghost use Rattle.search.specs.Least.{least};
@@ -18,7 +20,7 @@ use sheet_length::Length;
 use sheet_reader::Answer;
 
 // What a sheet comes to: how many blocks exist, the sum of their K, RO and the buffer.
-#[derive(Drop)]
+#[derive(Clone, Copy)]
 pub struct Totals {
     pub count: usize,
     pub sum: u64,
@@ -27,7 +29,7 @@ pub struct Totals {
 }
 
 // A sheet that no rule turns away, or the rule that does, with its place.
-#[derive(Drop)]
+#[derive(Clone, Copy)]
 pub enum Verdict {
     Sound(Totals),
     TurnedAway(u8, Place),

@@ -1,4 +1,6 @@
 // The layout of a sheet's line, columns 4 to 40: the four numbers, and what stands between them; and which whole lines of a sheet keep it.
+#![tactic(auto)]
+
 ghost use Rattle.std.specs.Prelude.{◌≡◌, length};
 ghost use Rattle.layout.specs.Columns.{sheet_line_bytes, separated_of, fields_of, layout_of};
 ghost use Rattle.layout.specs.Whole.{is_broken, lines_kept};
@@ -9,7 +11,7 @@ use field::Field;
 pub const SHEET_LINE_BYTES: usize = 40;
 
 // The four numbers of a line.
-#[derive(Drop)]
+#[derive(Clone, Copy)]
 pub struct Numbers {
     pub block: u64,
     pub class: u64,
@@ -18,7 +20,7 @@ pub struct Numbers {
 }
 
 // What columns 4 to 40 hold.
-#[derive(Drop)]
+#[derive(Clone, Copy)]
 pub enum Layout {
     Kept(Numbers),
     Broken,

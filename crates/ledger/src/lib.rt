@@ -1,6 +1,8 @@
 // The numbers that are taken off the tables of a sheet's lines.
 //
 // First amounts, second amounts and marks have a table each, with a place for each code, block and class.
+#![tactic(auto)]
+
 ghost use Rattle.std.specs.Prelude.{◌≡◌, ◌≤◌};
 ghost use Rattle.codes.specs.Codes.{general_classes, Key};
 ghost use Rattle.guideline.specs.Sizes.{blocks};

@@ -1,4 +1,6 @@
 // A line of the listing, written: the label of a line, and that of its companion.
+#![tactic(auto)]
+
 ghost use Rattle.std.specs.Prelude.{◌≡◌, length};
 ghost use Rattle.codes.specs.Codes.{letters_of};
 ghost use Rattle.needs.specs.Listing.{label_bytes, label_of, listed_bytes, listed_line};

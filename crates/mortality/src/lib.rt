@@ -1,4 +1,6 @@
 // Level and trend of mortality, section 11.1.1: the credit for diversification between survival and death business.
+#![tactic(auto)]
+
 ghost use Rattle.std.specs.Prelude.{◌≡◌, ◌≤◌};
 ghost use Rattle.amount.specs.Amount.{limit};
 ghost use Rattle.guideline.specs.Block.{ir, lt};

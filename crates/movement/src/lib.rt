@@ -1,5 +1,7 @@
 // The movement call: a block's 17 numbers and t are read off 18 lines, and for each risk in turn there is a line that says how far the reported K
 // moves as the risk's component is raised by t. And what tsav-movement prints of its input.
+#![tactic(auto)]
+
 
 // The lines of the risks.
 pub mod moves;

@@ -1,4 +1,6 @@
 // The input of the movement call: 18 lines of an amount in 14 columns and a line feed, the block's 17 numbers and then t.
+#![tactic(auto)]
+
 ghost use Rattle.std.specs.Prelude.{◌≡◌, ◌<◌, length};
 ghost use Rattle.movement_input.specs.Reading.{input_line_bytes, input_lines, input_bytes, amount_of, amount_at, lines_kept, number_at, block_of};
 

@@ -1,4 +1,6 @@
 // What a line of a sheet needs, the lines that can need another, and how long their listing can be.
+#![tactic(auto)]
+
 ghost use Rattle.std.specs.Prelude.{◌≡◌, ◌≤◌};
 ghost use Rattle.needs.specs.Needs.{volume_need, credit_need, need_of};
 ghost use Rattle.needs.specs.Needing.{most_listed, needing};
@@ -7,7 +9,7 @@ use codes::{Code, GUARANTEE_CLASS};
 use guideline::{NON_PARTICIPATING, PARTICIPATING, TERRITORIES, VOLUME_CLASSES, VOLUME_PAIRS};
 
 // A line's code, block and class.
-#[derive(Drop)]
+#[derive(Clone, Copy)]
 pub struct Label {
     pub code: Code,
     pub block: usize,
@@ -15,7 +17,7 @@ pub struct Label {
 }
 
 // What a line needs: nothing, or a companion. Class 0 of a companion is whichever class there is.
-#[derive(Drop)]
+#[derive(Clone, Copy)]
 pub enum Need {
     Nothing,
     Companion(Label),

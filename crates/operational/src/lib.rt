@@ -1,4 +1,6 @@
 // The operational call: chapter 8 for all territories.
+#![tactic(auto)]
+
 ghost use Rattle.std.specs.Prelude.{◌≡◌, ℕ, ◌+◌, ◌-◌, ◌*◌, ◌^◌, ◌≤◌, leb, length, get_or};
 ghost use Rattle.search.specs.Least.{least};
 ghost use Rattle.amount.specs.Amount.{limit};
@@ -12,7 +14,7 @@ use guideline::{
 use refusal::Place;
 
 // What the operational call gives: RO, or the number and the place of a refusal.
-#[derive(Drop)]
+#[derive(Clone, Copy)]
 pub enum OperationalAnswer {
     Accepted(u64),
     Refused(u8, Place),

@@ -1,6 +1,8 @@
 // A sheet's lines without their amounts: the order of lines, the marks of those that stood before, and what admits a line after them.
 //
 // A table of marks has a row for each block, with a column for each class that RSK, OTH, VOL, MOR, ACQ and CRD have, and row 0 for GEN and CRD.
+#![tactic(auto)]
+
 ghost use Rattle.std.specs.Prelude.{◌≡◌, ◌≤◌, ◌<◌};
 ghost use Rattle.codes.specs.Codes.{scalar_class, Key};
 ghost use Rattle.guideline.specs.Sizes.{blocks};

@@ -1,4 +1,6 @@
 // A call that leaves a text in lent room: what it answers, and what a program prints of it, the text or the line of the refusal.
+#![tactic(auto)]
+
 ghost use Rattle.std.specs.Prelude.{◌≡◌, ◌-◌, ◌≤◌, ◌<◌, length};
 ghost use Rattle.report_line.specs.Line.{line_bytes, report_line_bytes, row_in};
 ghost use Rattle.printing.specs.Printing.{refusal_row, Shown};
@@ -7,7 +9,7 @@ use refusal::Place;
 use report_line::REPORT_LINE_BYTES;
 
 // The length of the text, or the refusal's number and place.
-#[derive(Drop)]
+#[derive(Clone, Copy)]
 pub enum RoomAnswer {
     Accepted(usize),
     Refused(u8, Place),

@@ -1,5 +1,7 @@
 // The quarter's sheets together: an input is taken chunk by chunk, each sheet is answered as soon as it is closed, and the end of the input brings the
 // summary, or what turns the input away.
+#![tactic(auto)]
+
 ghost use Rattle.std.specs.Prelude.{◌≡◌, false, List, [], ℕ, suc, length};
 ghost use Rattle.sheet_length.specs.Measured.{longest_sheet};
 ghost use Rattle.quarter.specs.Steps.{longest_output, After, Begun, BegunIn, Taken, Finished};
@@ -18,7 +20,7 @@ pub const OUTPUT_ROOM: usize = LINE_BYTES * (MOST_SHEETS + SUMMARY_ITEMS);
 
 // What is known of an input so far: the sheet that is not closed yet, how many were answered, whether a byte stood after the last closing line that an
 // input may have, and the summary.
-#[derive(Drop)]
+#[derive(Clone, Copy)]
 pub struct Quarter {
     pub held: Held,
     pub sheets: usize,

@@ -1,4 +1,6 @@
 // The lines of the quarter's sheets: that of a sheet, with what it adds to the summary.
+#![tactic(auto)]
+
 ghost use Rattle.std.specs.Prelude.{◌≡◌, List, ◌++◌, length};
 ghost use Rattle.judgement.specs.Judgement.{judgement};
 ghost use Rattle.report_line.specs.Line.{line_bytes, row_in};

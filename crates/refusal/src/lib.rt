@@ -1,4 +1,6 @@
 // The place of a refusal, and the two numbers that it is told by.
+#![tactic(auto)]
+
 ghost use Rattle.std.specs.Prelude.{◌≡◌};
 ghost use Rattle.refusal.specs.Outcome.{place_of};
 
@@ -19,7 +21,7 @@ const SHEET: u64 = 4;
 
 // Where a refusal has its place: a line of the input, counted from 1, a position in a call's numbers, counted from 0, a risk, 1 to 7, a sheet of
 // several, counted from 1, or nowhere.
-#[derive(Drop)]
+#[derive(Clone, Copy)]
 pub enum Place {
     Line(usize),
     Position(usize),

@@ -1,4 +1,6 @@
 // A report, each line written into its own stretch of a lent slice.
+#![tactic(auto)]
+
 ghost use Rattle.std.specs.Prelude.{◌≡◌, ◌++◌, ◌-◌, ◌*◌, ◌≤◌, ◌<◌, length, drop};
 ghost use Rattle.guideline.specs.Sizes.{blocks, block_figures, row_numbers};
 ghost use Rattle.report_line.specs.Line.{line_bytes, report_line_bytes, rows_in, print_rows};

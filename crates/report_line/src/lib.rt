@@ -1,4 +1,6 @@
 // A line of the report.
+#![tactic(auto)]
+
 ghost use Rattle.std.specs.Prelude.{◌≡◌, ◌∷◌, [], ◌++◌, ◌-◌, ◌<◌, length};
 ghost use Rattle.report_line.specs.Line.{line_bytes, report_line_bytes, key, line_in, report_line};
 

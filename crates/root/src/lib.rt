@@ -1,4 +1,6 @@
 // The least whole number whose square reaches a number of two words, found one binary digit at a time.
+#![tactic(auto)]
+
 ghost use Rattle.std.specs.Prelude.{◌≡◌, ◌+◌, ◌-◌, ◌*◌, ◌/◌, ◌^◌, ◌<◌, ◌≤◌, leb};
 ghost use Rattle.search.specs.Least.{least};
 ghost use Rattle.search.specs.Pick.{pick};
@@ -8,7 +10,7 @@ ghost use Rattle.root.specs.Steps.{steps};
 use wide::Wide;
 
 // A root and the steps that it took.
-#[derive(Drop)]
+#[derive(Clone, Copy)]
 pub struct Root {
     pub root: u64,
     pub steps: u64,
@@ -56,7 +58,7 @@ pub fn root_and_steps(n: Wide) -> Root
 }
 
 // What is held between two steps: the root so far, and what its square leaves.
-#[derive(Drop)]
+#[derive(Clone, Copy)]
 struct PartialRoot {
     root: u64,
     rest: u64,

@@ -1,4 +1,6 @@
 // A running sum that may be below 0: the products with a factor above 0 and those with one below 0, each kept by columns.
+#![tactic(auto)]
+
 ghost use Rattle.std.specs.Prelude.{◌≡◌, ℕ, ◌+◌, ◌*◌, ◌^◌, ◌<◌, ◌≤◌, pos, nat_abs, ◌+ℤ◌, ◌*ℤ◌};
 ghost use Rattle.wide.specs.Value.{value};
 ghost use Rattle.running_sum.specs.Sum.{number, fill, held, filled};
@@ -11,7 +13,7 @@ const COLUMN_BASE: u64 = 16777216;
 const UPPER_BASE: u64 = 65536;
 
 // A number by its columns in base 2^24. A column may pass the base: nothing is carried before the words are put together.
-#[derive(Drop)]
+#[derive(Clone, Copy)]
 struct Columns {
     ones: u64,
     middle: u64,
@@ -19,7 +21,7 @@ struct Columns {
 }
 
 // A sum that may be below 0: what was added, and what was taken away.
-#[derive(Drop)]
+#[derive(Clone, Copy)]
 pub struct Sum {
     added: Columns,
     taken: Columns,

@@ -1,5 +1,7 @@
 // A line of a sheet of either sort: in cents, with the code in capital letters, or in thousands of dollars, with the code in small ones. It is
 // read, tested by rules 20 and 21, and written as the other sort has it.
+#![tactic(auto)]
+
 
 // The letters of the two sorts.
 pub mod letters;
@@ -14,7 +16,7 @@ ghost use Rattle.scaled_line.specs.Other.{other_over};
 use sheet_line::Line;
 
 // The sort of a sheet, by what its amounts count.
-#[derive(Drop)]
+#[derive(Clone, Copy)]
 pub enum Scale {
     Cents,
     Thousands,

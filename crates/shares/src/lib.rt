@@ -1,4 +1,6 @@
 // The shares call: K of a block divided among its ten parts by the marginal method, request #112.
+#![tactic(auto)]
+
 ghost use Rattle.std.specs.Prelude.{◌≡◌, ◌≤◌};
 ghost use Rattle.guideline.specs.Sizes.{parts};
 ghost use Rattle.guideline.specs.Block.{AcceptedBlock, K};
@@ -12,7 +14,7 @@ use guideline::{BLOCK_NUMBERS, PARTS, RISKS};
 use refusal::Place;
 
 // The share of each part, in cents.
-#[derive(Drop)]
+#[derive(Clone, Copy)]
 pub struct Shares {
     pub risk1: u64,
     pub risk2: u64,
@@ -27,14 +29,14 @@ pub struct Shares {
 }
 
 // What the shares call gives: the shares, or the number and the place of a refusal.
-#[derive(Drop)]
+#[derive(Clone, Copy)]
 pub enum SharesAnswer {
     Accepted(Shares),
     Refused(u8, Place),
 }
 
 // The margins of the parts and their sum, where none is negative.
-#[derive(Drop)]
+#[derive(Clone, Copy)]
 struct Found {
     each: [u64; PARTS],
     sum: u64,

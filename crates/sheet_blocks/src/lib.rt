@@ -1,4 +1,6 @@
 // The blocks of a sheet worked out off the tables that hold its lines: a row of figures for each, the sum of their K and of their dividend credits.
+#![tactic(auto)]
+
 ghost use Rattle.std.specs.Prelude.{◌≡◌, Bool, ◌∷◌, ◌+◌, ◌-◌, ◌^◌, ◌≤◌, ◌<◌, length};
 ghost use borrow.Rule.Slice.PartMut.{put_mid};
 ghost use Rattle.search.specs.Pick.{pick};
@@ -14,7 +16,7 @@ use order::PLACES;
 
 // What is known of the blocks up to some number: how many exist, the sum of their K, the sum of their dividend credits, and whether rule 17
 // bars one of these.
-#[derive(Drop)]
+#[derive(Clone, Copy)]
 pub struct Worked {
     pub count: usize,
     pub sum: u64,

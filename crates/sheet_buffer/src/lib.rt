@@ -1,4 +1,6 @@
 // A sheet's buffer, or what turns the sheet away.
+#![tactic(auto)]
+
 ghost use Rattle.std.specs.Prelude.{◌≡◌};
 ghost use Rattle.judgement.specs.Judgement.{judgement};
 ghost use Rattle.sheet_buffer.specs.Answer.{stated, buffer_of};
@@ -9,7 +11,7 @@ use order::PLACES;
 use refusal::Place;
 
 // The buffer of an accepted sheet, or the refusal's number and place.
-#[derive(Drop)]
+#[derive(Clone, Copy)]
 pub enum BufferAnswer {
     Accepted(u64),
     Refused(u8, Place),

@@ -1,6 +1,8 @@
 // Runs the sheet call on stored cases. Standard input has, for each case, a header of 12 bytes, the sheet's length and the room lent
 // in five digits each, and then the sheet; the file stdout beside src/ has what an independent calculation answers. The room is filled
 // with '#' before the call, and written whole after it.
+#![tactic(auto)]
+
 ghost use Rattle.std.specs.Prelude.{◌<◌};
 
 use libc::{STDIN_FILENO, STDOUT_FILENO};
@@ -20,7 +22,7 @@ const SHEET_ROOM: usize = LONGEST_SHEET + 1;
 const REPORT_ROOM: usize = LONGEST_REPORT + 93;
 
 // What a case's header says.
-#[derive(Drop)]
+#[derive(Clone, Copy)]
 struct Header {
     found: bool,
     length: usize,

@@ -2,6 +2,8 @@
 //
 // Only 176 lines can need another. They are looked up in the tables that judging has filled, in the order of lines, which is the sheet's: once to count
 // the unmet needs, so that a refusal writes nothing, and once to write.
+#![tactic(auto)]
+
 ghost use Rattle.std.specs.Prelude.{◌≡◌, ◌++◌, ◌+◌, ◌-◌, ◌≤◌, length, drop};
 ghost use Rattle.printing.specs.Lent.{stated, Done};
 ghost use Rattle.printing.specs.Printing.{printout, Printed};

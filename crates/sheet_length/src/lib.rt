@@ -1,4 +1,6 @@
 // What the length of a sheet says of it: rules 1 and 2, and rule 3 of its whole lines where rule 2 applies.
+#![tactic(auto)]
+
 ghost use Rattle.std.specs.Prelude.{◌≡◌};
 ghost use Rattle.sheet_length.specs.Measured.{measured};
 
@@ -25,7 +27,7 @@ pub const MOST_LINES: usize = BLOCKS * (RISK_CLASSES + OTHER_CLASSES)
 pub const LONGEST_SHEET: usize = SHEET_LINE_BYTES * MOST_LINES;
 
 // A sheet of whole lines, and no more of them than there can be; or the rule that turns it away, with its place.
-#[derive(Drop)]
+#[derive(Clone, Copy)]
 pub enum Length {
     Whole,
     Refused(u8, Place),

@@ -1,5 +1,7 @@
 // A line of the sheet: 40 bytes, rules 3, 4, 5, 6, 8, 9 and 10 in this order.
 // The rules, each ending in the next.
+#![tactic(auto)]
+
 pub mod rules;
 
 ghost use Rattle.std.specs.Prelude.{◌≡◌, length};
@@ -10,7 +12,7 @@ use codes::Code;
 use layout::SHEET_LINE_BYTES;
 
 // A line's code and numbers.
-#[derive(Drop)]
+#[derive(Clone, Copy)]
 pub struct Entry {
     pub code: Code,
     pub block: u64,
@@ -20,7 +22,7 @@ pub struct Entry {
 }
 
 // What reading a line gives: the entry, or the number of the first rule that turns it away.
-#[derive(Drop)]
+#[derive(Clone, Copy)]
 pub enum Line {
     Good(Entry),
     Refused(u8),

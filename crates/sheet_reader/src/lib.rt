@@ -1,4 +1,6 @@
 // The lines of a sheet read into tables that the caller lends.
+#![tactic(auto)]
+
 ghost use Rattle.codes.specs.Codes.{Key};
 ghost use Rattle.order.specs.Reading.{reading};
 ghost use Rattle.ledger.specs.Tables.{Empty};
@@ -10,7 +12,7 @@ use refusal::Place;
 use sheet_line::{Entry, Line};
 
 // A sheet's lines are all good, and this is how many there are; or the first bad one is refused.
-#[derive(Drop)]
+#[derive(Clone, Copy)]
 pub enum Answer {
     Accepted(usize),
     Refused(u8, Place),

@@ -1,4 +1,6 @@
 // A line of a sheet, written.
+#![tactic(auto)]
+
 ghost use Rattle.std.specs.Prelude.{◌≡◌, length};
 ghost use Rattle.layout.specs.Columns.{sheet_line_bytes, lettered};
 

@@ -1,11 +1,13 @@
 // Standard input and output, for every program: all of the input, or some bytes of it, read into lent room, and the first bytes of a text written.
+#![tactic(auto)]
+
 ghost use Rattle.std.specs.Prelude.{◌≡◌, true, ◌≤◌, length};
 ghost use Rattle.stdio.specs.Read.{ReadInto};
 
 use libc::{STDIN_FILENO, STDOUT_FILENO};
 
 // How many bytes were read; or that a read failed.
-#[derive(Drop)]
+#[derive(Clone, Copy)]
 pub enum Got {
     Bytes(usize),
     Failed,

@@ -1,5 +1,7 @@
 // A stream of sheets, cut at its closing lines. The bytes of the sheet that is not closed yet lie in a room that the caller lends; those past the
 // room are dropped, so that a room of one byte more than the longest sheet shows that a sheet is too long.
+#![tactic(auto)]
+
 ghost use Rattle.std.specs.Prelude.{◌≡◌, ◌≤◌, length};
 ghost use Rattle.stream.specs.Steps.{counted, Within, Fresh, Put, Stepped, ScannedTo};
 
@@ -8,7 +10,7 @@ const MINUSES: usize = 39;
 
 // What is known of a sheet that is not closed yet: how many of its bytes the room holds, how many of these stand before the line that has begun,
 // and how many minus signs that line is; 40 where it is something else.
-#[derive(Drop)]
+#[derive(Clone, Copy)]
 pub struct Held {
     pub length: usize,
     pub begun: usize,
@@ -16,7 +18,7 @@ pub struct Held {
 }
 
 // What a byte does: the sheet goes on, or it is closed and the room holds so many bytes of it.
-#[derive(Drop)]
+#[derive(Clone, Copy)]
 enum Step {
     On(Held),
     Closed(usize),
@@ -24,7 +26,7 @@ enum Step {
 
 // What the bytes of a chunk do: the sheet goes on after all of them, or it is closed, the room holds so many bytes of it, and the next sheet begins at
 // a place of the chunk.
-#[derive(Drop)]
+#[derive(Clone, Copy)]
 pub enum Fed {
     On(Held),
     Closed(usize, usize),

@@ -1,18 +1,20 @@
 // What is said of several sheets together: of those that are accepted their number, the smallest and the largest buffer, each with the first sheet
 // that has it, the total and the mean.
+#![tactic(auto)]
+
 ghost use Rattle.std.specs.Prelude.{◌≡◌, List, ◌∷◌, [], ◌++◌, ◌+◌, ◌^◌, ◌<◌};
 ghost use Rattle.summary.specs.Together.{leading, smaller, larger, summary_of, items_of};
 ghost use Rattle.summary.specs.declared.Accepted.{Accepted};
 
 // An accepted sheet: its number, and its buffer.
-#[derive(Drop)]
+#[derive(Clone, Copy)]
 pub struct Accepted {
     pub sheet: u64,
     pub buffer: u64,
 }
 
 // What is known of the accepted sheets so far; zeros where there is none.
-#[derive(Drop)]
+#[derive(Clone, Copy)]
 pub struct Summary {
     pub count: u64,
     pub smallest: Accepted,

@@ -1,5 +1,7 @@
 // tsav-check: reads a sheet from standard input and writes the listing of its lines whose needs are unmet, or the line of its refusal. A read
 // or a write that fails is said on standard error; a sheet that could not be read gets neither.
+#![tactic(auto)]
+
 use libc::STDERR_FILENO;
 use needs::LONGEST_LISTING;
 use sheet_length::LONGEST_SHEET;

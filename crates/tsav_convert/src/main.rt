@@ -1,5 +1,7 @@
 // tsav-convert: reads a sheet from standard input and writes it in the other sort, in thousands or in cents, or the line of its refusal. A read
 // or a write that fails is said on standard error; a sheet that could not be read gets neither.
+#![tactic(auto)]
+
 use libc::STDERR_FILENO;
 use sheet_length::LONGEST_SHEET;
 use stdio::Got;

@@ -1,5 +1,7 @@
 // tsav-movement: reads a block's 17 numbers and t from standard input and writes how far each risk, raised by t, moves the reported K, or the line
 // of the refusal. A read or a write that fails is said on standard error; an input that could not be read gets neither.
+#![tactic(auto)]
+
 use libc::STDERR_FILENO;
 use movement::MOVEMENT_BYTES;
 use movement_input::INPUT_BYTES;

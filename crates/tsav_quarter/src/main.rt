@@ -1,5 +1,7 @@
 // tsav-quarter: reads the quarter's sheets from standard input and writes a line for each and the summary, or what turns the input away. A read or a
 // write that fails is said on standard error; an input that could not be read to its end gets no line.
+#![tactic(auto)]
+
 ghost use Rattle.std.specs.Prelude.{◌<◌};
 
 use libc::STDERR_FILENO;

@@ -1,5 +1,7 @@
 // tsav-sheet: reads a sheet from standard input and writes its report, or the line of its refusal. A read or a write that fails is
 // said on standard error; a sheet that could not be read gets neither a report nor a refusal.
+#![tactic(auto)]
+
 use libc::STDERR_FILENO;
 use report::LONGEST_REPORT;
 use sheet_length::LONGEST_SHEET;

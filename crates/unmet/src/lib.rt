@@ -1,4 +1,6 @@
 // Whether a line's need is unmet, by the tables that hold the first and the second amounts of a sheet's lines.
+#![tactic(auto)]
+
 ghost use Rattle.std.specs.Prelude.{◌≡◌, ◌≤◌};
 ghost use Rattle.guideline.specs.Sizes.{blocks};
 ghost use Rattle.codes.specs.Codes.{Key};

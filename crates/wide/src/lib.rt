@@ -1,8 +1,10 @@
 // Numbers of two machine words.
+#![tactic(auto)]
+
 pub mod words; // words.rt: products, sums and quarters
 
 // A number of two words: the upper one counts 2^64 each.
-#[derive(Drop)]
+#[derive(Clone, Copy)]
 pub struct Wide {
     pub high: u64,
     pub low: u64,

@@ -1,0 +1,13 @@
+use mathlib.Core.Path.{sym}
+use Prim.Native.Nat.{◌-◌}
+use borrow.Author.Tests.{lt-ltb, le-ltb}
+use lib.ListN.{length}
+use Rattle.search.proofs.Firsts.{Sought, sought_start, sought_more, sought_found, sought_none}
+use Rattle.amount.specs.Amount.{first_above, above}
+use Rattle.amount.proofs.first_above.Given as goal
+
+abbrev pub invariant-loop-i : goal.invariant-loop-i
+invariant-loop-i l = Sought (above l.amounts) (length l.amounts) l.i
+
+abbrev pub decreases-loop-i : goal.decreases-loop-i
+decreases-loop-i l = length l.amounts - l.i

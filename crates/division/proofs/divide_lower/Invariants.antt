@@ -1,0 +1,11 @@
+use Prim.Native.Nat.{◌+◌, ◌*◌, ◌^◌, ◌≤◌}
+use native.Mathlib.Omega.{arith}
+use lib.Count.{count_leading_zeros}
+use Rattle.division.proofs.Quotients.{Width, width_of, fewer, Between, start, narrower, step, last}
+use Rattle.division.proofs.divide_lower.Given as goal
+
+abbrev pub invariant-loop-left : goal.invariant-loop-left
+invariant-loop-left l = (l.left ≤ 64) × Between (l.above * 2 ^ 64 + l.low) l.low l.d l.held.quotient l.held.rest l.left
+
+abbrev pub decreases-loop-left : goal.decreases-loop-left
+decreases-loop-left l = l.left

@@ -1,0 +1,14 @@
+use mathlib.Core.Path.{◌≡◌, refl, sym, ◌∙◌}
+use Prim.Native.Nat.{◌≤◌, ◌<◌, ◌-◌, ◌^◌}
+use native.Mathlib.Omega.{arith}
+use native.Mathlib.Nat.{one-le-pow}
+use lib.ListN.{length, drop}
+use Rattle.field.specs.Field.{digits}
+use Rattle.field.proofs.Reading.{digits_low, digits_high, digits_more, digits_end, grows, columns_fit}
+use Rattle.field.proofs.digits_from.Given as goal
+
+abbrev pub invariant-loop-i : goal.invariant-loop-i
+invariant-loop-i l = (l.i ≤ length l.s) × ((l.v < 10 ^ l.i) × (digits l.v (drop l.i l.s) ≡ digits 0 (drop l.from l.s)))
+
+abbrev pub decreases-loop-i : goal.decreases-loop-i
+decreases-loop-i l = length l.s - l.i

@@ -1,0 +1,10 @@
+use mathlib.Core.Path.{◌∙◌}
+use lib.ListN.{length, length-set}
+use Rattle.field.proofs.Writing.{Written, last_written, next_written, all_written}
+use Rattle.field.proofs.write_field.Given as goal
+
+abbrev pub invariant-loop-i : goal.invariant-loop-i
+invariant-loop-i l = Written (length l.initial.out) l.v l.out l.i l.left
+
+abbrev pub decreases-loop-i : goal.decreases-loop-i
+decreases-loop-i l = l.i
