@@ -2,7 +2,6 @@
 -- as it is. Assumes nothing.
 use mathlib.Core.Path.{◌≡◌, sym, ap, subst, ◌∙◌}
 use Prim.Native.Nat.{ℕ, ◌<◌}
-use borrow.Author.Rules.{rules}
 use lib.ListN.{get_or}
 use lib.IntN.{ℤ, pos}
 use mir.Syntax.{w8, w64}
@@ -12,25 +11,21 @@ use Rattle.search.proofs.Values.{values, values_at}
 use Rattle.guideline.specs.Sizes.{products}
 use Rattle.guideline.specs.Factors.{factors, factor}
 use Rattle.guideline.proofs.Table.{factor_small, small_fits}
-use Rattle.guideline.proofs.factor_at.Statement.{statement}
-use Rattle.guideline.proofs.factor_at.Tie as tie
+use Rattle.guideline.proofs.factor_at.Goals as goal
 
 -- an entry as the machine reads it back from its byte
 entry : (k : ℕ) → k < products → to_z w8 (of_z w8 (get_or (values factor products) k (pos 0))) ≡ factor k
 entry k h =
     ap (λ (z : ℤ). to_z w8 (of_z w8 z)) (values_at factor (pos 0) products k h) ∙ to_z-of_z w8 (factor k) (small_fits (factor k) (factor_small k)).0
 
-cast-result : tie.Need-overflow-cast-result
+pub overflow_cast-result : goal.overflow_cast-result
 unfolding factor factors values
-cast-result c =
-    let k : ℕ = c.before.args.k in
-    subst (λ (z : ℤ). SFits w64 z) (sym (entry k c.before.requires)) (small_fits (factor k) (factor_small k)).1
+overflow_cast-result c =
+    let k : ℕ = c.args.k in
+    subst (λ (z : ℤ). SFits w64 z) (sym (entry k c.requires)) (small_fits (factor k) (factor_small k)).1
 
-returns : tie.Need-returns
+pub returns : goal.returns
 unfolding factor factors values
 returns c =
-    let k : ℕ = c.before.args.k in
-    ap (λ (z : ℤ). to_z w64 (of_z w64 z)) (entry k c.before.requires) ∙ to_z-of_z w64 (factor k) (small_fits (factor k) (factor_small k)).1
-
-pub factor-at-spec : {M : Type 1} → statement M
-factor-at-spec = tie.close (tie.spec (λ c. search rules) cast-result returns)
+    let k : ℕ = c.args.k in
+    ap (λ (z : ℤ). to_z w64 (of_z w64 z)) (entry k c.requires) ∙ to_z-of_z w64 (factor k) (small_fits (factor k) (factor_small k)).1
