@@ -17,7 +17,7 @@ use report::LONGEST_REPORT;
 
 // A sheet of any bytes, and a lent report of any length: nothing is written of it before every rule passes.
 pub fn sheet_call(sheet: &[u8], report: &mut [u8]) -> RoomAnswer
-    ensures fact { ◌≡◌ {A = Done} (record { outcome = stated result; room = report.new }) (sheet_call sheet.now report.old) }
+    ensures answer { ◌≡◌ {A = Done} (record { outcome = stated result; room = report.new }) (sheet_call sheet.now report.old) }
     ensures demand3 { Demand3 sheet.now (stated result) report.new }
 {
     let mut firsts = [0u64; PLACES];

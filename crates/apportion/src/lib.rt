@@ -42,8 +42,8 @@ pub fn shared_out(k: u64, margins: &[u64; PARTS], sum: u64) -> [u64; PARTS]
 // Each share rounded down; what is taken off k for them leaves the cents.
 fn divided(k: u64, margins: &[u64; PARTS], sum: u64) -> RoundedDown
     requires { Shareable k (value_of_part margins.now) sum }
-    ensures quotients_value { (result.quotients ≡ list_to (base k (value_of_part margins.now)) parts) × (result.left ≡ left_over k (value_of_part margins.now)) }
-    ensures rests_value { result.rests ≡ list_to (remainder k (value_of_part margins.now)) parts }
+    ensures quotients { (result.quotients ≡ list_to (base k (value_of_part margins.now)) parts) × (result.left ≡ left_over k (value_of_part margins.now)) }
+    ensures remainders { result.rests ≡ list_to (remainder k (value_of_part margins.now)) parts }
 {
     let mut quotients = [0u64; PARTS];
     let mut rests = [0u64; PARTS];

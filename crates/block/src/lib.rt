@@ -19,8 +19,8 @@ pub enum BlockAnswer {
 // A block of any 17 numbers: seven pairs IR, LT, then PC, credit, market. Where it is accepted, the figures meet demand 3,
 // and no root took more than 58 steps.
 pub fn block_call(b: &[u64; BLOCK_NUMBERS]) -> BlockAnswer
-    ensures result_value { stated result ≡ block_call b.now }
-    ensures block_demand3 { BlockDemand3 b.now (stated result) }
+    ensures outcome { stated result ≡ block_call b.now }
+    ensures demand3 { BlockDemand3 b.now (stated result) }
     ensures few_steps { FewSteps (stated result) }
 {
     let above = amount::first_above(b);

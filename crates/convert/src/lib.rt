@@ -25,7 +25,7 @@ use sheet_line::Line;
 
 // A sheet of any bytes, and lent room of any length: nothing is written into it before every rule passes.
 pub fn convert_call(sheet: &[u8], room: &mut [u8]) -> RoomAnswer
-    ensures fact { ◌≡◌ {A = Done} (record { outcome = stated result; room = room.new }) (convert_call sheet.now room.old) }
+    ensures answer { ◌≡◌ {A = Done} (record { outcome = stated result; room = room.new }) (convert_call sheet.now room.old) }
     ensures converts_back { ConvertsBack sheet.now (stated result) room.new }
 {
     let length = sheet_length::measure(sheet);

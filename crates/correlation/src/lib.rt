@@ -25,8 +25,8 @@ pub fn correlated(y: &[u64; RISKS]) -> Wide
 // comes after k others: read at places that are written out, the compiler works with the factors as with numbers.
 fn row_by_row(y: &[u64; RISKS]) -> Sum
     requires { SmallYs y.now }
-    ensures so_far { SoFar y.now products result }
-    ensures result_value { held result ≡ quarter_sum y.now }
+    ensures all_products { SoFar y.now products result }
+    ensures sum { held result ≡ quarter_sum y.now }
 {
     let s0 = running_sum::empty();
     // i = 1, Mortalité
@@ -58,9 +58,9 @@ fn with_row(
     f6: i64,
     f7: i64,
 ) -> Sum
-    requires row_lt_risks { row < risks }
+    requires in_table { row < risks }
     requires so_far { SoFar y.now (risks * row) before }
-    requires row { Row row f1 f2 f3 f4 f5 f6 f7 }
+    requires factors { Row row f1 f2 f3 f4 f5 f6 f7 }
     ensures { SoFar y.now (risks * row + risks) result }
 {
     let s1 = with_product(before, y, row, 0, f1);
@@ -75,9 +75,9 @@ fn with_row(
 // One product, ρ_ij × (IR_i − 0,5 × LT_i) × (IR_j − 0,5 × LT_j): the held sum, in quarters and possibly below zero, goes from exactly
 // that of the first k products, k = 7 × row + column, to that of the first k + 1; i is row + 1 and j is column + 1.
 fn with_product(before: Sum, y: &[u64; RISKS], row: usize, column: usize, quarters: i64) -> Sum
-    requires row_lt_risks { (row < risks) × (column < risks) }
+    requires in_table { (row < risks) × (column < risks) }
     requires so_far { SoFar y.now (risks * row + column) before }
-    requires quarters_value { quarters ≡ factor (risks * row + column) }
+    requires is_factor { quarters ≡ factor (risks * row + column) }
     ensures { SoFar y.now (risks * row + (column + 1)) result }
 {
     running_sum::add_term(before, quarters, y[row], y[column])

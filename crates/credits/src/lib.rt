@@ -64,7 +64,7 @@ pub fn numbers_after_credit(
     credits: &[u64; NON_PARTICIPATING],
     block: usize,
 ) -> [u64; BLOCK_NUMBERS]
-    requires le_block { (1 ≤ block) × (block ≤ blocks) }
+    requires block_number { (1 ≤ block) × (block ≤ blocks) }
     requires ledger { Ledger firsts.now seconds.now marks.now }
     requires of_lines { OfLines firsts.now seconds.now marks.now (λ es. Credited es credits.now) }
     ensures { OfLines firsts.now seconds.now marks.now (λ es. result ≡ after_credit es block) }
@@ -81,7 +81,7 @@ fn credit_of(
     credits: &[u64; NON_PARTICIPATING],
     block: usize,
 ) -> u64
-    requires le_block { 1 ≤ block }
+    requires block_number { 1 ≤ block }
     requires ledger { Ledger firsts.now seconds.now marks.now }
     requires of_lines { OfLines firsts.now seconds.now marks.now (λ es. Credited es credits.now) }
     ensures { OfLines firsts.now seconds.now marks.now (λ es. result ≡ credit_of es block) }
@@ -99,7 +99,7 @@ pub fn dividend_credit(
     marks: &[u8; PLACES],
     block: usize,
 ) -> u64
-    requires le_block { (1 ≤ block) × (block ≤ blocks) }
+    requires block_number { (1 ≤ block) × (block ≤ blocks) }
     requires ledger { Ledger firsts.now seconds.now marks.now }
     ensures { OfLines firsts.now seconds.now marks.now (λ es. result ≡ dividend_credit es block) }
 {
@@ -116,7 +116,7 @@ pub fn has_dividend(
     marks: &[u8; PLACES],
     block: usize,
 ) -> bool
-    requires le_block { (1 ≤ block) × (block ≤ blocks) }
+    requires block_number { (1 ≤ block) × (block ≤ blocks) }
     requires ledger { Ledger firsts.now seconds.now marks.now }
     ensures { OfLines firsts.now seconds.now marks.now (λ es. result ≡ has_line es Code.Crd block 1) }
 {

@@ -95,10 +95,10 @@ fn divide_lower(above: u64, low: u64, d: u64) -> WordDivision
 
 // One step of a long division by d: the `width` binary digits of low above its last `left` are brought down to the rest so far.
 fn divide_step(before: WordDivision, low: u64, left: u32, width: u32, d: u64) -> WordDivision
-    requires left_bound { (left < 64) × (width < 64) × (2 ^ width * d ≤ 2 ^ 64) }
-    requires rest_lt_d { (before.rest < d) × ((before.quotient + 1) * 2 ^ width ≤ 2 ^ 64) }
-    ensures rest_lt_d_2 { (result.rest < d) × (result.quotient + 1 ≤ (before.quotient + 1) * 2 ^ width) }
-    ensures rest_value { result.quotient * d + result.rest ≡ (before.quotient * d + before.rest) * 2 ^ width + low / 2 ^ left % 2 ^ width }
+    requires widths { (left < 64) × (width < 64) × (2 ^ width * d ≤ 2 ^ 64) }
+    requires room { (before.rest < d) × ((before.quotient + 1) * 2 ^ width ≤ 2 ^ 64) }
+    ensures below { (result.rest < d) × (result.quotient + 1 ≤ (before.quotient + 1) * 2 ^ width) }
+    ensures value { result.quotient * d + result.rest ≡ (before.quotient * d + before.rest) * 2 ^ width + low / 2 ^ left % 2 ^ width }
 {
     let quotient = before.quotient;
     let rest = before.rest;

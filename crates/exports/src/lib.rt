@@ -49,7 +49,7 @@ pub extern "C" fn tsav_block(
     place: &mut [u64; 2],
 ) -> u64
     ensures leaves { Leaves (block_call numbers.now) result figures.old place.old figures.new place.new }
-    ensures block_demand3 { result ≡ 0 → BlockDemand3 numbers.now (accepted figures.new) × FewSteps (accepted figures.new) }
+    ensures demand3 { result ≡ 0 → BlockDemand3 numbers.now (accepted figures.new) × FewSteps (accepted figures.new) }
 {
     let answer = block::block_call(numbers);
     match answer {

@@ -34,8 +34,8 @@ enum Factor {
 
 // A row, a requirement and a face amount in cents, any numbers. Where they are accepted, the result meets the accuracy rule with one cent.
 pub fn fluctuation_call(row: u64, requirement: u64, face: u64) -> FluctuationAnswer
-    ensures* r_value { λ r. ⌜ stated r ≡ fluctuation_call row requirement face ⌝ }
-    ensures* fact { λ r. ⌜ FluctuationDemand row requirement face (stated r) ⌝ }
+    ensures outcome { stated result ≡ fluctuation_call row requirement face }
+    ensures accuracy { FluctuationDemand row requirement face (stated result) }
 {
     if row < 1 {
         return FluctuationAnswer::Refused(18, Place::Nowhere);
@@ -54,7 +54,7 @@ pub fn fluctuation_call(row: u64, requirement: u64, face: u64) -> FluctuationAns
 // The requirement times its factor, rounded up to the cent.
 fn fluctuation(row: u64, requirement: u64, face: u64) -> u64
     requires { AcceptedFluctuation row requirement face }
-    ensures* { λ r. ⌜ r ≡ factored_requirement (row_of row) requirement face ⌝ }
+    ensures { result ≡ factored_requirement (row_of row) requirement face }
 {
     let factor = factor_of(row, requirement, face);
     match factor {
@@ -66,7 +66,7 @@ fn fluctuation(row: u64, requirement: u64, face: u64) -> u64
 // The rows of section 11.1.2, each with its threshold in cents. The base is the requirement, for critical illness the face amount.
 fn factor_of(row: u64, requirement: u64, face: u64) -> Factor
     requires { (1 ≤ row) × (row ≤ row_count) }
-    ensures* { λ r. ⌜ r ≡ factor_for (row_of row) requirement face ⌝ }
+    ensures { result ≡ factor_for (row_of row) requirement face }
 {
     match row {
         // disability level
@@ -112,7 +112,7 @@ fn factor_of(row: u64, requirement: u64, face: u64) -> Factor
 // The requirement times a factor below 1. In twentieths of a cent it is first × requirement and what the second number adds.
 fn falling(first: u64, second: u64, base: u64, requirement: u64) -> u64
     requires { Falls first second base requirement }
-    ensures* { λ r. ⌜ r ≡ least (reaches first second base requirement) ⌝ }
+    ensures { result ≡ least (reaches first second base requirement) }
 {
     (first * requirement + over_root(requirement * second, base) + 19) / 20
 }
@@ -121,7 +121,7 @@ fn falling(first: u64, second: u64, base: u64, requirement: u64) -> u64
 // first, so that two words hold it, and then what that leaves.
 fn over_root(c: u64, base: u64) -> u64
     requires { InReach c base }
-    ensures* { λ r. ⌜ r ≡ least (λ x. leb (scale * (c * c)) (x * x * base)) ⌝ }
+    ensures { result ≡ least (λ x. leb (scale * (c * c)) (x * x * base)) }
 {
     let by = division::divide(words::product(c, c), base);
     let quotient = by.quotient;

@@ -45,8 +45,8 @@ pub fn judge(
     rows: &mut [u64; TABLE_NUMBERS],
 ) -> Verdict
     requires { Empty firsts.old seconds.old marks.old }
-    ensures rows_after { stated result rows.new ≡ findings (judgement sheet.now) }
-    ensures lines_of { LinesOf (judgement sheet.now) firsts.new seconds.new marks.new }
+    ensures findings { stated result rows.new ≡ findings (judgement sheet.now) }
+    ensures tables { LinesOf (judgement sheet.now) firsts.new seconds.new marks.new }
     ensures behind_rows { BehindRows result rows.old rows.new }
 {
     let length = sheet_length::measure(sheet);
@@ -68,7 +68,7 @@ fn after_lines(
     rows: &mut [u64; TABLE_NUMBERS],
 ) -> Verdict
     requires { Ledger firsts.now seconds.now marks.now }
-    ensures of_lines { OfLines firsts.now seconds.now marks.now (λ es. stated result rows.new ≡ findings (rule12 es)) }
+    ensures findings { OfLines firsts.now seconds.now marks.now (λ es. stated result rows.new ≡ findings (rule12 es)) }
     ensures behind_rows { BehindRows result rows.old rows.new }
 {
     if !order::has_scalar(marks) {
@@ -91,7 +91,7 @@ fn rule_17(
 ) -> Verdict
     requires ledger { Ledger firsts.now seconds.now marks.now }
     requires of_lines { OfLines firsts.now seconds.now marks.now (λ es. Credited es credits.now) }
-    ensures of_lines_2 { OfLines firsts.now seconds.now marks.now (λ es. stated result rows.new ≡ findings (rule17 es)) }
+    ensures findings { OfLines firsts.now seconds.now marks.now (λ es. stated result rows.new ≡ findings (rule17 es)) }
     ensures behind_rows { BehindRows result rows.old rows.new }
 {
     let w = sheet_blocks::work_out(firsts, seconds, marks, credits, rows);

@@ -24,7 +24,7 @@ pub const MOVEMENT_BYTES: usize = REPORT_LINE_BYTES * RISKS;
 
 // An input of any bytes, and lent room for the lines: nothing is written into it before every rule passes.
 pub fn movement_call(input: &[u8], room: &mut [u8; MOVEMENT_BYTES]) -> RoomAnswer
-    ensures fact { ◌≡◌ {A = Done} (record { outcome = stated result; room = room.new }) (movement_call input.now room.old) }
+    ensures answer { ◌≡◌ {A = Done} (record { outcome = stated result; room = room.new }) (movement_call input.now room.old) }
     ensures swing { Swing input.now (stated result) room.new }
 {
     if input.len() != INPUT_BYTES {

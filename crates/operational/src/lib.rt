@@ -60,8 +60,8 @@ fn general_requirement(figures: &[u64; GENERAL_FIGURES]) -> u64
 
 // Volume and growth of all classes of all territories, over 50,000.
 fn business(volumes: &[u64]) -> u64
-    requires volumes_len_bound { length volumes.now ≤ volume_numbers }
-    requires by_index { ((k : ℕ) → current volumes.now k ≤ limit) × ((k : ℕ) → prior volumes.now k ≤ 2 * limit) }
+    requires most_volumes { length volumes.now ≤ volume_numbers }
+    requires within_limit { ((k : ℕ) → current volumes.now k ≤ limit) × ((k : ℕ) → prior volumes.now k ≤ 2 * limit) }
     ensures { result ≡ 5 * volume volumes.now + growth volumes.now }
 {
     let n = volumes.len() / 2;

@@ -59,7 +59,7 @@ pub fn take_chunk(
 // The same, sheet after sheet, where there are not too many yet.
 fn take_bytes(room: &mut [u8], out: &mut [u8], q: Quarter, chunk: &[u8]) -> Quarter
     requires begun { Begun room.old out.old q }
-    requires over_value { q.over ≡ false }
+    requires not_over { q.over ≡ false }
     ensures { Taken room.old out.old q chunk.now room.new out.new result }
 {
     let mut held = q.held;

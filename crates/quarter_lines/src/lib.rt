@@ -21,7 +21,7 @@ pub const LINE_BYTES: usize = 30;
 pub fn answer_sheet(sheet: &[u8], line: &mut [u8], number: usize, summary: Summary) -> Summary
     requires { (length line.old ≡ line_bytes columns) × Few summary }
     ensures line_after { line.new ≡ row_in columns (sheet_row number (judgement sheet.now)) }
-    ensures value { (xs : List Accepted) → summary ≡ summary_of xs → result ≡ summary_of (xs ++ accepted_as number (judgement sheet.now)) }
+    ensures summed { (xs : List Accepted) → summary ≡ summary_of xs → result ≡ summary_of (xs ++ accepted_as number (judgement sheet.now)) }
 {
     let answer = sheet_buffer::buffer_of(sheet);
     match answer {

@@ -67,8 +67,8 @@ struct PartialRoot {
 // One binary digit of the root: two binary digits of the radicand are brought down.
 fn root_step(root: u64, rest: u64, digits: u64) -> PartialRoot
     requires { (rest ≤ 2 * root) × (root < 2 ^ 61) × (digits < 4) }
-    ensures rest_value { (result.root * result.root + result.rest ≡ 4 * (root * root + rest) + digits) × (result.rest ≤ 2 * result.root) }
-    ensures root_bound { (2 * root ≤ result.root) × (result.root ≤ 2 * root + 1) }
+    ensures value { (result.root * result.root + result.rest ≡ 4 * (root * root + rest) + digits) × (result.rest ≤ 2 * result.root) }
+    ensures digit { (2 * root ≤ result.root) × (result.root ≤ 2 * root + 1) }
 {
     let next = 4 * rest + digits;
     let odd = 4 * root + 1;

@@ -66,8 +66,8 @@ pub fn add_term(s: Sum, factor: i64, a: u64, b: u64) -> Sum
 
 // The sum as an unsigned number of two words, where it is shown not to be below 0.
 pub fn unsigned(s: Sum) -> Wide
-    requires by_index { (q : ℕ) × (held s ≡ pos q) }
-    requires s_bound { filled s ≤ 2 ^ 63 }
+    requires not_negative { (q : ℕ) × (held s ≡ pos q) }
+    requires small { filled s ≤ 2 ^ 63 }
     ensures { pos (value result) ≡ held s }
 {
     subtract(words_of(s.added), words_of(s.taken))

@@ -46,7 +46,7 @@ struct Found {
 // The shares of a block of any 17 numbers: seven pairs IR, LT, then PC, credit, market. Where it is accepted, they total K, and each is
 // within a cent of its unrounded share.
 pub fn shares_call(b: &[u64; BLOCK_NUMBERS]) -> SharesAnswer
-    ensures result_value { stated result ≡ shares_call b.now }
+    ensures outcome { stated result ≡ shares_call b.now }
     ensures shares_demand { SharesDemand b.now (stated result) }
 {
     let answer = block::block_call(b);

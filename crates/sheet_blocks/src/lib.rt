@@ -34,8 +34,8 @@ pub fn work_out(
 ) -> Worked
     requires ledger { Ledger firsts.now seconds.now marks.now }
     requires of_lines { OfLines firsts.now seconds.now marks.now (λ es. Credited es credits.now) }
-    requires rows_len { length rows.old ≡ table_numbers }
-    ensures of_lines_2 { OfLines firsts.now seconds.now marks.now (λ es. WorkedOut es blocks result rows.new) }
+    requires room { length rows.old ≡ table_numbers }
+    ensures worked_out { OfLines firsts.now seconds.now marks.now (λ es. WorkedOut es blocks result rows.new) }
     ensures rest_kept { RestKept result.count rows.old rows.new }
 {
     let mut w = Worked {
@@ -62,12 +62,12 @@ fn work_block(
     block: usize,
     w: Worked,
 ) -> Worked
-    requires le_block { (1 ≤ block) × (block ≤ blocks) }
+    requires block_number { (1 ≤ block) × (block ≤ blocks) }
     requires ledger { Ledger firsts.now seconds.now marks.now }
     requires of_lines { OfLines firsts.now seconds.now marks.now (λ es. Credited es credits.now) }
-    requires of_lines_2 { OfLines firsts.now seconds.now marks.now (λ es. WorkedOut es (block - 1) w rows.old) }
-    ensures of_lines_3 { OfLines firsts.now seconds.now marks.now (λ es. WorkedOut es block result rows.new) }
-    ensures count_le_count { (w.count ≤ result.count) × RestKept result.count rows.old rows.new }
+    requires worked_before { OfLines firsts.now seconds.now marks.now (λ es. WorkedOut es (block - 1) w rows.old) }
+    ensures worked_out { OfLines firsts.now seconds.now marks.now (λ es. WorkedOut es block result rows.new) }
+    ensures rest_kept { (w.count ≤ result.count) × RestKept result.count rows.old rows.new }
 {
     let dividend = credits::dividend_credit(firsts, seconds, marks, block);
     if !order::block_exists(marks, block) {

@@ -21,7 +21,7 @@ use refusal::Place;
 
 // A sheet of any bytes, and lent room of any length: nothing is written into it before every rule passes.
 pub fn check_call(sheet: &[u8], room: &mut [u8]) -> RoomAnswer
-    ensures fact { ◌≡◌ {A = Done} (record { outcome = stated result; room = room.new }) (check_call sheet.now room.old) }
+    ensures answer { ◌≡◌ {A = Done} (record { outcome = stated result; room = room.new }) (check_call sheet.now room.old) }
     ensures lists_exactly { ListsExactly sheet.now (stated result) room.new }
 {
     let mut firsts = [0u64; PLACES];

@@ -1,0 +1,16 @@
+-- The sum over all i, j is never below 0, and its columns have room for 49 products. Assumes nothing.
+use mathlib.Core.Path.{◌∙◌}
+use native.Mathlib.Omega.{arith}
+use Rattle.guideline.proofs.Table.{quarter_natural}
+use Rattle.correlation.proofs.correlated.Goals as goal
+
+pub unsigned-requires : goal.unsigned-requires
+unsigned-requires c =
+    let e = c.row_by_row.ensures in
+    let n = quarter_natural c.args.y.now in record {
+      by_index = (n.0, e.result_value ∙ n.1);
+      s_bound = omega (arith, e.so_far.room);
+    }
+
+pub returns : goal.returns
+returns c = c.unsigned.ensures ∙ c.row_by_row.ensures.result_value

@@ -1,0 +1,40 @@
+-- Business and five times the general requirement are the numerator of RO, which fits a word for all territories. Assumes nothing.
+use mathlib.Core.Path.{◌∙◌}
+use Prim.Native.Nat.{◌+◌, ◌*◌, ◌^◌, ◌≤◌}
+use native.Mathlib.Omega.{arith}
+use lib.Dec.{leb}
+use Rattle.search.specs.Least.{least}
+use Rattle.guideline.specs.Operational.{RO, operational_numerator, operational_denominator}
+use Rattle.guideline.proofs.Charges.{numerator_fits}
+use Rattle.operational.proofs.operational.Goals.{After-general_requirement}
+use Rattle.operational.proofs.operational.Goals as goal
+
+pub business-requires : goal.business-requires
+business-requires c = let a = c.requires in record {
+      volumes_len_bound = a.short;
+      by_index = (a.currents, a.priors);
+    }
+
+pub general_requirement-requires : goal.general_requirement-requires
+general_requirement-requires c = let a = c.requires in (a.gross, a.guarantee, a.ceded)
+
+-- with the room that rounding needs
+small : (c : After-general_requirement) → c.business.result + 5 * c.general_requirement.result + operational_denominator ≤ 2 ^ 64
+small c =
+    let f = numerator_fits _ _ c.requires in
+    omega (arith, c.business.ensures, c.general_requirement.ensures, f.business_fits, f.general_fits)
+
+pub returns : goal.returns
+unfolding RO operational_numerator
+returns c =
+    c.rounded_up.ensures
+    ∙ (λ i. least (λ x. leb (c.business.ensures i + 5 * c.general_requirement.ensures i) (operational_denominator * x)))
+
+pub overflow_mul-general_requirement : goal.overflow_mul-general_requirement
+overflow_mul-general_requirement c = omega (arith, small c)
+
+pub overflow_add-business : goal.overflow_add-business
+overflow_add-business c = omega (arith, small c)
+
+pub rounded_up-requires : goal.rounded_up-requires
+rounded_up-requires c = small c

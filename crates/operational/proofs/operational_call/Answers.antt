@@ -1,0 +1,42 @@
+-- Each return is the chain of the tests that led to it: rule 15, then rule 7 over the volumes and over the general figures after them.
+-- Assumes nothing.
+use mathlib.Core.Path.{◌≡◌, sym, ap, ◌∙◌}
+use mathlib.Core.List.{[], ◌∷◌}
+use Prim.Native.Nat.{ℕ}
+use native.Mathlib.Omega.{arith}
+use Rattle.search.proofs.Picks.{if_lt, if_ge, if_ne}
+use Rattle.refusal.specs.Outcome.Outcome.{accepted}
+use Rattle.operational.specs.Call.{rule7, operational_call}
+use Rattle.operational.proofs.Rules.{passed_15, in_volumes, in_general, passed_7, amounts}
+use Rattle.operational.proofs.operational_call.Goals.{Else-n-ne0}
+use Rattle.operational.proofs.operational_call.Goals as goal
+
+-- past rule 15
+after_15 : (c : Else-n-ne0) →
+    let a = c.args in
+    operational_call a.volumes.now a.general.now ≡ rule7 a.volumes.now a.general.now
+after_15 c = passed_15 _ _ c.if-n-gt-VOLUME_NUMBERS.false c.if-n-ne0.false
+
+pub returns-then-n-gt-VOLUME_NUMBERS : goal.returns-then-n-gt-VOLUME_NUMBERS
+unfolding operational_call
+returns-then-n-gt-VOLUME_NUMBERS c = sym (if_lt _ c.if-n-gt-VOLUME_NUMBERS.true)
+
+pub returns-then-n-ne0 : goal.returns-then-n-ne0
+unfolding operational_call
+returns-then-n-ne0 c = sym (if_ge _ c.if-n-gt-VOLUME_NUMBERS.false ∙ if_ne _ c.if-n-ne0.true)
+
+pub returns-then-above-n : goal.returns-then-above-n
+returns-then-above-n c = sym (after_15 (goal.at.returns-then-above-n c).Else-n-ne0 ∙ in_volumes _ _ c.first_above-above.ensures c.if-above-n.true)
+
+pub returns-then-after-lt-GENERAL_FIGURES : goal.returns-then-after-lt-GENERAL_FIGURES
+returns-then-after-lt-GENERAL_FIGURES c =
+    sym (after_15 (goal.at.returns-then-after-lt-GENERAL_FIGURES c).Else-n-ne0 ∙ in_general _ _ c.first_above-above.ensures c.if-above-n.false c.first_above-after.ensures (omega arith))
+
+pub operational-requires : goal.operational-requires
+operational-requires c =
+    amounts _ _ c.first_above-above.ensures c.if-above-n.false c.first_above-after.ensures c.if-n-gt-VOLUME_NUMBERS.false (omega arith)
+
+pub returns : goal.returns
+returns c =
+    ap (λ (x : ℕ). accepted (x ∷ [])) c.operational.ensures
+    ∙ sym (after_15 (goal.at.returns c).Else-n-ne0 ∙ passed_7 _ _ c.first_above-above.ensures c.if-above-n.false c.first_above-after.ensures (omega arith))

@@ -1,0 +1,12 @@
+-- Columns 1–10 and the number's are put back where they were lent, and the line feed is stored behind them. Assumes nothing.
+use lib.ListN.{length-set}
+use Rattle.report_line.proofs.Filled.{line_filled}
+use borrow.Author.Rules.{rules}
+use Rattle.report_line.proofs.write_line_in.Goals as goal
+
+pub returns : goal.returns
+returns c =
+    line_filled c.args.out.now _ _ _ _ _ _ (search rules) c.requires c.write_key.ensures c.write_field.ensures
+
+pub shape_of-out : goal.shape_of-out
+shape_of-out c = simp length-set (search rules)
