@@ -42,8 +42,8 @@ read_back z = to_z w64 (of_z w64 z)
 read_factor : (r : ℤ) (k : ℕ) → r ≡ factor k → read_back r ≡ factor k
 read_factor r k e = ap read_back e ∙ to_z-of_z w64 _ (small_fits _ (factor_small k)).1
 
--- what `with_row` asks, from a row's factors as the table gives them
-pub row_asked : (row : ℕ) {f₁ f₂ f₃ f₄ f₅ f₆ f₇ : ℤ} {ys : List ℕ} {s : Sum} → row < risks → SoFar ys (risks * row) s → Row row f₁ f₂ f₃ f₄ f₅ f₆ f₇ →
-    (row < risks) × (SoFar ys (risks * row) s × Row row (read_back f₁) (read_back f₂) (read_back f₃) (read_back f₄) (read_back f₅) (read_back f₆) (read_back f₇))
-row_asked row h w r =
-    (h, (w, (read_factor _ _ r.0, read_factor _ _ r.1, read_factor _ _ r.2, read_factor _ _ r.3, read_factor _ _ r.4, read_factor _ _ r.5, read_factor _ _ r.6)))
+-- a row's factors as the table gives them, each read back
+pub row_read : (row : ℕ) {f₁ f₂ f₃ f₄ f₅ f₆ f₇ : ℤ} → Row row f₁ f₂ f₃ f₄ f₅ f₆ f₇ →
+    Row row (read_back f₁) (read_back f₂) (read_back f₃) (read_back f₄) (read_back f₅) (read_back f₆) (read_back f₇)
+row_read row r =
+    (read_factor _ _ r.0, read_factor _ _ r.1, read_factor _ _ r.2, read_factor _ _ r.3, read_factor _ _ r.4, read_factor _ _ r.5, read_factor _ _ r.6)

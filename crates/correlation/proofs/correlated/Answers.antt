@@ -8,9 +8,9 @@ pub unsigned-requires : goal.unsigned-requires
 unsigned-requires c =
     let e = c.row_by_row.ensures in
     let n = quarter_natural c.args.y.now in record {
-      by_index = (n.0, e.result_value ∙ n.1);
-      s_bound = omega (arith, e.so_far.room);
+      not_negative = (n.0, e.sum ∙ n.1);
+      small = omega (arith, e.all_products.room);
     }
 
 pub returns : goal.returns
-returns c = c.unsigned.ensures ∙ c.row_by_row.ensures.result_value
+returns c = c.unsigned.ensures ∙ c.row_by_row.ensures.sum

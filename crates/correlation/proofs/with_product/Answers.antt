@@ -16,7 +16,7 @@ use Rattle.correlation.proofs.with_product.Goals as goal
 
 -- the factor as the machine reads it
 read : (c : Start) → to_z w64 (of_z w64 c.args.quarters) ≡ factor (risks * c.args.row + c.args.column)
-read c = to_z-of_z w64 c.args.quarters c.ranges.quarters ∙ c.requires.quarters_value
+read c = to_z-of_z w64 c.args.quarters c.ranges.quarters ∙ c.requires.is_factor
 
 pub add_term-requires : goal.add_term-requires
 add_term-requires c =
@@ -25,7 +25,7 @@ add_term-requires c =
       subst (λ (z : ℤ). nat_abs z ≤ 4) (sym (read (goal.at.add_term-requires c).Start)) (factor_small _),
       omega (arith, y_small y w.small c.args.row),
       omega (arith, y_small y w.small c.args.column),
-      omega (arith, c.requires.row_lt_risks, w.room),
+      omega (arith, c.requires.in_table, w.room),
     )
 
 pub returns : goal.returns
@@ -37,6 +37,6 @@ returns c =
     let e = c.add_term.ensures in
     record {
       small = w.small;
-      sum = e.0 ∙ (λ t. w.sum t +ℤ read (goal.at.returns c).Start t *ℤ pos (get_or y i 0 * get_or y j 0)) ∙ sym (so_far_next y i j c.requires.row_lt_risks.1);
+      sum = e.0 ∙ (λ t. w.sum t +ℤ read (goal.at.returns c).Start t *ℤ pos (get_or y i 0 * get_or y j 0)) ∙ sym (so_far_next y i j c.requires.in_table.1);
       room = omega (arith, w.room, e.1);
     }

@@ -4,9 +4,10 @@ use Prim.Native.Nat.{◌+◌, ◌*◌, ◌^◌, ◌≤◌}
 use native.Mathlib.Omega.{arith}
 use lib.Count.{count_leading_zeros}
 use Rattle.division.proofs.Quotients.{Width, width_of, fewer, Between, start, narrower, step, last}
+use Rattle.division.proofs.divide_lower.Goals.{Start}
 use Rattle.division.proofs.divide_lower.Goals as goal
 
-width : (c : goal.Start) → Width c.args.d (count_leading_zeros 64 c.args.d)
+width : (c : Start) → Width c.args.d (count_leading_zeros 64 c.args.d)
 width c = width_of _ (omega (arith, c.requires.0)) c.requires.1
 
 pub loop-left-init : goal.loop-left-init
@@ -14,32 +15,32 @@ loop-left-init c = (omega arith, start _ _ _ c.requires.0 (omega arith))
 
 pub divide_step-held-requires : goal.divide_step-held-requires
 divide_step-held-requires c =
-    let w = width c.before.before in
+    let w = width (goal.at.divide_step-held-requires c).Start in
     let l = c.loop-left in
     let t = c.loop-left-test.true in record {
-      left_bound = (omega (arith, w.some, l.invariant.0), w.below, w.fits);
-      rest_lt_d = (l.invariant.1.small, narrower _ _ l.left (omega arith) l.invariant.1.room);
+      widths = (omega (arith, w.some, l.invariant.0), w.below, w.fits);
+      room = (l.invariant.1.small, narrower _ _ l.left (omega arith) l.invariant.1.room);
     }
 
 pub loop-left-smaller : goal.loop-left-smaller
-loop-left-smaller c = omega (arith, (width c.before.before.before).some, c.loop-left-test.true)
+loop-left-smaller c = omega (arith, (width (goal.at.loop-left-smaller c).Start).some, c.loop-left-test.true)
 
 pub loop-left-preserved : goal.loop-left-preserved
 loop-left-preserved c =
     let l = c.loop-left in
     let t = c.loop-left-test.true in
     let e = c.divide_step-held.ensures in
-    (omega (arith, l.invariant.0), step _ _ _ _ _ _ _ _ _ (omega arith) l.invariant.1 e.rest_lt_d_2.0 e.rest_lt_d_2.1 e.rest_value)
+    (omega (arith, l.invariant.0), step _ _ _ _ _ _ _ _ _ (omega arith) l.invariant.1 e.below.0 e.below.1 e.value)
 
 pub divide_step-requires : goal.divide_step-requires
 divide_step-requires c =
-    let w = width c.before.before in
+    let w = width (goal.at.divide_step-requires c).Start in
     let l = c.loop-left in record {
-      left_bound = (omega arith, omega (arith, w.below, c.loop-left-test.false), fewer _ _ _ w c.loop-left-test.false);
-      rest_lt_d = (l.invariant.1.small, l.invariant.1.room);
+      widths = (omega arith, omega (arith, w.below, c.loop-left-test.false), fewer _ _ _ w c.loop-left-test.false);
+      room = (l.invariant.1.small, l.invariant.1.room);
     }
 
 pub returns : goal.returns
 returns c =
     let e = c.divide_step.ensures in
-    (e.rest_lt_d_2.0, last _ _ _ _ _ _ _ c.loop-left.invariant.1 e.rest_value)
+    (e.below.0, last _ _ _ _ _ _ _ c.loop-left.invariant.1 e.value)

@@ -5,27 +5,28 @@ use native.Mathlib.Nat.{mod-lt, div-add-mod', lt_of_lt_of_le}
 use native.Mathlib.Omega.{arith}
 use lib.Pow.{pow_pos}
 use Rattle.division.proofs.Quotients.{next_below, digit_below, stepped}
+use Rattle.division.proofs.divide_step.Goals.{After-power_of_two-base}
 use Rattle.division.proofs.divide_step.Goals as goal
 
 -- the base is not 0
-some : (c : goal.After-power_of_two-base) → 0 < c.power_of_two-base.result
+some : (c : After-power_of_two-base) → 0 < c.power_of_two-base.result
 some c = omega (arith, c.power_of_two-base.ensures, pow_pos c.args.width)
 
-abbrev next_of : goal.After-power_of_two-base → ℕ
+abbrev next_of : After-power_of_two-base → ℕ
 next_of c =
     let a = c.args in
     a.before.rest * c.power_of_two-base.result + a.low / 2 ^ a.left % c.power_of_two-base.result
 
-next : (c : goal.After-power_of_two-base) → next_of c < c.power_of_two-base.result * c.args.d
-next c = next_below _ _ _ _ c.requires.rest_lt_d.0 (mod-lt _ (some c))
+next : (c : After-power_of_two-base) → next_of c < c.power_of_two-base.result * c.args.d
+next c = next_below _ _ _ _ c.requires.room.0 (mod-lt _ (some c))
 
-fits : (c : goal.After-power_of_two-base) → next_of c < 2 ^ 64
-fits c = lt_of_lt_of_le (next c) (omega (arith, c.requires.left_bound.2, ap (λ (x : ℕ). x * c.args.d) c.power_of_two-base.ensures))
+fits : (c : After-power_of_two-base) → next_of c < 2 ^ 64
+fits c = lt_of_lt_of_le (next c) (omega (arith, c.requires.widths.2, ap (λ (x : ℕ). x * c.args.d) c.power_of_two-base.ensures))
 
-room : (c : goal.After-power_of_two-base) → (c.args.before.quotient + 1) * c.power_of_two-base.result ≤ 2 ^ 64
-room c = omega (arith, c.requires.rest_lt_d.1, ap (λ (x : ℕ). (c.args.before.quotient + 1) * x) c.power_of_two-base.ensures)
+room : (c : After-power_of_two-base) → (c.args.before.quotient + 1) * c.power_of_two-base.result ≤ 2 ^ 64
+room c = omega (arith, c.requires.room.1, ap (λ (x : ℕ). (c.args.before.quotient + 1) * x) c.power_of_two-base.ensures)
 
-digit : (c : goal.After-power_of_two-base) → next_of c / c.args.d < c.power_of_two-base.result
+digit : (c : After-power_of_two-base) → next_of c / c.args.d < c.power_of_two-base.result
 digit c = digit_below _ _ _ (next c)
 
 pub returns : goal.returns
@@ -33,8 +34,8 @@ returns c =
     let a = c.args in
     let e = c.power_of_two-base.ensures in
     let q : ℕ = a.before.quotient in record {
-      rest_lt_d_2 = (mod-lt _ (omega (arith, c.requires.rest_lt_d.0)), omega (arith, digit c, ap (λ (b : ℕ). (q + 1) * b) e));
-      rest_value = stepped a.d q c.power_of_two-base.result _ _ a.before.rest _ (div-add-mod' (next_of c) a.d)
+      below = (mod-lt _ (omega (arith, c.requires.room.0)), omega (arith, digit c, ap (λ (b : ℕ). (q + 1) * b) e));
+      value = stepped a.d q c.power_of_two-base.result _ _ a.before.rest _ (div-add-mod' (next_of c) a.d)
           ∙ (λ i. (q * a.d + a.before.rest) * e i + a.low / 2 ^ a.left % e i);
     }
 

@@ -18,14 +18,14 @@ low_word c =
 pub overflow_add-result : goal.overflow_add-result
 overflow_add-result c =
     let e = c.divide-by.ensures in
-    omega (arith, low_word c.before.before, quotient_room _ _ _ _ e.1 e.0 c.requires.2 (search rules))
+    omega (arith, low_word (goal.at.overflow_add-result c).After-divide-by, quotient_room _ _ _ _ e.1 e.0 c.requires.2 (search rules))
 
 pub returns-then-rest-eq0 : goal.returns-then-rest-eq0
 returns-then-rest-eq0 c =
     let e = c.divide-by.ensures in
-    low_word c.before.before ∙ exact_quotient _ _ _ _ e.1 e.0 c.requires.2 (search rules)
+    low_word (goal.at.returns-then-rest-eq0 c).After-divide-by ∙ exact_quotient _ _ _ _ e.1 e.0 c.requires.2 (search rules)
 
 pub returns-else-rest-eq0 : goal.returns-else-rest-eq0
 returns-else-rest-eq0 c =
     let e = c.divide-by.ensures in
-    ap (λ (x : ℕ). x + 1) (low_word c.before.before) ∙ next_quotient _ _ _ _ e.1 e.0 c.requires.2 (search rules)
+    ap (λ (x : ℕ). x + 1) (low_word (goal.at.returns-else-rest-eq0 c).After-divide-by) ∙ next_quotient _ _ _ _ e.1 e.0 c.requires.2 (search rules)

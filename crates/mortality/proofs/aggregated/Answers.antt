@@ -8,29 +8,24 @@ use Rattle.amount.specs.Amount.{limit}
 use Rattle.wide.specs.Value.{value}
 use Rattle.mortality.specs.Credit.{twice_radicand}
 use Rattle.mortality.proofs.Credits.{fourfold, radicand_small, aggregated_found}
-use Rattle.mortality.proofs.aggregated.Goals.{After-product-2, After-quarter_up, Start}
+use Rattle.mortality.proofs.aggregated.Goals.{After-product-2, After-quarter_up}
 use Rattle.mortality.proofs.aggregated.Goals as goal
 
--- back from the second product to the start
-abbrev start : After-product-2 → Start
-start c = c.before
-
 summed : (c : After-product-2) →
-    value c.product.result + value c.product-2.result ≡ 2 * twice_radicand (start c).args.s (start c).args.t
+    value c.product.result + value c.product-2.result ≡ 2 * twice_radicand c.args.s c.args.t
 summed c =
-    fourfold (start c).args.s (start c).args.t (c.excess.result + c.excess-2.result) _ _
+    fourfold c.args.s c.args.t (c.excess.result + c.excess-2.result) _ _
     (λ i. c.excess.ensures i + c.excess-2.ensures i) c.product.ensures c.product-2.ensures
 
-small : (c : After-product-2) → 2 * twice_radicand (start c).args.s (start c).args.t ≤ 8 * (limit * limit)
-small c = radicand_small _ _ (start c).requires.0 (start c).requires.1
+small : (c : After-product-2) → 2 * twice_radicand c.args.s c.args.t ≤ 8 * (limit * limit)
+small c = radicand_small _ _ c.requires.0 c.requires.1
 
 pub add-fourfold-requires : goal.add-fourfold-requires
 add-fourfold-requires c = lt_of_le_of_lt {m = 8 * (limit * limit)} (omega (arith, summed c, small c)) (lit< tt)
 
 -- the quarter, rounded up
 quarter : (c : After-quarter_up) →
-    let s = start (goal.at.After-quarter_up c).After-product-2 in
-    value c.quarter_up.result ≡ (2 * twice_radicand s.args.s s.args.t + 3) / 4
+    value c.quarter_up.result ≡ (2 * twice_radicand c.args.s c.args.t + 3) / 4
 quarter c = c.quarter_up.ensures ∙ ap (λ (n : ℕ). (n + 3) / 4) (c.add-fourfold.ensures ∙ summed (goal.at.After-quarter_up c).After-product-2)
 
 pub root_up-requires : goal.root_up-requires

@@ -14,7 +14,7 @@ loop-k-init c = (omega arith, sym (charged_none _))
 
 pub charge-sum-requires : goal.charge-sum-requires
 charge-sum-requires c =
-    let most = c.requires.by_index in
+    let most = c.requires.within_limit in
     let k = c.loop-k.k in
     (rw c.volume_factor.ensures (factor_most k), most.0 k, most.1 k)
 
@@ -30,8 +30,8 @@ grown c =
 pub overflow_add-sum : goal.overflow_add-sum
 overflow_add-sum c =
     let l = c.loop-k in
-    let k : l.k + 1 ≤ volume_pairs = omega (arith, c.requires.volumes_len_bound, c.loop-k-test.true) in
-    omega (arith, grown c, charged_fits c.args.volumes.now c.requires.by_index.0 (l.k + 1) k)
+    let k : l.k + 1 ≤ volume_pairs = omega (arith, c.requires.most_volumes, c.loop-k-test.true) in
+    omega (arith, grown c, charged_fits c.args.volumes.now c.requires.within_limit.0 (l.k + 1) k)
 
 pub loop-k-preserved : goal.loop-k-preserved
 loop-k-preserved c = (omega (arith, c.loop-k-test.true), grown c)

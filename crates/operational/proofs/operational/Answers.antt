@@ -11,8 +11,8 @@ use Rattle.operational.proofs.operational.Goals as goal
 
 pub business-requires : goal.business-requires
 business-requires c = let a = c.requires in record {
-      volumes_len_bound = a.short;
-      by_index = (a.currents, a.priors);
+      most_volumes = a.short;
+      within_limit = (a.currents, a.priors);
     }
 
 pub general_requirement-requires : goal.general_requirement-requires

@@ -21,14 +21,14 @@ returns-then-count-le32 c =
     let l = c.args.n.low in
     let k = c.args.count in
     let p = far_power k c.if-count-le32.true in
-    far (2 ^ 64) (2 ^ (64 - 2 * k)) h l (pow_pos 64) (pow_pos (64 - 2 * k)) (subst (λ (x : ℕ). (h * 2 ^ 64 + l) * x < 2 ^ 128) (sym p) (fits c.before))
+    far (2 ^ 64) (2 ^ (64 - 2 * k)) h l (pow_pos 64) (pow_pos (64 - 2 * k)) (subst (λ (x : ℕ). (h * 2 ^ 64 + l) * x < 2 ^ 128) (sym p) (fits (goal.at.returns-then-count-le32 c).Start))
     ∙ ap (λ (x : ℕ). (h * 2 ^ 64 + l) * x) p
 
 -- the same bound in powers of 2
 bound : (c : Else-count-le32) → let a = c.args in value a.n * 2 ^ (128 - 2 * a.count) < 2 ^ 64 * 2 ^ 64
 bound c =
     let n = value c.args.n in
-    subst (λ (x : ℕ). n * x < 2 ^ 64 * 2 ^ 64) (sym (near_power c.args.count (omega (arith, c.requires.1)))) (fits c.before)
+    subst (λ (x : ℕ). n * x < 2 ^ 64 * 2 ^ 64) (sym (near_power c.args.count (omega (arith, c.requires.1)))) (fits (goal.at.Else-count-le32 c).Start)
 
 -- the powers of the upper word and of the lower one
 words : (c : Else-count-le32) → let k = c.args.count in 2 ^ (128 - 2 * k) * 2 ^ (2 * k - 64) ≡ 2 ^ 64

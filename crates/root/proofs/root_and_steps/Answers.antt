@@ -36,7 +36,7 @@ loop-j-init c = (omega arith, λ n a. at_start n a.fits _ (rw (sym a.count_is) a
 held : (c : At-loop-j) →
     let l = c.loop-j in
     After (value c.args.n) l.j (value l.window) l.root l.rest
-held c = c.loop-j.invariant.1 _ (aligned_at c.before)
+held c = c.loop-j.invariant.1 _ (aligned_at (goal.at.At-loop-j c).After-aligned-window)
 
 -- there is a step to go
 to_go : (c : In-loop-j) → c.loop-j.j < steps (value c.args.n)
@@ -45,7 +45,7 @@ to_go c = omega (arith, c.loop-j-test.true, c.count_steps-count.ensures)
 pub root_step-s-requires : goal.root_step-s-requires
 root_step-s-requires c =
     let p = c.requires in
-    (small _ p _ _ _ _ (held c.before.before), root_small _ p _ _ _ _ (to_go c.before) (held c.before.before), c.top_digits.ensures.1)
+    (small _ p _ _ _ _ (held (goal.at.root_step-s-requires c).At-loop-j), root_small _ p _ _ _ _ (to_go (goal.at.root_step-s-requires c).In-loop-j) (held (goal.at.root_step-s-requires c).At-loop-j), c.top_digits.ensures.1)
 
 -- what a call gives is in its type's range
 window_fits : (c : After-bring_down-window) → value c.bring_down-window.result < 2 ^ 128
@@ -63,7 +63,7 @@ loop-j-preserved c =
       λ n a.
           let before = c.loop-j.invariant.1 n a in
           let go = c.loop-j-test.true in
-          step n a.fits _ _ _ _ _ _ _ _ (omega (arith, a.count_is)) before (window_fits c) (rw (← d) at c.bring_down-window.ensures) e.rest_value.0 e.rest_value.1,
+          step n a.fits _ _ _ _ _ _ _ _ (omega (arith, a.count_is)) before (window_fits c) (rw (← d) at c.bring_down-window.ensures) e.value.0 e.value.1,
     )
 
 -- no step is to go
@@ -72,12 +72,12 @@ gone c = omega (arith, c.loop-j-test.false, c.count_steps-count.ensures)
 
 pub overflow_add-result : goal.overflow_add-result
 overflow_add-result c =
-    omega (arith, root_room _ c.requires _ _ _ _ (gone c.before) (held c.before.before))
+    omega (arith, root_room _ c.requires _ _ _ _ (gone (goal.at.overflow_add-result c).After-loop-j) (held (goal.at.overflow_add-result c).At-loop-j))
 
 pub returns-then-rest-eq0 : goal.returns-then-rest-eq0
 returns-then-rest-eq0 c =
-    (exact_root _ c.requires _ _ _ _ (gone c.before) (held c.before.before) (omega (arith, c.if-rest-eq0.true)), c.count_steps-count.ensures)
+    (exact_root _ c.requires _ _ _ _ (gone (goal.at.returns-then-rest-eq0 c).After-loop-j) (held (goal.at.returns-then-rest-eq0 c).At-loop-j) (omega (arith, c.if-rest-eq0.true)), c.count_steps-count.ensures)
 
 pub returns-else-rest-eq0 : goal.returns-else-rest-eq0
 returns-else-rest-eq0 c =
-    (next_root _ c.requires _ _ _ _ (gone c.before) (held c.before.before) (omega (arith, c.if-rest-eq0.false)), c.count_steps-count.ensures)
+    (next_root _ c.requires _ _ _ _ (gone (goal.at.returns-else-rest-eq0 c).After-loop-j) (held (goal.at.returns-else-rest-eq0 c).At-loop-j) (omega (arith, c.if-rest-eq0.false)), c.count_steps-count.ensures)

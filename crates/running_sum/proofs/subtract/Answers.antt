@@ -22,18 +22,18 @@ borrowed c =
 pub returns-then-bl-al : goal.returns-then-bl-al
 unfolding value
 returns-then-bl-al c =
-    minus (2 ^ 64) c.args.a.high c.args.a.low c.args.b.high c.args.b.low (no_borrow c.before) c.if-bl-al.true
+    minus (2 ^ 64) c.args.a.high c.args.a.low c.args.b.high c.args.b.low (no_borrow (goal.at.returns-then-bl-al c).Start) c.if-bl-al.true
 
 pub returns-else-bl-al : goal.returns-else-bl-al
 unfolding value
 returns-else-bl-al c =
-    minus_borrow (2 ^ 64) c.args.a.high c.args.a.low c.args.b.high c.args.b.low (borrowed c) c.if-bl-al.false (fits c.before).1
+    minus_borrow (2 ^ 64) c.args.a.high c.args.a.low c.args.b.high c.args.b.low (borrowed c) c.if-bl-al.false (fits (goal.at.returns-else-bl-al c).Start).1
 
 pub overflow_sub-result : goal.overflow_sub-result
-overflow_sub-result c = no_borrow c.before
+overflow_sub-result c = no_borrow (goal.at.overflow_sub-result c).Start
 
 pub overflow_sub-result-else-bl-al : goal.overflow_sub-result-else-bl-al
-overflow_sub-result-else-bl-al c = no_borrow c.before
+overflow_sub-result-else-bl-al c = no_borrow (goal.at.overflow_sub-result-else-bl-al c).Start
 
 pub overflow_sub-result-else-bl-al-2 : goal.overflow_sub-result-else-bl-al-2
 overflow_sub-result-else-bl-al-2 c = omega (arith, borrowed c)

@@ -8,12 +8,12 @@ use Rattle.running_sum.proofs.unsigned.Goals as goal
 
 parts : (c : Start) → (fill c.args.s.added ≤ 2 ^ 63) × (fill c.args.s.taken ≤ 2 ^ 63)
 unfolding filled
-parts c = omega (arith, c.requires.s_bound)
+parts c = omega (arith, c.requires.small)
 
 pub subtract-requires : goal.subtract-requires
 unfolding held
 subtract-requires c =
-    let h = not_more (number c.args.s.added) (number c.args.s.taken) _ c.requires.by_index.1 in
+    let h = not_more (number c.args.s.added) (number c.args.s.taken) _ c.requires.not_negative.1 in
     omega (arith, c.words_of-2.ensures, c.words_of.ensures)
 
 pub returns : goal.returns
@@ -23,7 +23,7 @@ returns c =
     as_natural (number s.added) (number s.taken) _ (omega (arith, c.subtract.ensures, c.words_of-2.ensures, c.words_of.ensures))
 
 pub words_of-requires : goal.words_of-requires
-words_of-requires c = (parts c.before).0
+words_of-requires c = (parts (goal.at.words_of-requires c).Start).0
 
 pub words_of-requires-2 : goal.words_of-requires-2
-words_of-requires-2 c = (parts c.before.before.before).1
+words_of-requires-2 c = (parts (goal.at.words_of-requires-2 c).Start).1
