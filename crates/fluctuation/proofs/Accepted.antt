@@ -12,7 +12,7 @@ use Rattle.refusal.specs.Outcome.Outcome.{accepted, refused}
 use Rattle.amount.specs.Amount.{limit}
 use Rattle.amount.proofs.Amounts.{all_within}
 use Rattle.fluctuation.specs.Rows.{row_of}
-use Rattle.fluctuation.specs.Result.{result}
+use Rattle.fluctuation.specs.Result.{factored_requirement}
 use Rattle.fluctuation.specs.Call.{rule7, fluctuation_call}
 use Rattle.fluctuation.specs.Accepted.{AcceptedFluctuation, AcceptsFluctuation, FluctuationDemand}
 use Rattle.fluctuation.proofs.Rules.{passed_18, passed_7, within_limit}

@@ -12,7 +12,7 @@ use Rattle.search.proofs.Values.{values, values_same}
 use Rattle.amount.specs.Amount.{limit}
 use borrow.Author.Tests.{leb-true, ltb-true}
 use Rattle.fluctuation.specs.Rows.{Base, Row, rows, row_count, row_of, amount_of, base_of}
-use Rattle.fluctuation.specs.Result.{scale, reaches, result}
+use Rattle.fluctuation.specs.Result.{scale, reaches, factored_requirement}
 use Rattle.fluctuation.specs.Parts.{factor_for, Falls}
 use Rattle.fluctuation.specs.declared.Factor.{Factor}
 use Rattle.fluctuation.specs.declared.Factor.TheVariants.{One, Falling}

@@ -1,6 +1,6 @@
 -- Where the separators are right, the layout is that of the four fields, each read from its own columns. Assumes nothing.
 use mathlib.Core.Path.{◌∙◌}
-use Rattle.search.proofs.Sides.{side_not_not, tests}
+use Rattle.search.proofs.Sides.{side_true, tests}
 use Rattle.layout.specs.Columns.{layout_of}
 use borrow.Author.Rules.{rules}
 use Rattle.layout.proofs.read_layout.Goals as goal
@@ -84,5 +84,5 @@ fields_of-requires c = search tests
 pub returns : goal.returns
 unfolding layout_of
 returns = (λ c.
-    side_not_not _ _ _ _ _ c.separated.ensures c.if-not-separated.false
+    side_true _ _ _ _ _ c.separated.ensures c.if-not-separated.false
     (c.fields_of.ensures ∙ rw (c.read_field-block.ensures, c.read_field-class.ensures, c.read_field-first.ensures, c.read_field-second.ensures)))

@@ -1,0 +1,42 @@
+-- Whenever the loop's test is reached, the first parts are divided, and what is left of K is K less their quotients. Assumes nothing.
+use mathlib.Core.Path.{◌≡◌, refl}
+use Prim.Native.Nat.{◌+◌, ◌-◌}
+use native.Mathlib.Omega.{arith}
+use Rattle.search.specs.Total.{sum_to}
+use Rattle.search.proofs.Ascents.{Listed, listed_start, listed_more, listed_all}
+use Rattle.guideline.specs.Sizes.{parts}
+use Rattle.apportion.specs.Shares.{value_of_part, base, remainder}
+use Rattle.apportion.proofs.Parts.{margin_within, base_is, remainder_is, takes, left_after, left_all}
+use Rattle.apportion.proofs.divided.Goals as goal
+
+pub loop-part-init : goal.loop-part-init
+unfolding sum_to
+loop-part-init c = (listed_start _ _ _ refl, listed_start _ _ _ refl, omega arith)
+
+pub part_of-by-requires : goal.part_of-by-requires
+part_of-by-requires c =
+    let p = c.requires in
+    (p.some, p.fits, margin_within _ _ _ p _ c.loop-part-test.true)
+
+pub overflow_sub-left : goal.overflow_sub-left
+overflow_sub-left c =
+    let p = c.requires in
+    takes _ _ _ p _ _ _ c.loop-part-test.true (base_is _ _ _ p _ _ c.part_of-by.ensures.0) c.loop-part.invariant.2
+
+pub loop-part-preserved : goal.loop-part-preserved
+loop-part-preserved c =
+    let p = c.requires in
+    let w = c.loop-part-test.true in
+    let i = c.loop-part.invariant in
+    let e = c.part_of-by.ensures in
+    let q = base_is _ _ _ p _ _ e.0 in
+    (listed_more _ _ _ _ _ w q i.0, listed_more _ _ _ _ _ w (remainder_is _ _ _ p _ _ e.1) i.1, left_after _ _ _ p _ _ _ w q i.2)
+
+pub returns : goal.returns
+returns c =
+    let l = c.loop-part in
+    let w = c.loop-part-test.false in
+    let e : l.part ≡ parts = omega (arith, w, l.invariant.0.within) in record {
+      quotients = (listed_all _ _ _ _ w l.invariant.0, left_all _ _ _ c.requires _ (rw e at l.invariant.2));
+      remainders = listed_all _ _ _ _ w l.invariant.1;
+    }

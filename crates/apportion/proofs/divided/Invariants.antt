@@ -1,0 +1,18 @@
+use mathlib.Core.Path.{◌≡◌, refl}
+use Prim.Native.Nat.{◌+◌, ◌-◌}
+use native.Mathlib.Omega.{arith}
+use Rattle.search.specs.Total.{sum_to}
+use Rattle.search.proofs.Ascents.{Listed, listed_start, listed_more, listed_all}
+use Rattle.guideline.specs.Sizes.{parts}
+use Rattle.apportion.specs.Shares.{value_of_part, base, remainder}
+use Rattle.apportion.proofs.Parts.{margin_within, base_is, remainder_is, takes, left_after, left_all}
+use Rattle.apportion.proofs.divided.Given as goal
+
+abbrev pub invariant-loop-part : goal.invariant-loop-part
+invariant-loop-part l =
+    Listed (base l.k (value_of_part l.margins)) parts l.quotients l.part
+    × Listed (remainder l.k (value_of_part l.margins)) parts l.rests l.part
+    × (l.left + sum_to (base l.k (value_of_part l.margins)) l.part ≡ l.k)
+
+abbrev pub decreases-loop-part : goal.decreases-loop-part
+decreases-loop-part l = parts - l.part

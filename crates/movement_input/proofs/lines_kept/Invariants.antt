@@ -1,0 +1,13 @@
+use mathlib.Core.Path.{sym}
+use Prim.Native.Nat.{◌-◌}
+use Rattle.search.proofs.Firsts.{Sought, sought_start, sought_more, sought_found, sought_none}
+use Rattle.movement_input.specs.Reading.{input_lines, amount_at, is_bad, lines_kept}
+use Rattle.movement_input.proofs.Numbers.{bad_line, good_line}
+use native.Mathlib.Omega.{arith}
+use Rattle.movement_input.proofs.lines_kept.Given as goal
+
+abbrev pub invariant-loop-i : goal.invariant-loop-i
+invariant-loop-i l = Sought (λ j. is_bad (amount_at l.input j)) input_lines l.i
+
+abbrev pub decreases-loop-i : goal.decreases-loop-i
+decreases-loop-i l = input_lines - l.i

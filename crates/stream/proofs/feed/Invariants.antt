@@ -1,0 +1,10 @@
+use Prim.Native.Nat.{◌-◌}
+use lib.ListN.{length}
+use Rattle.stream.proofs.Room.{Feeding, begins, within_room, all_fed, fed_closed, fed_on}
+use Rattle.stream.proofs.feed.Given as goal
+
+abbrev pub invariant-loop-i : goal.invariant-loop-i
+invariant-loop-i l = Feeding l.initial.room l.initial.h l.chunk l.initial.i l.room l.h l.i
+
+abbrev pub decreases-loop-i : goal.decreases-loop-i
+decreases-loop-i l = length l.chunk - l.i
