@@ -21,7 +21,7 @@ use Rattle.fluctuation.proofs.Demand.{result_demand}
 module _ (n b face : ℕ) where
   -- what holds of an outcome: accepted, the value is the result of numbers that the rules leave; refused, the number is not 0
   unfoldable RulesFollowed : Outcome → Type 0
-  RulesFollowed (accepted vs) = (vs ≡ result (row_of n) b face ∷ []) × AcceptedFluctuation n b face
+  RulesFollowed (accepted vs) = (vs ≡ factored_requirement (row_of n) b face ∷ []) × AcceptedFluctuation n b face
   RulesFollowed (refused k p) = k ≡ 0 → ⊥
 
   rules_followed : RulesFollowed (fluctuation_call n b face)
@@ -39,7 +39,7 @@ module _ (n b face : ℕ) where
   both_within h i (suc zero) = i
   both_within h i (suc (suc k)) = omega arith
 
-  passes : AcceptedFluctuation n b face → fluctuation_call n b face ≡ accepted (result (row_of n) b face ∷ [])
+  passes : AcceptedFluctuation n b face → fluctuation_call n b face ≡ accepted (factored_requirement (row_of n) b face ∷ [])
   passes v =
       passed_18 n b face v.first_row v.last_row
       ∙ passed_7 n b face refl (omega (arith, all_within (b ∷ face ∷ []) (both_within v.requirement v.face_within)))

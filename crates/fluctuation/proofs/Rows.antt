@@ -75,12 +75,12 @@ module _ (w : Row) (b face : ℕ) where
   unfolding factor_for
   picks_falling h = sym (if_lt _ h)
 
-  pub up_to_threshold : base_of w b face ≤ 100 * w.threshold → result w b face ≡ b
-  unfolding result
+  pub up_to_threshold : base_of w b face ≤ 100 * w.threshold → factored_requirement w b face ≡ b
+  unfolding factored_requirement
   up_to_threshold h = if_ge _ h
 
-  pub above_threshold : 100 * w.threshold < base_of w b face → result w b face ≡ least (reaches w.first w.second (base_of w b face) b)
-  unfolding result
+  pub above_threshold : 100 * w.threshold < base_of w b face → factored_requirement w b face ≡ least (reaches w.first w.second (base_of w b face) b)
+  unfolding factored_requirement
   above_threshold h = if_lt _ h
 
 -- a requirement times its factor, rounded up
@@ -88,8 +88,8 @@ abbrev pub applied : ℕ → Factor → ℕ
 applied b One = b
 applied b (Falling first second base) = least (reaches first second base b)
 
-pub applied_is : (w : Row) (b face : ℕ) → applied b (factor_for w b face) ≡ result w b face
-unfolding factor_for result pick
+pub applied_is : (w : Row) (b face : ℕ) → applied b (factor_for w b face) ≡ factored_requirement w b face
+unfolding factor_for factored_requirement pick
 applied_is w b face = go (ltb (100 * w.threshold) (base_of w b face))
   where
     go :

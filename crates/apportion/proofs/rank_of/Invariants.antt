@@ -9,7 +9,7 @@ use Rattle.apportion.proofs.Parts.{counted}
 use Rattle.apportion.proofs.rank_of.Given as goal
 
 abbrev pub invariant-loop-other : goal.invariant-loop-other
-invariant-loop-other l = (l.other ≤ parts) × (l.n ≡ count_to (λ q. before (value_of_part l.rests) q l.part) l.other)
+invariant-loop-other l = (l.other ≤ parts) × (l.before ≡ count_to (λ q. before (value_of_part l.rests) q l.part) l.other)
 
 abbrev pub decreases-loop-other : goal.decreases-loop-other
 decreases-loop-other l = parts - l.other

@@ -25,64 +25,61 @@ none_left n h k a b c = omega arith
 
 pub returns-in-0-to-4200000000 : goal.returns-in-0-to-4200000000
 unfolding row_of rows base_of
-returns-in-0-to-4200000000 c = one 1 _ _ c.in-1.is (omega (arith, c.if-requirement-lt4200000001.true))
+returns-in-0-to-4200000000 c = one 1 _ _ c.in-1.is (omega arith)
 
 pub returns-in_default-requirement : goal.returns-in_default-requirement
 unfolding row_of rows base_of
-returns-in_default-requirement c = falling 1 _ _ c.in-1.is (omega (arith, c.if-requirement-lt4200000001.false))
+returns-in_default-requirement c = falling 1 _ _ c.in-1.is (omega arith)
 
 pub returns-in-0-to-7500000000 : goal.returns-in-0-to-7500000000
 unfolding row_of rows base_of
-returns-in-0-to-7500000000 c = one 2 _ _ c.in-2.is (omega (arith, c.if-requirement-lt7500000001.true))
+returns-in-0-to-7500000000 c = one 2 _ _ c.in-2.is (omega arith)
 
 pub returns-in_default-requirement-2 : goal.returns-in_default-requirement-2
 unfolding row_of rows base_of
-returns-in_default-requirement-2 c = falling 2 _ _ c.in-2.is (omega (arith, c.if-requirement-lt7500000001.false))
+returns-in_default-requirement-2 c = falling 2 _ _ c.in-2.is (omega arith)
 
 pub returns-in-0-to-600000000 : goal.returns-in-0-to-600000000
 unfolding row_of rows base_of
-returns-in-0-to-600000000 c = one 3 _ _ c.in-3.is (omega (arith, c.if-requirement-lt600000001.true))
+returns-in-0-to-600000000 c = one 3 _ _ c.in-3.is (omega arith)
 
 pub returns-in_default-requirement-3 : goal.returns-in_default-requirement-3
 unfolding row_of rows base_of
-returns-in_default-requirement-3 c = falling 3 _ _ c.in-3.is (omega (arith, c.if-requirement-lt600000001.false))
+returns-in_default-requirement-3 c = falling 3 _ _ c.in-3.is (omega arith)
 
 pub returns-in-0-to-300000000 : goal.returns-in-0-to-300000000
 unfolding row_of rows base_of
-returns-in-0-to-300000000 c = one 4 _ _ c.in-4.is (omega (arith, c.if-requirement-lt300000001.true))
+returns-in-0-to-300000000 c = one 4 _ _ c.in-4.is (omega arith)
 
 pub returns-in_default-requirement-4 : goal.returns-in_default-requirement-4
 unfolding row_of rows base_of
-returns-in_default-requirement-4 c = falling 4 _ _ c.in-4.is (omega (arith, c.if-requirement-lt300000001.false))
+returns-in_default-requirement-4 c = falling 4 _ _ c.in-4.is (omega arith)
 
 pub returns-in-0-to-500000000 : goal.returns-in-0-to-500000000
 unfolding row_of rows base_of
-returns-in-0-to-500000000 c = one 5 _ _ c.in-5.is (omega (arith, c.if-requirement-lt500000001.true))
+returns-in-0-to-500000000 c = one 5 _ _ c.in-5.is (omega arith)
 
 pub returns-in_default-requirement-5 : goal.returns-in_default-requirement-5
 unfolding row_of rows base_of
-returns-in_default-requirement-5 c = falling 5 _ _ c.in-5.is (omega (arith, c.if-requirement-lt500000001.false))
+returns-in_default-requirement-5 c = falling 5 _ _ c.in-5.is (omega arith)
 
 pub returns-in-0-to-300000000-requirement : goal.returns-in-0-to-300000000-requirement
 unfolding row_of rows base_of
-returns-in-0-to-300000000-requirement c = one 6 _ _ c.in-6.is (omega (arith, c.if-requirement-lt300000001-2.true))
+returns-in-0-to-300000000-requirement c = one 6 _ _ c.in-6.is (omega arith)
 
 pub returns-in_default-requirement-6 : goal.returns-in_default-requirement-6
 unfolding row_of rows base_of
-returns-in_default-requirement-6 c = falling 6 _ _ c.in-6.is (omega (arith, c.if-requirement-lt300000001-2.false))
+returns-in_default-requirement-6 c = falling 6 _ _ c.in-6.is (omega arith)
 
 pub returns-in-0-to-30000000000 : goal.returns-in-0-to-30000000000
 unfolding row_of rows base_of
-returns-in-0-to-30000000000 c = one 7 _ _ c.in-7.is (omega (arith, c.if-face-lt30000000001.true))
+returns-in-0-to-30000000000 c = one 7 _ _ c.in-7.is (omega arith)
 
 pub returns-in_default-face : goal.returns-in_default-face
 unfolding row_of rows base_of
-returns-in_default-face c = falling 7 _ _ c.in-7.is (omega (arith, c.if-face-lt30000000001.false))
+returns-in_default-face c = falling 7 _ _ c.in-7.is (omega arith)
 
 pub returns-in_default : goal.returns-in_default
 unfolding row_of rows base_of
-returns-in_default = (λ c.
-    let r = c.in-1.rest in
-    let p = c.requires in
-    let five = past_four _ p.0 r.0.0.0.0.0.0.1 r.0.0.0.0.0.1 r.0.0.0.0.1 r.0.0.0.1 in
-    absurd (none_left _ five p.1 r.0.0.1 r.0.1 r.1))
+returns-in_default c =
+    absurd (omega arith)

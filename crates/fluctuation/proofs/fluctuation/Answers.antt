@@ -23,10 +23,10 @@ module _ (c : After-factor_of-factor) where
       subst (AtMostOne b) (sym c.factor_of-factor.ensures ∙ e) most
 
 pub falling-requires : goal.falling-requires
-falling-requires c = allowed c.before c.in-Falling.is
+falling-requires c = allowed (goal.at.falling-requires c).After-factor_of-factor c.in-Falling.is
 
 pub returns-in-One : goal.returns-in-One
-returns-in-One c = picked c.before c.in-One.is
+returns-in-One c = picked (goal.at.returns-in-One c).After-factor_of-factor c.in-One.is
 
 pub returns-in-Falling : goal.returns-in-Falling
-returns-in-Falling c = c.falling.ensures ∙ picked c.before c.in-Falling.is
+returns-in-Falling c = c.falling.ensures ∙ picked (goal.at.returns-in-Falling c).After-factor_of-factor c.in-Falling.is

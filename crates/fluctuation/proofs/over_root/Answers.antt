@@ -9,7 +9,7 @@ use Rattle.wide.specs.Value.{value}
 use Rattle.fluctuation.specs.Result.{scale}
 use Rattle.fluctuation.specs.Parts.{most_twentieths}
 use Rattle.fluctuation.proofs.Radicand.{radicand, radicand_within, root_same, in_root, in_words}
-use Rattle.fluctuation.proofs.over_root.Goals.{After-divide-by, After-divide_up-part, After-times}
+use Rattle.fluctuation.proofs.over_root.Goals.{After-divide_up-part, After-times}
 use Rattle.fluctuation.proofs.over_root.Goals as goal
 
 pub divide-by-requires : goal.divide-by-requires
@@ -22,43 +22,41 @@ divide_up-part-requires c =
 
 -- the quotient and the rest of c², and what the rest adds
 module _ (c : After-divide_up-part) where
-  abbrev divided : After-divide-by
-  divided = c.before
+  small : c.divide-by.result.rest < c.args.base
+  small = c.divide-by.ensures.0
 
-  small : divided.divide.result.rest < divided.before.before.args.base
-  small = divided.divide.ensures.0
+  whole : value c.divide-by.result.quotient * c.args.base + c.divide-by.result.rest
+      ≡ c.args.c * c.args.c
+  whole = c.divide-by.ensures.1 ∙ c.product.ensures
 
-  whole : value divided.divide.result.quotient * divided.before.before.args.base + divided.divide.result.rest
-      ≡ divided.before.before.args.c * divided.before.before.args.c
-  whole = divided.divide.ensures.1 ∙ divided.before.product.ensures
+  part_is : c.divide_up-part.result ≡ least (λ x. leb (scale * c.divide-by.result.rest) (c.args.base * x))
+  part_is = c.divide_up-part.ensures ∙ (λ i. least (λ x. leb (c.product-2.ensures i) (c.args.base * x)))
 
-  part_is : c.divide_up-part.result ≡ least (λ x. leb (scale * divided.divide.result.rest) (divided.before.before.args.base * x))
-  part_is = c.divide_up-part.ensures ∙ (λ i. least (λ x. leb (c.product-2.ensures i) (divided.before.before.args.base * x)))
+  abbrev own_radicand : ℕ
+  own_radicand = radicand _ _ _ _ _ small whole part_is
 
-  abbrev radicand_at_lem : ℕ
-  radicand_at_lem = radicand _ _ _ _ _ small whole part_is
-
-  radicand_small : radicand_at_lem ≤ most_twentieths * most_twentieths
-  radicand_small = radicand_within _ _ _ _ _ small whole part_is _ divided.before.before.requires.within
+  radicand_small : own_radicand ≤ most_twentieths * most_twentieths
+  radicand_small = radicand_within _ _ _ _ _ small whole part_is _ c.requires.within
 
 pub times-requires : goal.times-requires
-times-requires c = in_words _ (omega (arith, radicand_small c))
+times-requires c = in_words _ (omega (arith, radicand_small (goal.at.times-requires c).After-divide_up-part))
 
 one_word : (n : ℕ) → value (record { high = 0; low = n }) ≡ n
 unfolding value
 one_word n = omega arith
 
 -- the sum is the radicand
-sum_is : (c : After-times) → value c.times.result + value (record { high = 0; low = c.divide_up-part.result }) ≡ radicand_at_lem c.before
+sum_is : (c : After-times) → value c.times.result + value (record { high = 0; low = c.divide_up-part.result }) ≡ own_radicand (goal.at.After-times c).After-divide_up-part
 sum_is c = omega (arith, c.times.ensures, one_word c.divide_up-part.result)
 
 pub add-radicand-requires : goal.add-radicand-requires
-add-radicand-requires c = in_words _ (omega (arith, sum_is c, radicand_small c.before))
+add-radicand-requires c = in_words _ (omega (arith, sum_is (goal.at.add-radicand-requires c).After-times, radicand_small (goal.at.add-radicand-requires c).After-divide_up-part))
 
 pub root_up-requires : goal.root_up-requires
-root_up-requires c = in_root _ (omega (arith, c.add-radicand.ensures, sum_is (goal.at.root_up-requires c).After-times, radicand_small c.before))
+root_up-requires c = in_root _ (omega (arith, c.add-radicand.ensures, sum_is (goal.at.root_up-requires c).After-times, radicand_small (goal.at.root_up-requires c).After-divide_up-part))
 
 pub returns : goal.returns
 returns c =
     let e = c.add-radicand.ensures ∙ sum_is (goal.at.returns c).After-times in
-    c.root_up.ensures ∙ (λ i. least (λ x. leb (e i) (x * x))) ∙ root_same _ _ _ _ _ (small c) (whole c) (part_is c)
+    let d = (goal.at.returns c).After-divide_up-part in
+    c.root_up.ensures ∙ (λ i. least (λ x. leb (e i) (x * x))) ∙ root_same _ _ _ _ _ (small d) (whole d) (part_is d)

@@ -17,7 +17,7 @@ returns-in-Closed c =
 
 pub loop-i-preserved : goal.loop-i-preserved
 loop-i-preserved c =
-    fed_on c.loop-i.invariant c.loop-i-test.true c.next_byte-s.ensures c.in-On.is c.next_byte-s.auto.0
+    fed_on c.loop-i.invariant c.loop-i-test.true c.next_byte-s.ensures c.in-On.is c.next_byte-s.auto.room
 
 pub returns : goal.returns
 returns c = all_fed c.loop-i.invariant c.loop-i-test.false
