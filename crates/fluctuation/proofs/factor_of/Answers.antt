@@ -15,14 +15,6 @@ module _ (k : ℕ) {n : ℕ} (b face : ℕ) (e : n ≡ k) where
   falling : 100 * (row_of k).threshold < base_of (row_of k) b face → Falling (row_of k).first (row_of k).second (base_of (row_of k) b face) ≡ factor_for (row_of n) b face
   falling h = picks_falling _ _ _ h ∙ ap (λ (m : ℕ). factor_for (row_of m) b face) (sym e)
 
--- a row that is none of 1 to 4
-past_four : (n : ℕ) → 1 ≤ n → (n ≡ 1 → ⊥) → (n ≡ 2 → ⊥) → (n ≡ 3 → ⊥) → (n ≡ 4 → ⊥) → 5 ≤ n
-past_four n h a b c d = omega arith
-
--- no row is left for the last arm
-none_left : (n : ℕ) → 5 ≤ n → n ≤ row_count → (n ≡ 5 → ⊥) → (n ≡ 6 → ⊥) → (n ≡ 7 → ⊥) → ⊥
-none_left n h k a b c = omega arith
-
 pub returns-in-0-to-4200000000 : goal.returns-in-0-to-4200000000
 unfolding row_of rows base_of
 returns-in-0-to-4200000000 c = one 1 _ _ c.in-1.is (omega arith)

@@ -5,7 +5,6 @@ use mathlib.Core.List.{List}
 use Prim.Native.Nat.{ℕ, ◌-◌, ◌≤◌}
 use lib.ListN.{length, take}
 use lib.Seq.{length-take-le}
-use borrow.Author.Rules.{rules}
 use Rattle.refusal.specs.declared.Place.{Place}
 use Rattle.guideline.specs.Sizes.{number_columns}
 use Rattle.report_line.specs.Line.{line_bytes, report_line_bytes, row_in}
@@ -14,8 +13,7 @@ use Rattle.report_line.proofs.ReadBack.{length_line}
 use Rattle.printing.specs.declared.RoomAnswer.{RoomAnswer}
 use Rattle.printing.specs.declared.RoomAnswer.TheVariants.{Accepted, Refused}
 use Rattle.printing.specs.Printing.{refusal_row, refusal_line, Shown}
-use Rattle.printing.proofs.print_answer.Statement.{statement}
-use Rattle.printing.proofs.print_answer.Tie as tie
+use Rattle.printing.proofs.print_answer.Goals as goal
 
 module _ (a : RoomAnswer) (r : List ℕ) where
   as_left : {n : ℕ} → a ≡ Accepted n → Shown a n r r
@@ -28,18 +26,9 @@ module _ (a : RoomAnswer) (r : List ℕ) where
       let l = in_columns number_columns (take report_line_bytes r) _ _ _ _ (length-take-le report_line_bytes r h) y in
       rw e (record { count = sym (length_line _ _ _ _ refl); bytes = rw l })
 
-returns : tie.Need-returns
-returns c = as_left _ _ c.before.answer.given.1
+pub returns-in-Accepted : goal.returns-in-Accepted
+returns-in-Accepted c = as_left _ _ c.in-Accepted.is
 
-returns-2 : tie.Need-returns-2
-returns-2 c =
-    let w = c.before.before in
-    let k = w.before.before.before in
-    in_front _ _ k.answer2.given.1 k.before.before.before.requires w.write-refusal.ensures
-
-pub print-answer-spec : {M : Type 1} → statement M
-print-answer-spec =
-    tie.close
-    (tie.spec
-    (λ c. search rules) (λ c. search rules) (λ c. search rules) (λ c. search rules) (λ c. search rules) (λ c κs. search rules) returns
-    (λ c. search rules) returns-2)
+pub returns-in-Refused : goal.returns-in-Refused
+returns-in-Refused c =
+    in_front _ _ c.in-Refused.is c.requires c.write_refusal.ensures

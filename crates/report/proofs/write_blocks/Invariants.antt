@@ -1,0 +1,12 @@
+use Prim.Native.Nat.{◌+◌, ◌-◌, ◌*◌, ◌≤◌}
+use native.Mathlib.Omega.{arith}
+use lib.ListN.{length}
+use Rattle.guideline.specs.Sizes.{row_numbers}
+use Rattle.report.proofs.Tables.{block_bytes, Rows, no_row, stretch_long, next_row, all_rows}
+use Rattle.report.proofs.write_blocks.Given as goal
+
+abbrev pub invariant-loop-i : goal.invariant-loop-i
+invariant-loop-i l = (l.i ≤ l.count) × Rows l.rows l.i l.initial.report l.report
+
+abbrev pub decreases-loop-i : goal.decreases-loop-i
+decreases-loop-i l = l.count - l.i

@@ -1,0 +1,7 @@
+-- The blocks' lines stand in front, and the stretch behind them gets the totals. Assumes nothing.
+use Rattle.report.proofs.Tables.{closed}
+use Rattle.report.proofs.write_report.Goals as goal
+
+pub returns : goal.returns
+returns c =
+    closed c.args.rows.now c.args.count _ _ _ _ _ c.report-1.given c.requires.1 c.write_blocks.ensures c.write_items.ensures
