@@ -16,8 +16,8 @@ returns-then-u-eq0 c = sym (requirement_none _ _ _ _ c.if-u-eq0.true)
 
 -- the two products come to the numerator
 both : (c : After-product) →
-    let c = c.args in
-    value c.product.result + value c.product-m.result ≡ fine_numerator c.u c.lt (2 * c.u - c.lt) c.d
+    let s = c.args in
+    value c.product.result + value c.product-m.result ≡ fine_numerator s.u s.lt (2 * s.u - s.lt) s.d
 both c =
     let a = c.args in
     let v : ℕ = 2 * a.u - a.lt in
