@@ -198,8 +198,8 @@ module _ (s r : List ℕ) where
       rw w.text (λ k h l. moved (block_of s) (raise_of s) (length_numbers s block_numbers) w.block k h l _))
 
   -- what the call gives, and how far K moves
-  pub promised : (d : Done) → d ≡ movement_call s r → (d ≡ movement_call s r) × Swing s d.outcome d.room
-  promised d e = (e, subst⁻¹ (λ (x : Done). Swing s x.outcome x.room) e swing)
+  pub promised : (d : Done) → d ≡ movement_call s r → record { answer : d ≡ movement_call s r; swing : Swing s d.outcome d.room }
+  promised d e = record { answer = e; swing = subst⁻¹ (λ (x : Done). Swing s x.outcome x.room) e swing }
 
 -- what is printed is the lines, or the line of the refusal: the room that the call leaves is as long as it was
 pub printed_movements :
