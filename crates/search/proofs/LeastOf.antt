@@ -6,7 +6,8 @@ use native.Mathlib.Nat.{mul-le-mul, mul-le-mul_left}
 use native.Mathlib.Decide.{dec_le}
 use native.Mathlib.Omega.{arith}
 use lib.Dec.{leb, leb→le, le→leb}
-use Rattle.search.specs.Least.{least_from, least, least_law}
+use Rattle.search.specs.Least.{least_from, least}
+use Rattle.search.proofs.Halving.{least_law}
 
 pub record LeastOf (n : ℕ) (f : ℕ → ℕ) (x : ℕ) : Type 0 where
   pub reaches : n ≤ f x

@@ -1,6 +1,7 @@
 -- Laws of those definitions, and of lists that are written from their front: what the proofs of all other crates cite.
 pub mod Picks
 pub mod Sides
+pub mod Halving
 pub mod LeastOf
 pub mod Firsts
 pub mod Anys
