@@ -1,7 +1,6 @@
 // A decimal number in columns: read and written.
 #![tactic(auto)]
 
-
 // A number that may be below 0.
 pub mod signed;
 

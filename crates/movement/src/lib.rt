@@ -2,7 +2,6 @@
 // moves as the risk's component is raised by t. And what tsav-movement prints of its input.
 #![tactic(auto)]
 
-
 // The lines of the risks.
 pub mod moves;
 

@@ -1,10 +1,8 @@
 -- A loop that stands at i has found none before it; the first that passes ends it, and the end where none does. Assumes nothing.
 use mathlib.Core.Path.{sym}
-use Prim.Native.Nat.{◌-◌}
 use borrow.Author.Tests.{lt-ltb, le-ltb}
-use lib.ListN.{length}
-use Rattle.search.proofs.Firsts.{Sought, sought_start, sought_more, sought_found, sought_none}
-use Rattle.amount.specs.Amount.{first_above, above}
+use Rattle.search.proofs.Firsts.{sought_start, sought_more, sought_found, sought_none}
+use Rattle.amount.specs.Amount.{first_above}
 use Rattle.amount.proofs.first_above.Goals as goal
 
 pub loop-i-init : goal.loop-i-init

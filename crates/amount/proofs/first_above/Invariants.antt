@@ -1,9 +1,7 @@
-use mathlib.Core.Path.{sym}
 use Prim.Native.Nat.{◌-◌}
-use borrow.Author.Tests.{lt-ltb, le-ltb}
 use lib.ListN.{length}
-use Rattle.search.proofs.Firsts.{Sought, sought_start, sought_more, sought_found, sought_none}
-use Rattle.amount.specs.Amount.{first_above, above}
+use Rattle.search.proofs.Firsts.{Sought}
+use Rattle.amount.specs.Amount.{above}
 use Rattle.amount.proofs.first_above.Given as goal
 
 abbrev pub invariant-loop-i : goal.invariant-loop-i

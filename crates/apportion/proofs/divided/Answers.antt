@@ -1,11 +1,9 @@
 -- Whenever the loop's test is reached, the first parts are divided, and what is left of K is K less their quotients. Assumes nothing.
 use mathlib.Core.Path.{◌≡◌, refl}
-use Prim.Native.Nat.{◌+◌, ◌-◌}
 use native.Mathlib.Omega.{arith}
 use Rattle.search.specs.Total.{sum_to}
-use Rattle.search.proofs.Ascents.{Listed, listed_start, listed_more, listed_all}
+use Rattle.search.proofs.Ascents.{listed_start, listed_more, listed_all}
 use Rattle.guideline.specs.Sizes.{parts}
-use Rattle.apportion.specs.Shares.{value_of_part, base, remainder}
 use Rattle.apportion.proofs.Parts.{margin_within, base_is, remainder_is, takes, left_after, left_all}
 use Rattle.apportion.proofs.divided.Goals as goal
 

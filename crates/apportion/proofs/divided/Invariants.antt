@@ -1,11 +1,9 @@
-use mathlib.Core.Path.{◌≡◌, refl}
+use mathlib.Core.Path.{◌≡◌}
 use Prim.Native.Nat.{◌+◌, ◌-◌}
-use native.Mathlib.Omega.{arith}
 use Rattle.search.specs.Total.{sum_to}
-use Rattle.search.proofs.Ascents.{Listed, listed_start, listed_more, listed_all}
+use Rattle.search.proofs.Ascents.{Listed}
 use Rattle.guideline.specs.Sizes.{parts}
 use Rattle.apportion.specs.Shares.{value_of_part, base, remainder}
-use Rattle.apportion.proofs.Parts.{margin_within, base_is, remainder_is, takes, left_after, left_all}
 use Rattle.apportion.proofs.divided.Given as goal
 
 abbrev pub invariant-loop-part : goal.invariant-loop-part

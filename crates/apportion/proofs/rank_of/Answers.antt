@@ -1,6 +1,6 @@
 -- Whenever the loop's test is reached, those of the first parts that come before this one are counted. Assumes nothing.
 use mathlib.Core.Path.{◌≡◌, refl}
-use Prim.Native.Nat.{◌+◌, ◌-◌, ◌≤◌}
+use Prim.Native.Nat.{◌+◌}
 use native.Mathlib.Omega.{arith}
 use Rattle.search.specs.Total.{sum_to, one, count_to}
 use Rattle.search.proofs.Totals.{sum_step, count_most}

@@ -1,11 +1,8 @@
-use mathlib.Core.Path.{◌≡◌, refl}
-use Prim.Native.Nat.{◌+◌, ◌-◌, ◌≤◌}
-use native.Mathlib.Omega.{arith}
-use Rattle.search.specs.Total.{sum_to, one, count_to}
-use Rattle.search.proofs.Totals.{sum_step, count_most}
+use mathlib.Core.Path.{◌≡◌}
+use Prim.Native.Nat.{◌-◌, ◌≤◌}
+use Rattle.search.specs.Total.{count_to}
 use Rattle.guideline.specs.Sizes.{parts}
-use Rattle.apportion.specs.Shares.{value_of_part, before, rank}
-use Rattle.apportion.proofs.Parts.{counted}
+use Rattle.apportion.specs.Shares.{value_of_part, before}
 use Rattle.apportion.proofs.rank_of.Given as goal
 
 abbrev pub invariant-loop-other : goal.invariant-loop-other

@@ -1,11 +1,10 @@
 -- Whenever the loop's test is reached, the first parts have their cents. Assumes nothing.
 use mathlib.Core.Path.{refl, sym}
-use Prim.Native.Nat.{◌+◌, ◌-◌}
+use Prim.Native.Nat.{◌+◌}
 use native.Mathlib.Omega.{arith}
 use lib.Dec.{ltb}
-use Rattle.search.specs.Total.{one}
 use Rattle.search.proofs.Totals.{one_most}
-use Rattle.search.proofs.Ascents.{Listed, listed_start, listed_more, listed_all}
+use Rattle.search.proofs.Ascents.{listed_start, listed_more, listed_all}
 use Rattle.guideline.specs.Sizes.{parts}
 use Rattle.apportion.specs.Shares.{value_of_part, rank}
 use Rattle.apportion.proofs.Parts.{part_at, part_within}

@@ -24,24 +24,24 @@ after_8 c = after_7 (goal.at.Else-b-ne0 c).Else-above-lt-BLOCK_NUMBERS ∙ passe
 
 pub returns-then-above-lt-BLOCK_NUMBERS : goal.returns-then-above-lt-BLOCK_NUMBERS
 returns-then-above-lt-BLOCK_NUMBERS c = record {
-      outcome = sym (refused_7 _ (long (goal.at.returns-then-above-lt-BLOCK_NUMBERS c).After-first_above-arg-1) c.first_above-above.ensures c.if-above-lt-BLOCK_NUMBERS.true);
-      demand3 = tt;
-      few_steps = tt;
-    }
+  outcome = sym (refused_7 _ (long (goal.at.returns-then-above-lt-BLOCK_NUMBERS c).After-first_above-arg-1) c.first_above-above.ensures c.if-above-lt-BLOCK_NUMBERS.true);
+  demand3 = tt;
+  few_steps = tt;
+}
 
 pub returns-then-b-ne0 : goal.returns-then-b-ne0
 returns-then-b-ne0 c = record {
-      outcome = sym (after_7 (goal.at.returns-then-b-ne0 c).Else-above-lt-BLOCK_NUMBERS ∙ refused_8 _ c.if-b-ne0.true);
-      demand3 = tt;
-      few_steps = tt;
-    }
+  outcome = sym (after_7 (goal.at.returns-then-b-ne0 c).Else-above-lt-BLOCK_NUMBERS ∙ refused_8 _ c.if-b-ne0.true);
+  demand3 = tt;
+  few_steps = tt;
+}
 
 pub returns-then-risk-lt-RISKS : goal.returns-then-risk-lt-RISKS
 returns-then-risk-lt-RISKS c = record {
-      outcome = sym (after_8 (goal.at.returns-then-risk-lt-RISKS c).Else-b-ne0 ∙ refused_9 _ c.first_lt_above-risk.ensures c.if-risk-lt-RISKS.true);
-      demand3 = tt;
-      few_steps = tt;
-    }
+  outcome = sym (after_8 (goal.at.returns-then-risk-lt-RISKS c).Else-b-ne0 ∙ refused_9 _ c.first_lt_above-risk.ensures c.if-risk-lt-RISKS.true);
+  demand3 = tt;
+  few_steps = tt;
+}
 
 pub worked_out-worked-requires : goal.worked_out-worked-requires
 worked_out-worked-requires c =

@@ -1,10 +1,8 @@
 -- A loop that stands at pair i has found none before it. Assumes nothing.
 use mathlib.Core.Path.{sym}
-use Prim.Native.Nat.{◌-◌}
 use borrow.Author.Tests.{lt-ltb, le-ltb}
-use Rattle.search.proofs.Firsts.{Sought, sought_start, sought_more, sought_found, sought_none}
-use Rattle.guideline.specs.Sizes.{risks}
-use Rattle.block.specs.Call.{lt_above, first_lt_above}
+use Rattle.search.proofs.Firsts.{sought_start, sought_more, sought_found, sought_none}
+use Rattle.block.specs.Call.{first_lt_above}
 use Rattle.block.proofs.first_lt_above.Goals as goal
 
 pub loop-i-init : goal.loop-i-init

@@ -5,7 +5,6 @@ use Rattle.search.proofs.Picks.{if_true, if_false}
 use Rattle.search.proofs.Sides.{tests}
 use Rattle.codes.specs.Codes.{code_among, code_of}
 use Rattle.codes.specs.declared.Code.TheVariants.{Crd}
-use borrow.Author.Rules.{rules}
 use Rattle.codes.proofs.read_code.Goals.{Else-starts_with-6}
 use Rattle.codes.proofs.read_code.Goals as goal
 

@@ -1,7 +1,6 @@
 -- The letters are compared one after the other, as the definition does. Assumes nothing.
 use Rattle.search.proofs.Sides.{tests}
 use Rattle.codes.specs.Codes.{is_code}
-use borrow.Author.Rules.{rules}
 use Rattle.codes.proofs.starts_with.Goals as goal
 
 pub bounds-s-0 : goal.bounds-s-0

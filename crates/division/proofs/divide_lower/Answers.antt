@@ -1,9 +1,8 @@
 -- After each step the quotient and the rest so far are those of the digits above the ones that are left (`Between`); the last step brings
 -- down what is left. Assumes nothing.
-use Prim.Native.Nat.{◌+◌, ◌*◌, ◌^◌, ◌≤◌}
 use native.Mathlib.Omega.{arith}
 use lib.Count.{count_leading_zeros}
-use Rattle.division.proofs.Quotients.{Width, width_of, fewer, Between, start, narrower, step, last}
+use Rattle.division.proofs.Quotients.{Width, width_of, fewer, start, narrower, step, last}
 use Rattle.division.proofs.divide_lower.Goals.{Start}
 use Rattle.division.proofs.divide_lower.Goals as goal
 

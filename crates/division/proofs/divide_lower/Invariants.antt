@@ -1,7 +1,5 @@
 use Prim.Native.Nat.{◌+◌, ◌*◌, ◌^◌, ◌≤◌}
-use native.Mathlib.Omega.{arith}
-use lib.Count.{count_leading_zeros}
-use Rattle.division.proofs.Quotients.{Width, width_of, fewer, Between, start, narrower, step, last}
+use Rattle.division.proofs.Quotients.{Between}
 use Rattle.division.proofs.divide_lower.Given as goal
 
 abbrev pub invariant-loop-left : goal.invariant-loop-left

@@ -1,7 +1,6 @@
 -- Nothing is left of a number exactly where it is 0: the branch on that is the definition's own test. Assumes nothing.
 use Rattle.search.proofs.Sides.{tests}
 use Rattle.field.specs.Field.{digit_or_space}
-use borrow.Author.Rules.{rules}
 use Rattle.field.proofs.digit_or_space.Goals as goal
 
 pub returns-then-v-eq0 : goal.returns-then-v-eq0

@@ -1,11 +1,8 @@
 -- Whenever the loop's test is reached, v is what the columns before i spell, below 10 ^ i, and with v the columns from i on spell what all of
 -- them do; a byte that is no digit ends it. Assumes nothing.
-use mathlib.Core.Path.{◌≡◌, refl, sym, ◌∙◌}
-use Prim.Native.Nat.{◌≤◌, ◌<◌, ◌-◌, ◌^◌}
+use mathlib.Core.Path.{refl, sym, ◌∙◌}
 use native.Mathlib.Omega.{arith}
 use native.Mathlib.Nat.{one-le-pow}
-use lib.ListN.{length, drop}
-use Rattle.field.specs.Field.{digits}
 use Rattle.field.proofs.Reading.{digits_low, digits_high, digits_more, digits_end, grows, columns_fit}
 use borrow.Author.Rules.{rules}
 use Rattle.field.proofs.digits_from.Goals as goal

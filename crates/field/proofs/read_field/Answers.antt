@@ -1,9 +1,6 @@
 -- Whenever the loop's test is reached, the columns before i are spaces, so those from i on hold what all of them hold; the first other byte
 -- decides. Assumes nothing.
-use mathlib.Core.Path.{◌≡◌, refl, sym, ◌∙◌}
-use Prim.Native.Nat.{◌≤◌, ◌-◌}
-use lib.ListN.{length, drop}
-use Rattle.field.specs.Field.{field}
+use mathlib.Core.Path.{refl, sym, ◌∙◌}
 use Rattle.field.proofs.Reading.{field_space, zero_last, zero_leads, field_digits, field_end}
 use borrow.Author.Rules.{rules}
 use Rattle.field.proofs.read_field.Goals as goal

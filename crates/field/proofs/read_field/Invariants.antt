@@ -1,8 +1,7 @@
-use mathlib.Core.Path.{◌≡◌, refl, sym, ◌∙◌}
+use mathlib.Core.Path.{◌≡◌}
 use Prim.Native.Nat.{◌≤◌, ◌-◌}
 use lib.ListN.{length, drop}
 use Rattle.field.specs.Field.{field}
-use Rattle.field.proofs.Reading.{field_space, zero_last, zero_leads, field_digits, field_end}
 use Rattle.field.proofs.read_field.Given as goal
 
 abbrev pub invariant-loop-i : goal.invariant-loop-i

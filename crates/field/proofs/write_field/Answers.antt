@@ -1,8 +1,8 @@
 -- Whenever the loop's test is reached, the columns from i on are written, and what is left of the number belongs into the i before them.
 -- Assumes nothing.
 use mathlib.Core.Path.{◌∙◌}
-use lib.ListN.{length, length-set}
-use Rattle.field.proofs.Writing.{Written, last_written, next_written, all_written}
+use lib.ListN.{length-set}
+use Rattle.field.proofs.Writing.{last_written, next_written, all_written}
 use borrow.Author.Rules.{rules}
 use Rattle.field.proofs.write_field.Goals as goal
 

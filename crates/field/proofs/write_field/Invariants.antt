@@ -1,6 +1,5 @@
-use mathlib.Core.Path.{◌∙◌}
-use lib.ListN.{length, length-set}
-use Rattle.field.proofs.Writing.{Written, last_written, next_written, all_written}
+use lib.ListN.{length}
+use Rattle.field.proofs.Writing.{Written}
 use Rattle.field.proofs.write_field.Given as goal
 
 abbrev pub invariant-loop-i : goal.invariant-loop-i

@@ -2,7 +2,7 @@
 use mathlib.Core.Path.{◌≡◌, ap, sym, ◌∙◌}
 use Prim.Native.Nat.{ℕ, ◌*◌, ◌≤◌, ◌<◌}
 use native.Mathlib.Omega.{arith}
-use Rattle.fluctuation.specs.Rows.{rows, row_count, row_of, base_of}
+use Rattle.fluctuation.specs.Rows.{rows, row_of, base_of}
 use Rattle.fluctuation.specs.Parts.{factor_for}
 use Rattle.fluctuation.specs.declared.Factor.TheVariants.{One, Falling}
 use Rattle.fluctuation.proofs.Rows.{picks_one, picks_falling}

@@ -13,15 +13,15 @@ use Rattle.fluctuation.proofs.fluctuation_call.Goals as goal
 
 pub returns-then-row-lt1 : goal.returns-then-row-lt1
 returns-then-row-lt1 c = record {
-      outcome = sym (no_row_below _ _ _ (omega (arith, c.if-row-lt1.true)));
-      accuracy = tt;
-    }
+  outcome = sym (no_row_below _ _ _ (omega (arith, c.if-row-lt1.true)));
+  accuracy = tt;
+}
 
 pub returns-then-row-gt-ROWS : goal.returns-then-row-gt-ROWS
 returns-then-row-gt-ROWS c = record {
-      outcome = sym (no_row_above _ _ _ c.if-row-lt1.false (omega (arith, c.if-row-gt-ROWS.true)));
-      accuracy = tt;
-    }
+  outcome = sym (no_row_above _ _ _ c.if-row-lt1.false (omega (arith, c.if-row-gt-ROWS.true)));
+  accuracy = tt;
+}
 
 -- past rule 18
 after_18 : (c : Else-row-gt-ROWS) →
@@ -31,9 +31,9 @@ after_18 c = passed_18 _ _ _ c.if-row-lt1.false (omega (arith, c.if-row-gt-ROWS.
 
 pub returns-then-above-lt2 : goal.returns-then-above-lt2
 returns-then-above-lt2 c = record {
-      outcome = sym (after_18 (goal.at.returns-then-above-lt2 c).Else-row-gt-ROWS ∙ refused_7 _ _ _ c.first_above-above.ensures (omega (arith, c.if-above-lt2.true)));
-      accuracy = tt;
-    }
+  outcome = sym (after_18 (goal.at.returns-then-above-lt2 c).Else-row-gt-ROWS ∙ refused_7 _ _ _ c.first_above-above.ensures (omega (arith, c.if-above-lt2.true)));
+  accuracy = tt;
+}
 
 pub fluctuation-requires : goal.fluctuation-requires
 fluctuation-requires c =

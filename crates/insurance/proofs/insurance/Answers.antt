@@ -46,8 +46,7 @@ floor_then_pc-requires c =
 
 pub returns : goal.returns
 unfolding fine_i
-returns c =
-    (
-      c.floor_then_pc.ensures ∙ ap (λ (n : ℕ). n + fineness * (2 * PC c.args.b.now)) (floor (goal.at.returns c).After-root_and_steps-found),
-      c.root_and_steps-found.ensures.1 ∙ ap steps (radicand (goal.at.returns c).After-times),
-    )
+returns c = (
+  c.floor_then_pc.ensures ∙ ap (λ (n : ℕ). n + fineness * (2 * PC c.args.b.now)) (floor (goal.at.returns c).After-root_and_steps-found),
+  c.root_and_steps-found.ensures.1 ∙ ap steps (radicand (goal.at.returns c).After-times),
+)

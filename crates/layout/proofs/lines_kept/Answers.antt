@@ -1,10 +1,10 @@
 -- A loop that stands at line i has found none before it whose layout is broken. Assumes nothing.
 use mathlib.Core.Path.{◌≡◌, sym, ◌∙◌}
 use mathlib.Core.List.{List}
-use Prim.Native.Nat.{ℕ, ◌-◌}
-use Rattle.search.proofs.Firsts.{Sought, sought_start, sought_more, sought_found, sought_none}
+use Prim.Native.Nat.{ℕ}
+use Rattle.search.proofs.Firsts.{sought_start, sought_more, sought_found, sought_none}
 use Rattle.layout.specs.Columns.{layout_of}
-use Rattle.layout.specs.Whole.{whole_lines, is_broken, breaks_at, lines_kept}
+use Rattle.layout.specs.Whole.{is_broken, breaks_at, lines_kept}
 use Rattle.layout.proofs.Lent.{lent, lent_is}
 use Rattle.layout.proofs.lines_kept.Goals as goal
 

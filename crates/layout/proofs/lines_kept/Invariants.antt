@@ -1,10 +1,6 @@
-use mathlib.Core.Path.{◌≡◌, sym, ◌∙◌}
-use mathlib.Core.List.{List}
-use Prim.Native.Nat.{ℕ, ◌-◌}
-use Rattle.search.proofs.Firsts.{Sought, sought_start, sought_more, sought_found, sought_none}
-use Rattle.layout.specs.Columns.{layout_of}
-use Rattle.layout.specs.Whole.{whole_lines, is_broken, breaks_at, lines_kept}
-use Rattle.layout.proofs.Lent.{lent, lent_is}
+use Prim.Native.Nat.{◌-◌}
+use Rattle.search.proofs.Firsts.{Sought}
+use Rattle.layout.specs.Whole.{whole_lines, breaks_at}
 use Rattle.layout.proofs.lines_kept.Given as goal
 
 abbrev pub invariant-loop-i : goal.invariant-loop-i

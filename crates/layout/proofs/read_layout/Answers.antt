@@ -2,7 +2,6 @@
 use mathlib.Core.Path.{◌∙◌}
 use Rattle.search.proofs.Sides.{side_true, tests}
 use Rattle.layout.specs.Columns.{layout_of}
-use borrow.Author.Rules.{rules}
 use Rattle.layout.proofs.read_layout.Goals as goal
 
 pub separated-requires : goal.separated-requires

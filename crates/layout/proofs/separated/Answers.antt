@@ -1,7 +1,6 @@
 -- A column that holds what it must leaves the columns after it. Assumes nothing.
 use Rattle.search.proofs.Sides.{tests}
 use Rattle.layout.specs.Columns.{spaced}
-use borrow.Author.Rules.{rules}
 use Rattle.layout.proofs.separated.Goals as goal
 
 pub bounds-s-3 : goal.bounds-s-3

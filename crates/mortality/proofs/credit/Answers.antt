@@ -1,6 +1,5 @@
 -- Where one of the sums is 0 there is no credit; else it is what the aggregate, which is at most S + T, leaves of S + T. Assumes nothing.
-use mathlib.Core.Path.{sym, ap, ◌∙◌}
-use Prim.Native.Nat.{◌+◌, ◌-◌}
+use mathlib.Core.Path.{sym, ◌∙◌}
 use native.Mathlib.Omega.{arith}
 use Rattle.mortality.specs.Credit.{credit}
 use Rattle.mortality.proofs.Credits.{none_with_0, credit_turned, aggregated_most}

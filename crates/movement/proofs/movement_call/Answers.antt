@@ -8,7 +8,6 @@ use Rattle.block.specs.declared.BlockAnswer.{BlockAnswer}
 use Rattle.block.specs.Call.{stated, block_call}
 use Rattle.movement_input.specs.Reading.{block_of}
 use Rattle.movement.proofs.Calls.{unmoved, wrong_length, broken_line, block_refused, all_told, promised}
-use borrow.Author.Rules.{rules}
 use Rattle.movement.proofs.movement_call.Goals.{After-block_call-answer}
 use Rattle.movement.proofs.movement_call.Goals as goal
 

@@ -1,11 +1,9 @@
 -- Whenever the loop's test is reached, the numbers of the first i lines stand in front. Assumes nothing.
 use mathlib.Core.Path.{refl}
-use Prim.Native.Nat.{◌-◌, ◌≤◌}
 use native.Mathlib.Omega.{arith}
 use Rattle.search.proofs.Stretches.{nothing}
-use Rattle.guideline.specs.Sizes.{block_numbers}
 use Rattle.movement_input.specs.Reading.{numbers_to}
-use Rattle.movement_input.proofs.Numbers.{Numbers, next_number, all_numbers}
+use Rattle.movement_input.proofs.Numbers.{next_number, all_numbers}
 use borrow.Author.Rules.{rules}
 use Rattle.movement_input.proofs.block_of.Goals as goal
 

@@ -1,8 +1,7 @@
 -- A loop that stands at line i has found none before it that is broken. Assumes nothing.
 use mathlib.Core.Path.{sym}
-use Prim.Native.Nat.{◌-◌}
-use Rattle.search.proofs.Firsts.{Sought, sought_start, sought_more, sought_found, sought_none}
-use Rattle.movement_input.specs.Reading.{input_lines, amount_at, is_bad, lines_kept}
+use Rattle.search.proofs.Firsts.{sought_start, sought_more, sought_found, sought_none}
+use Rattle.movement_input.specs.Reading.{input_lines, lines_kept}
 use Rattle.movement_input.proofs.Numbers.{bad_line, good_line}
 use native.Mathlib.Omega.{arith}
 use Rattle.movement_input.proofs.lines_kept.Goals as goal

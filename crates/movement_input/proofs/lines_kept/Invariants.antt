@@ -1,9 +1,6 @@
-use mathlib.Core.Path.{sym}
 use Prim.Native.Nat.{◌-◌}
-use Rattle.search.proofs.Firsts.{Sought, sought_start, sought_more, sought_found, sought_none}
-use Rattle.movement_input.specs.Reading.{input_lines, amount_at, is_bad, lines_kept}
-use Rattle.movement_input.proofs.Numbers.{bad_line, good_line}
-use native.Mathlib.Omega.{arith}
+use Rattle.search.proofs.Firsts.{Sought}
+use Rattle.movement_input.specs.Reading.{input_lines, amount_at, is_bad}
 use Rattle.movement_input.proofs.lines_kept.Given as goal
 
 abbrev pub invariant-loop-i : goal.invariant-loop-i

@@ -11,9 +11,9 @@ use Rattle.operational.proofs.operational.Goals as goal
 
 pub business-requires : goal.business-requires
 business-requires c = let a = c.requires in record {
-      most_volumes = a.short;
-      within_limit = (a.currents, a.priors);
-    }
+  most_volumes = a.short;
+  within_limit = (a.currents, a.priors);
+}
 
 pub general_requirement-requires : goal.general_requirement-requires
 general_requirement-requires c = let a = c.requires in (a.gross, a.guarantee, a.ceded)

@@ -1,9 +1,9 @@
 -- Whenever the loop's test is reached, the lines of the first i rows stand in front. Assumes nothing.
-use Prim.Native.Nat.{◌+◌, ◌-◌, ◌*◌, ◌≤◌}
+use Prim.Native.Nat.{◌+◌, ◌*◌, ◌≤◌}
 use native.Mathlib.Omega.{arith}
 use lib.ListN.{length}
 use Rattle.guideline.specs.Sizes.{row_numbers}
-use Rattle.report.proofs.Tables.{block_bytes, Rows, no_row, stretch_long, next_row, all_rows}
+use Rattle.report.proofs.Tables.{block_bytes, no_row, stretch_long, next_row, all_rows}
 use borrow.Author.Rules.{rules}
 use Rattle.report.proofs.write_blocks.Goals.{In-loop-i}
 use Rattle.report.proofs.write_blocks.Goals as goal

@@ -1,8 +1,5 @@
-use Prim.Native.Nat.{◌+◌, ◌-◌, ◌*◌, ◌≤◌}
-use native.Mathlib.Omega.{arith}
-use lib.ListN.{length}
-use Rattle.guideline.specs.Sizes.{row_numbers}
-use Rattle.report.proofs.Tables.{block_bytes, Rows, no_row, stretch_long, next_row, all_rows}
+use Prim.Native.Nat.{◌-◌, ◌≤◌}
+use Rattle.report.proofs.Tables.{Rows}
 use Rattle.report.proofs.write_blocks.Given as goal
 
 abbrev pub invariant-loop-i : goal.invariant-loop-i

@@ -1,9 +1,9 @@
 -- Whenever the loop's test is reached, the lines of the first k numbers stand in front. Assumes nothing.
 use mathlib.Core.Path.{◌≡◌}
-use Prim.Native.Nat.{◌+◌, ◌-◌, ◌≤◌}
+use Prim.Native.Nat.{◌+◌, ◌≤◌}
 use native.Mathlib.Omega.{arith}
 use lib.ListN.{length}
-use Rattle.report.proofs.Items.{Items, no_item, stretch, stretch_long, next_item, all_items}
+use Rattle.report.proofs.Items.{no_item, stretch, stretch_long, next_item, all_items}
 use borrow.Author.Rules.{rules}
 use Rattle.report.proofs.write_items.Goals.{In-loop-k, Start}
 use Rattle.report.proofs.write_items.Goals as goal

@@ -1,8 +1,6 @@
-use mathlib.Core.Path.{◌≡◌}
-use Prim.Native.Nat.{◌+◌, ◌-◌, ◌≤◌}
-use native.Mathlib.Omega.{arith}
+use Prim.Native.Nat.{◌-◌}
 use lib.ListN.{length}
-use Rattle.report.proofs.Items.{Items, no_item, stretch, stretch_long, next_item, all_items}
+use Rattle.report.proofs.Items.{Items}
 use Rattle.report.proofs.write_items.Given as goal
 
 abbrev pub invariant-loop-k : goal.invariant-loop-k

@@ -1,7 +1,7 @@
 -- Whatever radicand stands at the top of the first window, after step j the held value is the root of its leading 2j digits (`After`). After
 -- the last step these are all its digits, and the root is rounded up by what is left. Assumes nothing.
 use mathlib.Core.Path.{◌≡◌, sym}
-use Prim.Native.Nat.{ℕ, ◌-◌, ◌^◌, ◌≤◌, ◌<◌}
+use Prim.Native.Nat.{◌^◌, ◌≤◌, ◌<◌}
 use native.Mathlib.Omega.{arith}
 use lib.Arith.{digits_lt}
 use Rattle.wide.specs.Value.{value}

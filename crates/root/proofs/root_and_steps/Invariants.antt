@@ -1,11 +1,6 @@
-use mathlib.Core.Path.{◌≡◌, sym}
-use Prim.Native.Nat.{ℕ, ◌-◌, ◌^◌, ◌≤◌, ◌<◌}
-use native.Mathlib.Omega.{arith}
-use lib.Arith.{digits_lt}
+use Prim.Native.Nat.{ℕ, ◌-◌, ◌≤◌}
 use Rattle.wide.specs.Value.{value}
-use Rattle.root.specs.Steps.{steps, After, Aligned}
-use Rattle.root.proofs.Lengths.{has_digits}
-use Rattle.root.proofs.Rooted.{few, small, at_start, step, root_small, root_room, exact_root, next_root, root_of_none}
+use Rattle.root.specs.Steps.{After, Aligned}
 use Rattle.root.proofs.root_and_steps.Given as goal
 
 abbrev pub invariant-loop-j : goal.invariant-loop-j

@@ -18,6 +18,6 @@ overflow_sub-result c = (more c).within
 
 pub returns : goal.returns
 returns c = record {
-      value = ((more c).square, (more c).small);
-      digit = (omega arith, omega (arith, (more c).bit));
-    }
+  value = ((more c).square, (more c).small);
+  digit = (omega arith, omega (arith, (more c).bit));
+}

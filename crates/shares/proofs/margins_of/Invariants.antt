@@ -1,8 +1,6 @@
-use mathlib.Core.Path.{refl}
-use Prim.Native.Nat.{◌+◌, ◌-◌}
-use native.Mathlib.Omega.{arith}
+use Prim.Native.Nat.{◌-◌}
 use Rattle.guideline.specs.Sizes.{parts}
-use Rattle.shares.proofs.Margins.{FoundTo, sum_fits, found_start, found_negative, next_sum, found_more, found_all}
+use Rattle.shares.proofs.Margins.{FoundTo}
 use Rattle.shares.proofs.margins_of.Given as goal
 
 abbrev pub invariant-loop-part : goal.invariant-loop-part

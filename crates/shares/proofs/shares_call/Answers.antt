@@ -18,6 +18,6 @@ returns-in-Accepted c =
 
 pub returns-in-Refused : goal.returns-in-Refused
 returns-in-Refused c = record {
-      outcome = refused_call _ _ _ (ap stated (sym c.in-Refused.is) ∙ c.block_call-answer.ensures.outcome);
-      shares_demand = tt;
-    }
+  outcome = refused_call _ _ _ (ap stated (sym c.in-Refused.is) ∙ c.block_call-answer.ensures.outcome);
+  shares_demand = tt;
+}

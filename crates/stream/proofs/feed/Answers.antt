@@ -1,7 +1,5 @@
 -- Whenever the loop's test is reached, what is left of the chunk gives what all of it gives. Assumes nothing.
-use Prim.Native.Nat.{◌-◌}
-use lib.ListN.{length}
-use Rattle.stream.proofs.Room.{Feeding, begins, within_room, all_fed, fed_closed, fed_on}
+use Rattle.stream.proofs.Room.{begins, within_room, all_fed, fed_closed, fed_on}
 use borrow.Author.Rules.{rules}
 use Rattle.stream.proofs.feed.Goals as goal
 

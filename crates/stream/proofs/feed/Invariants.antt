@@ -1,6 +1,6 @@
 use Prim.Native.Nat.{◌-◌}
 use lib.ListN.{length}
-use Rattle.stream.proofs.Room.{Feeding, begins, within_room, all_fed, fed_closed, fed_on}
+use Rattle.stream.proofs.Room.{Feeding}
 use Rattle.stream.proofs.feed.Given as goal
 
 abbrev pub invariant-loop-i : goal.invariant-loop-i

@@ -1,7 +1,5 @@
 -- A loop that stands at i has met spaces alone behind the columns before it. Assumes nothing.
-use Prim.Native.Nat.{◌-◌}
-use lib.ListN.{length}
-use Rattle.field.proofs.Minus.{Spaced, spaced_start, spaced_more, spaced_last, spaced_end}
+use Rattle.field.proofs.Minus.{spaced_start, spaced_more, spaced_last, spaced_end}
 use Rattle.field.proofs.signed.minus_place.Goals as goal
 
 pub loop-i-init : goal.loop-i-init

@@ -1,6 +1,6 @@
 use Prim.Native.Nat.{◌-◌}
 use lib.ListN.{length}
-use Rattle.field.proofs.Minus.{Spaced, spaced_start, spaced_more, spaced_last, spaced_end}
+use Rattle.field.proofs.Minus.{Spaced}
 use Rattle.field.proofs.signed.minus_place.Given as goal
 
 abbrev pub invariant-loop-i : goal.invariant-loop-i

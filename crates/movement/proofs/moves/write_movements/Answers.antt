@@ -1,10 +1,9 @@
 -- Whenever the loop's test is reached, the lines of the first i risks stand in front. Assumes nothing.
-use Prim.Native.Nat.{◌+◌, ◌-◌, ◌*◌, ◌≤◌}
+use Prim.Native.Nat.{◌+◌, ◌*◌, ◌≤◌}
 use native.Mathlib.Omega.{arith}
 use lib.ListN.{length}
-use Rattle.guideline.specs.Sizes.{risks}
 use Rattle.report_line.specs.Line.{report_line_bytes}
-use Rattle.movement.proofs.Lines.{Lines, no_line, next_line, all_lines}
+use Rattle.movement.proofs.Lines.{no_line, next_line, all_lines}
 use borrow.Author.Rules.{rules}
 use Rattle.movement.proofs.moves.write_movements.Goals.{In-loop-i}
 use Rattle.movement.proofs.moves.write_movements.Goals as goal

@@ -1,9 +1,6 @@
-use Prim.Native.Nat.{◌+◌, ◌-◌, ◌*◌, ◌≤◌}
-use native.Mathlib.Omega.{arith}
-use lib.ListN.{length}
+use Prim.Native.Nat.{◌-◌}
 use Rattle.guideline.specs.Sizes.{risks}
-use Rattle.report_line.specs.Line.{report_line_bytes}
-use Rattle.movement.proofs.Lines.{Lines, no_line, next_line, all_lines}
+use Rattle.movement.proofs.Lines.{Lines}
 use Rattle.movement.proofs.moves.write_movements.Given as goal
 
 abbrev pub invariant-loop-i : goal.invariant-loop-i
