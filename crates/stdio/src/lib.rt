@@ -1,10 +1,11 @@
 // Standard input and output, for every program: all of the input, or some bytes of it, read into lent room, and the first bytes of a text written.
 #![tactic(auto)]
 
-ghost use Rattle.std.specs.Prelude.{◌≡◌, true, ◌≤◌, length};
-ghost use Rattle.stdio.specs.Read.{ReadInto};
+ghost use Rattle.std.specs.Prelude.{◌≡◌, true, ◌≤◌, length, take};
+ghost use Rattle.std.specs.Io.KnownBytes.{Appends};
+ghost use Rattle.stdio.specs.Read.{ReadInto, TakesAll, TakesSome};
 
-use libc::{STDIN_FILENO, STDOUT_FILENO};
+use std::io::{ErrorKind, Read, Write};
 
 // How many bytes were read; or that a read failed.
 #[derive(Clone, Copy)]
@@ -14,41 +15,51 @@ pub enum Got {
 }
 
 // Reads to the end of the input, or until the room is full.
-pub fn read_all(room: &mut [u8]) -> Got
-    ensures { ReadInto result room.old room.new }
+pub fn read_all<R: Read>(input: &mut R, room: &mut [u8]) -> Got
+    ensures within { ReadInto result room.old room.new }
+    ensures taken { TakesAll result (R.remaining input.old) (R.remaining input.new) room.new }
 {
     let mut at = 0usize;
     while at < room.len() {
-        let got = libc::read(STDIN_FILENO, &mut room[at..]);
-        if got < 0 {
-            return Got::Failed;
+        match read_some(input, &mut room[at..]) {
+            Got::Failed => return Got::Failed,
+            Got::Bytes(n) => {
+                if n == 0 {
+                    return Got::Bytes(at);
+                }
+                at += n;
+            }
         }
-        let n = io::count(got, &room[at..]);
-        if n == 0 {
-            return Got::Bytes(at);
-        }
-        at += n;
     }
     Got::Bytes(at)
 }
 
-// Reads some bytes, as many as come at once and the room takes; none at the end of the input, and where there is no room.
-pub fn read_some(room: &mut [u8]) -> Got
-    ensures { ReadInto result room.old room.new }
+// Reads some bytes, as many as come at once and the room takes; none at the end of the input, and where there is no room. A read that a signal
+// interrupts is tried again.
+pub fn read_some<R: Read>(input: &mut R, room: &mut [u8]) -> Got
+    ensures within { ReadInto result room.old room.new }
+    ensures taken { TakesSome result (R.remaining input.old) (R.remaining input.new) room.new }
 {
-    let got = libc::read(STDIN_FILENO, room);
-    if got < 0 {
-        return Got::Failed;
+    for _ in 0..u64::MAX {
+        match input.read(room) {
+            Ok(n) => return Got::Bytes(n),
+            Err(e) => {
+                if e.kind() != ErrorKind::Interrupted {
+                    return Got::Failed;
+                }
+            }
+        }
     }
-    Got::Bytes(io::count(got, room))
+    Got::Failed
 }
 
 // Writes the first n bytes of a text, and tells whether all of them were written: never of a text that has fewer.
-pub fn put(text: &[u8], n: usize) -> bool
-    ensures { result ≡ true → n ≤ length text.now }
+pub fn put<W: Write>(output: &mut W, text: &[u8], n: usize) -> bool
+    ensures whole { result ≡ true → n ≤ length text.now }
+    ensures written { result ≡ true → Appends (W.contents output.old) (W.contents output.new) (take n text.now) }
 {
     if text.len() < n {
         return false;
     }
-    io::write_all(STDOUT_FILENO, &text[0..n])
+    output.write_all(&text[0..n]).is_ok()
 }
