@@ -7,7 +7,6 @@ use amount::LARGEST_AMOUNT;
 use block::BlockAnswer;
 use fluctuation::FluctuationAnswer;
 use guideline::{BLOCK_NUMBERS, GENERAL_FIGURES, TERRITORY_NUMBERS, VOLUME_NUMBERS};
-use libc::STDOUT_FILENO;
 use operational::OperationalAnswer;
 use refusal::Place;
 use shares::SharesAnswer;
@@ -16,90 +15,61 @@ use shares::SharesAnswer;
 const MOST: u64 = 18446744073709551615;
 
 // Every part in turn.
-fn main() {
-    printed_example();
-    points();
-    bad_blocks();
-    printed_volumes();
-    bad_volumes();
-    root_steps();
-    fluctuations();
-    bad_fluctuations();
-    printed_illustration();
-    printed_shares();
-    bad_shares();
+fn main(rt: HostRuntime) {
+    printed_example(&rt);
+    points(&rt);
+    bad_blocks(&rt);
+    printed_volumes(&rt);
+    bad_volumes(&rt);
+    root_steps(&rt);
+    fluctuations(&rt);
+    bad_fluctuations(&rt);
+    printed_illustration(&rt);
+    printed_shares(&rt);
+    bad_shares(&rt);
 }
 
 // Text as it stands.
-fn say(text: &[u8]) {
-    io::write_all(STDOUT_FILENO, text);
+fn say(rt: &impl Print, text: &str) {
+    let _ = rt.print(text);
 }
 
 // A number after a space.
-fn number(n: u64) {
-    say(b" ");
-    io::print_decimal(STDOUT_FILENO, n);
+fn number(rt: &impl Print, n: u64) {
+    let _ = print!(rt; " {n}");
 }
 
 // A refusal: its number and its place.
-fn refused(n: u8, p: Place) {
-    say(b"refused");
-    number(cast::byte(n));
-    match p {
-        Place::Line(at) => {
-            say(b" line");
-            number(cast::word(at));
-        }
-        Place::Position(at) => {
-            say(b" position");
-            number(cast::word(at));
-        }
-        Place::Risk(at) => {
-            say(b" risk");
-            number(cast::word(at));
-        }
-        Place::Sheet(at) => {
-            say(b" sheet");
-            number(cast::word(at));
-        }
-        Place::Nowhere => {}
-    }
-    say(b"\n");
+fn refused(rt: &impl Print, n: u8, p: Place) {
+    let _ = match p {
+        Place::Line(at) => println!(rt; "refused {n} line {at}"),
+        Place::Position(at) => println!(rt; "refused {n} position {at}"),
+        Place::Risk(at) => println!(rt; "refused {n} risk {at}"),
+        Place::Sheet(at) => println!(rt; "refused {n} sheet {at}"),
+        Place::Nowhere => println!(rt; "refused {n}"),
+    };
 }
 
 // What the block call gives, on a line.
-fn block_row(b: &[u64; BLOCK_NUMBERS]) {
-    let answer = block::block_call(b);
-    match answer {
+fn block_row(rt: &impl Print, b: &[u64; BLOCK_NUMBERS]) {
+    match block::block_call(b) {
         BlockAnswer::Accepted(f, s) => {
-            say(b"I, D, U, LT, K, steps:");
-            number(f.i);
-            number(f.d);
-            number(f.u);
-            number(f.lt);
-            number(f.k);
-            number(s.i);
-            number(s.d);
-            say(b"\n");
+            let _ = println!(rt;
+                "I, D, U, LT, K, steps: {} {} {} {} {} {} {}",
+                f.i, f.d, f.u, f.lt, f.k, s.i, s.d
+            );
         }
-        BlockAnswer::Refused(n, p) => {
-            refused(n, p);
-        }
+        BlockAnswer::Refused(n, p) => refused(rt, n, p),
     }
 }
 
 // What the operational call gives, on a line.
-fn operational_row(volumes: &[u64], general: &[u64; GENERAL_FIGURES]) {
-    let answer = operational::operational_call(volumes, general);
-    match answer {
+fn operational_row(rt: &impl Print, volumes: &[u64], general: &[u64; GENERAL_FIGURES]) {
+    match operational::operational_call(volumes, general) {
         OperationalAnswer::Accepted(ro) => {
-            say(b"RO:");
-            number(ro);
-            say(b"\n");
+            let _ = println!(rt; "RO: {ro}");
         }
-        OperationalAnswer::Refused(n, p) => {
-            refused(n, p);
-        }
+        OperationalAnswer::Refused(n, p) => refused(rt, n, p),
     }
 }
 
@@ -109,40 +79,40 @@ fn dollars(half_cents: u64) -> u64 {
 }
 
 // The example of document 000, section 11.2.4: each figure that it prints, in dollars, in its order.
-fn printed_example() {
+fn printed_example(rt: &impl Print) {
     let b = example();
     let answer = block::block_call(&b);
     let BlockAnswer::Accepted(f, _) = answer else {
         return;
     };
-    say(b"document 000\n");
+    say(rt, "document 000\n");
     let y1 = half_cents(b[0], b[1]);
-    number(dollars(y1));
-    number(dollars(half_cents(b[2], b[3])));
-    number(dollars(half_cents(b[4], b[5])));
-    number(dollars(half_cents(b[6], b[7])));
-    number(dollars(half_cents(b[8], b[9])));
-    number(dollars(half_cents(b[10], b[11])));
-    number(dollars(half_cents(b[12], b[13])));
+    number(rt, dollars(y1));
+    number(rt, dollars(half_cents(b[2], b[3])));
+    number(rt, dollars(half_cents(b[4], b[5])));
+    number(rt, dollars(half_cents(b[6], b[7])));
+    number(rt, dollars(half_cents(b[8], b[9])));
+    number(rt, dollars(half_cents(b[10], b[11])));
+    number(rt, dollars(half_cents(b[12], b[13])));
     let two = plus(b[0], b[2]);
     let four = plus(two, plus(b[4], b[6]));
     let components = plus(four, plus(b[8], plus(b[10], b[12])));
-    say(b"\ntotals");
-    number(dollars(plus(components, components)));
-    number(dollars(plus(f.lt, f.lt)));
+    say(rt, "\ntotals");
+    number(rt, dollars(plus(components, components)));
+    number(rt, dollars(plus(f.lt, f.lt)));
     let pc = plus(b[14], b[14]);
     let a = plus(b[15], b[16]);
-    say(b"\nI");
-    number(dollars(amount::excess(f.i, pc)));
-    number(dollars(f.i));
+    say(rt, "\nI");
+    number(rt, dollars(amount::excess(f.i, pc)));
+    number(rt, dollars(f.i));
     // mortality is the largest of the seven
-    number(dollars(plus(y1, pc)));
-    say(b"\nA, D, U, K");
-    number(dollars(plus(a, a)));
-    number(dollars(f.d));
-    number(dollars(plus(f.u, f.u)));
-    number(dollars(plus(f.k, f.k)));
-    say(b"\n");
+    number(rt, dollars(plus(y1, pc)));
+    say(rt, "\nA, D, U, K");
+    number(rt, dollars(plus(a, a)));
+    number(rt, dollars(f.d));
+    number(rt, dollars(plus(f.u, f.u)));
+    number(rt, dollars(plus(f.k, f.k)));
+    say(rt, "\n");
 }
 
 // 2 × IR − LT.
@@ -164,137 +134,135 @@ fn example() -> [u64; BLOCK_NUMBERS] {
 }
 
 // Document 01's rows for a block.
-fn points() {
-    say(b"document 01\n");
-    block_row(&example());
+fn points(rt: &impl Print) {
+    say(rt, "document 01\n");
+    block_row(rt, &example());
     let mut b = [0u64; BLOCK_NUMBERS];
-    block_row(&b);
+    block_row(rt, &b);
     b[0] = 100;
-    block_row(&b);
+    block_row(rt, &b);
     b[1] = 100;
-    block_row(&b);
+    block_row(rt, &b);
     b[0] = 1;
     b[1] = 1;
-    block_row(&b);
+    block_row(rt, &b);
     b[0] = 100;
     b[1] = 0;
     b[2] = 100;
-    block_row(&b);
+    block_row(rt, &b);
     b[2] = 0;
     b[15] = 100;
-    block_row(&b);
+    block_row(rt, &b);
     let mut c = [0u64; BLOCK_NUMBERS];
     c[8] = 100;
     c[10] = 100;
-    block_row(&c);
+    block_row(rt, &c);
     let mut d = [0u64; BLOCK_NUMBERS];
     d[0] = 3000;
     d[1] = 3001;
-    block_row(&d);
+    block_row(rt, &d);
 }
 
 // Each position above the limit, alone.
-fn each_above() {
-    let mut at = 0usize;
-    while at < BLOCK_NUMBERS {
+fn each_above(rt: &impl Print) {
+    for at in 0..BLOCK_NUMBERS {
         let mut b = example();
         b[at] = MOST;
-        block_row(&b);
-        at += 1;
+        block_row(rt, &b);
     }
 }
 
 // And two faults at once.
-fn bad_blocks() {
-    say(b"bad blocks\n");
-    each_above();
+fn bad_blocks(rt: &impl Print) {
+    say(rt, "bad blocks\n");
+    each_above(rt);
     let mut b = example();
     b[0] = LARGEST_AMOUNT;
-    block_row(&b);
+    block_row(rt, &b);
     b[0] = LARGEST_AMOUNT + 1;
-    block_row(&b);
+    block_row(rt, &b);
     // 8 before 9, though 9 stands earlier
     let mut c = example();
     c[1] = 100000001;
     c[13] = 1;
-    block_row(&c);
+    block_row(rt, &c);
     // 7 before 8 and 9, though it stands last
     c[16] = MOST;
-    block_row(&c);
+    block_row(rt, &c);
     // LT(7) above IR(7) is 8
     let mut d = example();
     d[13] = 1000001;
-    block_row(&d);
+    block_row(rt, &d);
     // the first of two
     let mut e = example();
     e[5] = 5000001;
     e[9] = 30000001;
-    block_row(&e);
+    block_row(rt, &e);
 }
 
 // Document 003's examples, scaled by 1,000: 8.2.2, growth and acquisition.
-fn printed_volumes() {
-    say(b"document 003\n");
+fn printed_volumes(rt: &impl Print) {
+    say(rt, "document 003\n");
     let none = [0u64; GENERAL_FIGURES];
     let mut v = [0u64; TERRITORY_NUMBERS];
     v[0] = 150000;
     v[1] = 100000;
-    operational_row(&v, &none);
+    operational_row(rt, &v, &none);
     v[0] = 225000;
     v[1] = 150000;
-    operational_row(&v, &none);
+    operational_row(rt, &v, &none);
     v[0] = 0;
     v[1] = 0;
-    operational_row(&v, &[200000000, 0, 0]);
-    operational_row(&v, &[0, 100, 100]);
+    operational_row(rt, &v, &[200000000, 0, 0]);
+    operational_row(rt, &v, &[0, 100, 100]);
 }
 
 // Lengths, and a bad amount in either list.
-fn bad_volumes() {
-    say(b"bad volumes\n");
+fn bad_volumes(rt: &impl Print) {
+    say(rt, "bad volumes\n");
     let none = [0u64; GENERAL_FIGURES];
-    operational_row(&[0u64; 0], &none);
-    operational_row(&[0u64; 1], &none);
-    operational_row(&[0u64; 15], &none);
-    operational_row(&[0u64; TERRITORY_NUMBERS], &none);
-    operational_row(&[0u64; 17], &none);
-    operational_row(&[0u64; VOLUME_NUMBERS], &none);
-    operational_row(&[0u64; 257], &none);
-    operational_row(&[0u64; 272], &none);
-    operational_row(&[LARGEST_AMOUNT; VOLUME_NUMBERS], &[LARGEST_AMOUNT; 3]);
-    operational_row(&[0u64; TERRITORY_NUMBERS], &[0, 0, MOST]);
-    operational_row(&[0u64; 0], &[0, LARGEST_AMOUNT + 1, MOST]);
+    operational_row(rt, &[0u64; 0], &none);
+    operational_row(rt, &[0u64; 1], &none);
+    operational_row(rt, &[0u64; 15], &none);
+    operational_row(rt, &[0u64; TERRITORY_NUMBERS], &none);
+    operational_row(rt, &[0u64; 17], &none);
+    operational_row(rt, &[0u64; VOLUME_NUMBERS], &none);
+    operational_row(rt, &[0u64; 257], &none);
+    operational_row(rt, &[0u64; 272], &none);
+    operational_row(rt, &[LARGEST_AMOUNT; VOLUME_NUMBERS], &[LARGEST_AMOUNT; 3]);
+    operational_row(rt, &[0u64; TERRITORY_NUMBERS], &[0, 0, MOST]);
+    operational_row(rt, &[0u64; 0], &[0, LARGEST_AMOUNT + 1, MOST]);
     let mut v = [0u64; TERRITORY_NUMBERS];
     v[7] = MOST;
-    operational_row(&v, &[MOST, 0, 0]);
-    operational_row(&[MOST; 17], &[MOST, 0, 0]);
-    operational_row(&[MOST; TERRITORY_NUMBERS], &none);
+    operational_row(rt, &v, &[MOST, 0, 0]);
+    operational_row(rt, &[MOST; 17], &[MOST, 0, 0]);
+    operational_row(rt, &[MOST; TERRITORY_NUMBERS], &none);
 }
 
 // Document 02's steps, those of the finer roots: where only PC is there and the radicand is 0, where only credit is, a cent of one risk and of
 // three, where the floor is larger than the root, and the largest amounts. Before the last two a block whose D and K the finer roots lower: with whole
 // half cents it had 8 and 5.
-fn root_steps() {
-    say(b"document 02, steps\n");
+fn root_steps(rt: &impl Print) {
+    say(rt, "document 02, steps\n");
     let mut b = [0u64; BLOCK_NUMBERS];
     b[14] = 100;
-    block_row(&b);
+    block_row(rt, &b);
     b[14] = 0;
     b[15] = 100;
-    block_row(&b);
+    block_row(rt, &b);
     b[15] = 0;
     b[0] = 1;
-    block_row(&b);
+    block_row(rt, &b);
     b[2] = 1;
     b[4] = 1;
-    block_row(&b);
+    block_row(rt, &b);
     b[4] = 2;
     b[15] = 1;
-    block_row(&b);
+    block_row(rt, &b);
     let mut c = [0u64; BLOCK_NUMBERS];
     c[0] = 64;
     c[2] = 16;
-    block_row(&c);
+    block_row(rt, &c);
     let mut d = [LARGEST_AMOUNT; BLOCK_NUMBERS];
     d[1] = 0;
     d[3] = 0;
@@ -303,93 +271,85 @@ fn root_steps() {
     d[9] = 0;
     d[11] = 0;
     d[13] = 0;
-    block_row(&d);
+    block_row(rt, &d);
 }
 
 // What the fluctuation call gives, on a line.
-fn fluctuation_row(row: u64, requirement: u64, face: u64) {
-    let answer = fluctuation::fluctuation_call(row, requirement, face);
-    match answer {
+fn fluctuation_row(rt: &impl Print, row: u64, requirement: u64, face: u64) {
+    match fluctuation::fluctuation_call(row, requirement, face) {
         FluctuationAnswer::Accepted(result) => {
-            say(b"result:");
-            number(result);
-            say(b"\n");
+            let _ = println!(rt; "result: {result}");
         }
-        FluctuationAnswer::Refused(n, p) => {
-            refused(n, p);
-        }
+        FluctuationAnswer::Refused(n, p) => refused(rt, n, p),
     }
 }
 
 // Document 02's two figures, then each row at its threshold, a cent above it and at the largest amount.
-fn fluctuations() {
-    say(b"document 02, fluctuations\n");
-    fluctuation_row(2, 10000000000, 0);
-    fluctuation_row(7, 100000000, 40000000000);
-    fluctuation_row(1, 4200000000, 0);
-    fluctuation_row(1, 4200000001, 0);
-    fluctuation_row(1, LARGEST_AMOUNT, 0);
-    fluctuation_row(2, 7500000000, 0);
-    fluctuation_row(2, 7500000001, 0);
-    fluctuation_row(2, LARGEST_AMOUNT, 0);
-    fluctuation_row(3, 600000000, 0);
-    fluctuation_row(3, 600000001, 0);
-    fluctuation_row(3, LARGEST_AMOUNT, 0);
-    fluctuation_row(4, 300000000, 0);
-    fluctuation_row(4, 300000001, 0);
-    fluctuation_row(4, LARGEST_AMOUNT, 0);
-    fluctuation_row(5, 500000000, 0);
-    fluctuation_row(5, 500000001, 0);
-    fluctuation_row(5, LARGEST_AMOUNT, 0);
-    fluctuation_row(6, 300000000, 0);
-    fluctuation_row(6, 300000001, 0);
-    fluctuation_row(6, LARGEST_AMOUNT, 0);
-    fluctuation_row(7, LARGEST_AMOUNT, 30000000000);
-    fluctuation_row(7, LARGEST_AMOUNT, 30000000001);
-    fluctuation_row(7, LARGEST_AMOUNT, LARGEST_AMOUNT);
+fn fluctuations(rt: &impl Print) {
+    say(rt, "document 02, fluctuations\n");
+    fluctuation_row(rt, 2, 10000000000, 0);
+    fluctuation_row(rt, 7, 100000000, 40000000000);
+    fluctuation_row(rt, 1, 4200000000, 0);
+    fluctuation_row(rt, 1, 4200000001, 0);
+    fluctuation_row(rt, 1, LARGEST_AMOUNT, 0);
+    fluctuation_row(rt, 2, 7500000000, 0);
+    fluctuation_row(rt, 2, 7500000001, 0);
+    fluctuation_row(rt, 2, LARGEST_AMOUNT, 0);
+    fluctuation_row(rt, 3, 600000000, 0);
+    fluctuation_row(rt, 3, 600000001, 0);
+    fluctuation_row(rt, 3, LARGEST_AMOUNT, 0);
+    fluctuation_row(rt, 4, 300000000, 0);
+    fluctuation_row(rt, 4, 300000001, 0);
+    fluctuation_row(rt, 4, LARGEST_AMOUNT, 0);
+    fluctuation_row(rt, 5, 500000000, 0);
+    fluctuation_row(rt, 5, 500000001, 0);
+    fluctuation_row(rt, 5, LARGEST_AMOUNT, 0);
+    fluctuation_row(rt, 6, 300000000, 0);
+    fluctuation_row(rt, 6, 300000001, 0);
+    fluctuation_row(rt, 6, LARGEST_AMOUNT, 0);
+    fluctuation_row(rt, 7, LARGEST_AMOUNT, 30000000000);
+    fluctuation_row(rt, 7, LARGEST_AMOUNT, 30000000001);
+    fluctuation_row(rt, 7, LARGEST_AMOUNT, LARGEST_AMOUNT);
 }
 
 // 18 alone and before 7, 7 at either position and at the first of two; and beside them a requirement of 0, a face that rows 1 to 6 read for
 // rule 7 alone, and none in row 7, which are all accepted.
-fn bad_fluctuations() {
-    say(b"bad fluctuations\n");
-    fluctuation_row(0, 1, 1);
-    fluctuation_row(8, 1, 1);
-    fluctuation_row(MOST, 1, 1);
-    fluctuation_row(0, LARGEST_AMOUNT + 1, 1);
-    fluctuation_row(8, 1, LARGEST_AMOUNT + 1);
-    fluctuation_row(1, LARGEST_AMOUNT + 1, 0);
-    fluctuation_row(1, 0, LARGEST_AMOUNT + 1);
-    fluctuation_row(7, LARGEST_AMOUNT + 1, LARGEST_AMOUNT + 1);
-    fluctuation_row(7, LARGEST_AMOUNT + 1, 0);
-    fluctuation_row(7, 0, LARGEST_AMOUNT + 1);
-    fluctuation_row(7, 0, LARGEST_AMOUNT);
-    fluctuation_row(1, MOST, MOST);
-    fluctuation_row(1, 10000000000, LARGEST_AMOUNT);
-    fluctuation_row(7, 10000000000, 0);
+fn bad_fluctuations(rt: &impl Print) {
+    say(rt, "bad fluctuations\n");
+    fluctuation_row(rt, 0, 1, 1);
+    fluctuation_row(rt, 8, 1, 1);
+    fluctuation_row(rt, MOST, 1, 1);
+    fluctuation_row(rt, 0, LARGEST_AMOUNT + 1, 1);
+    fluctuation_row(rt, 8, 1, LARGEST_AMOUNT + 1);
+    fluctuation_row(rt, 1, LARGEST_AMOUNT + 1, 0);
+    fluctuation_row(rt, 1, 0, LARGEST_AMOUNT + 1);
+    fluctuation_row(rt, 7, LARGEST_AMOUNT + 1, LARGEST_AMOUNT + 1);
+    fluctuation_row(rt, 7, LARGEST_AMOUNT + 1, 0);
+    fluctuation_row(rt, 7, 0, LARGEST_AMOUNT + 1);
+    fluctuation_row(rt, 7, 0, LARGEST_AMOUNT);
+    fluctuation_row(rt, 1, MOST, MOST);
+    fluctuation_row(rt, 1, 10000000000, LARGEST_AMOUNT);
+    fluctuation_row(rt, 7, 10000000000, 0);
 }
 
 // What the shares call gives, on a line.
-fn shares_row(b: &[u64; BLOCK_NUMBERS]) {
-    let answer = shares::shares_call(b);
-    match answer {
+fn shares_row(rt: &impl Print, b: &[u64; BLOCK_NUMBERS]) {
+    match shares::shares_call(b) {
         SharesAnswer::Accepted(s) => {
-            say(b"shares:");
-            number(s.risk1);
-            number(s.risk2);
-            number(s.risk3);
-            number(s.risk4);
-            number(s.risk5);
-            number(s.risk6);
-            number(s.risk7);
-            number(s.pc);
-            number(s.credit);
-            number(s.market);
-            say(b"\n");
+            say(rt, "shares:");
+            number(rt, s.risk1);
+            number(rt, s.risk2);
+            number(rt, s.risk3);
+            number(rt, s.risk4);
+            number(rt, s.risk5);
+            number(rt, s.risk6);
+            number(rt, s.risk7);
+            number(rt, s.pc);
+            number(rt, s.credit);
+            number(rt, s.market);
+            say(rt, "\n");
         }
-        SharesAnswer::Refused(n, p) => {
-            refused(n, p);
-        }
+        SharesAnswer::Refused(n, p) => refused(rt, n, p),
     }
 }
 
@@ -407,7 +367,7 @@ fn illustration() -> [u64; BLOCK_NUMBERS] {
 }
 
 // K in whole dollars, of a block with the numbers at two positions zero.
-fn coalition(b: &[u64; BLOCK_NUMBERS], one: usize, two: usize) {
+fn coalition(rt: &impl Print, b: &[u64; BLOCK_NUMBERS], one: usize, two: usize) {
     let mut less = *b;
     if one < BLOCK_NUMBERS {
         less[one] = 0;
@@ -419,70 +379,68 @@ fn coalition(b: &[u64; BLOCK_NUMBERS], one: usize, two: usize) {
     let BlockAnswer::Accepted(f, _) = answer else {
         return;
     };
-    number(dollars(plus(f.k, f.k)));
+    number(rt, dollars(plus(f.k, f.k)));
 }
 
-// A number of tenths with a decimal comma.
-fn tenths(n: u64) {
-    number(n / 10);
-    say(b",");
-    io::print_decimal(STDOUT_FILENO, n % 10);
+// A number of tenths with a decimal comma, after a space.
+fn tenths(rt: &impl Print, n: u64) {
+    let _ = print!(rt; " {},{}", n / 10, n % 10);
 }
 
 // Cents in tenths of a dollar, rounded to the nearest.
-fn share_in_tenths(cents: u64) {
-    tenths(cents / 10 + (cents % 10 + 5) / 10);
+fn share_in_tenths(rt: &impl Print, cents: u64) {
+    tenths(rt, cents / 10 + (cents % 10 + 5) / 10);
 }
 
 // A share of k in tenths of a percent, rounded to the nearest.
-fn percentage(share: u64, k: u64) {
+fn percentage(rt: &impl Print, share: u64, k: u64) {
     if k == 0 {
         return;
     }
     if share <= LARGEST_AMOUNT {
-        tenths(plus(2000 * share / k, 1) / 2);
+        tenths(rt, plus(2000 * share / k, 1) / 2);
     }
 }
 
 // Document 001's illustration: the capital of all four segments and of each three of them, the shares and their percentages, as they are
 // printed there. Segment 1 is market, 2 to 4 are risks 5 to 7; at position 0 stands nothing, so that the first is all four.
-fn printed_illustration() {
-    say(b"document 001\nSCR");
+fn printed_illustration(rt: &impl Print) {
+    say(rt, "document 001\nSCR");
     let b = illustration();
-    coalition(&b, 0, 0);
-    coalition(&b, 16, 16);
-    coalition(&b, 8, 9);
-    coalition(&b, 10, 11);
-    coalition(&b, 12, 13);
+    coalition(rt, &b, 0, 0);
+    coalition(rt, &b, 16, 16);
+    coalition(rt, &b, 8, 9);
+    coalition(rt, &b, 10, 11);
+    coalition(rt, &b, 12, 13);
     let answer = shares::shares_call(&b);
     let SharesAnswer::Accepted(s) = answer else {
         return;
     };
-    say(b"\nshares");
-    share_in_tenths(s.market);
-    share_in_tenths(s.risk5);
-    share_in_tenths(s.risk6);
-    share_in_tenths(s.risk7);
-    say(b"\npercent");
+    say(rt, "\nshares");
+    share_in_tenths(rt, s.market);
+    share_in_tenths(rt, s.risk5);
+    share_in_tenths(rt, s.risk6);
+    share_in_tenths(rt, s.risk7);
+    say(rt, "\npercent");
     let k = plus(plus(s.market, s.risk5), plus(s.risk6, s.risk7));
-    percentage(s.market, k);
-    percentage(s.risk5, k);
-    percentage(s.risk6, k);
-    percentage(s.risk7, k);
-    say(b"\n");
+    percentage(rt, s.market, k);
+    percentage(rt, s.risk5, k);
+    percentage(rt, s.risk6, k);
+    percentage(rt, s.risk7, k);
+    say(rt, "\n");
 }
 
 // The same shares in cents; then those of document 000's example, of a cent alone, and of ten equal amounts, where the lower numbers have the
 // cents.
-fn printed_shares() {
-    say(b"document 02, shares\n");
-    block_row(&illustration());
-    shares_row(&illustration());
-    shares_row(&example());
+fn printed_shares(rt: &impl Print) {
+    say(rt, "document 02, shares\n");
+    block_row(rt, &illustration());
+    shares_row(rt, &illustration());
+    shares_row(rt, &example());
     let mut b = [0u64; BLOCK_NUMBERS];
     b[0] = 1;
     b[1] = 1;
-    shares_row(&b);
+    shares_row(rt, &b);
     let mut d = [LARGEST_AMOUNT; BLOCK_NUMBERS];
     d[1] = 0;
     d[3] = 0;
@@ -491,43 +449,43 @@ fn printed_shares() {
     d[9] = 0;
     d[11] = 0;
     d[13] = 0;
-    shares_row(&d);
+    shares_row(rt, &d);
 }
 
 // 23: no amount at all, a cent of each of five risks, whose margins are all zero, and a negative margin. 7, 8 and 9 come before it: 9 and 8
 // beside margins of zero, then each of the three alone beside the negative margin, and together.
-fn bad_shares() {
-    say(b"bad shares\n");
+fn bad_shares(rt: &impl Print) {
+    say(rt, "bad shares\n");
     let mut b = [0u64; BLOCK_NUMBERS];
-    shares_row(&b);
+    shares_row(rt, &b);
     b[0] = 1;
     b[2] = 1;
     b[6] = 1;
     b[10] = 1;
     b[12] = 1;
-    shares_row(&b);
+    shares_row(rt, &b);
     let mut c = [0u64; BLOCK_NUMBERS];
     c[0] = 1000000;
     c[2] = 100;
     c[12] = 100;
-    shares_row(&c);
+    shares_row(rt, &c);
     b[3] = 2;
-    shares_row(&b);
+    shares_row(rt, &b);
     b[3] = 0;
     b[13] = 1;
-    shares_row(&b);
+    shares_row(rt, &b);
     c[3] = 101;
-    shares_row(&c);
+    shares_row(rt, &c);
     c[3] = 0;
     c[13] = 1;
-    shares_row(&c);
+    shares_row(rt, &c);
     c[13] = 0;
     c[16] = LARGEST_AMOUNT + 1;
-    shares_row(&c);
+    shares_row(rt, &c);
     c[3] = 101;
-    shares_row(&c);
+    shares_row(rt, &c);
     c[13] = 1;
-    shares_row(&c);
+    shares_row(rt, &c);
     c[16] = 0;
-    shares_row(&c);
+    shares_row(rt, &c);
 }

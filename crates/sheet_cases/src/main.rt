@@ -5,12 +5,12 @@
 
 ghost use Rattle.std.specs.Prelude.{◌<◌};
 
-use libc::{STDIN_FILENO, STDOUT_FILENO};
 use printing::RoomAnswer;
 use refusal::Place;
 use report::LONGEST_REPORT;
 use report_line::REPORT_LINE_BYTES;
 use sheet_length::LONGEST_SHEET;
+use std::io::Read;
 
 // The bytes of a case's header.
 const HEADER: usize = 12;
@@ -21,37 +21,37 @@ const SHEET_ROOM: usize = LONGEST_SHEET + 1;
 // Room for the longest report and more.
 const REPORT_ROOM: usize = LONGEST_REPORT + 93;
 
+// More cases than this would be cut off, and the comparison would show it.
+const MOST_CASES: usize = 1000;
+
 // What a case's header says.
 #[derive(Clone, Copy)]
 struct Header {
-    found: bool,
     length: usize,
     lent: usize,
 }
 
 // Runs case after case.
-fn main() {
-    // more cases than this would be cut off, and the comparison would show it
-    let mut left = 1000usize;
-    while 0 < left {
-        left -= 1;
-        let h = next_case();
-        if !h.found {
+fn main(rt: HostRuntime) {
+    let mut input = rt.stdin();
+    for _ in 0..MOST_CASES {
+        let Some(h) = next_case(&mut input) else {
             return;
-        }
-        one(h.length, h.lent);
+        };
+        one(&rt, &mut input, h.length, h.lent);
     }
 }
 
-// The header of the next case.
-fn next_case() -> Header {
+// The header of the next case; none at the end of the input.
+fn next_case<R: Read>(input: &mut R) -> Option<Header> {
     let mut text = [0u8; HEADER];
-    let got = io::read_full(STDIN_FILENO, &mut text);
-    Header {
-        found: got == HEADER,
+    if input.read_exact(&mut text).is_err() {
+        return None;
+    }
+    Some(Header {
         length: number(&text, 0),
         lent: number(&text, 6),
-    }
+    })
 }
 
 // The number that five digits spell.
@@ -82,65 +82,72 @@ fn decimal(b: u8) -> usize {
 }
 
 // One case.
-fn one(length: usize, lent: usize) {
+fn one<R: Read>(rt: &impl Print, input: &mut R, length: usize, lent: usize) {
     let mut sheet = [0u8; SHEET_ROOM];
     let mut room = [b'#'; REPORT_ROOM];
-    run(&mut sheet, length, &mut room, lent);
+    run(rt, input, &mut sheet[..], length, &mut room[..], lent);
 }
 
 // Reads the sheet, calls, and writes answer and room.
-fn run(sheet: &mut [u8], length: usize, room: &mut [u8], lent: usize) {
+fn run<R: Read>(
+    rt: &impl Print,
+    input: &mut R,
+    sheet: &mut [u8],
+    length: usize,
+    room: &mut [u8],
+    lent: usize,
+) {
     if sheet.len() < length {
         return;
     }
     if room.len() < lent {
         return;
     }
-    if io::read_full(STDIN_FILENO, &mut sheet[0..length]) < length {
+    if input.read_exact(&mut sheet[0..length]).is_err() {
         return;
     }
     let answer = aggregate::sheet_call(&sheet[0..length], &mut room[0..lent]);
-    tell(answer);
-    show(room, lent);
-    show(b"\n", 1);
+    tell(rt, answer);
+    show(rt, room, lent);
+    show(rt, b"\n", 1);
 }
 
 // The answer in the form of a report line: ACC and the length, or REF, the number, the kind of the place and the place.
-fn tell(answer: RoomAnswer) {
+fn tell(rt: &impl Print, answer: RoomAnswer) {
     match answer {
         RoomAnswer::Accepted(n) => {
-            line(*b"ACC", 0, 0, cast::word(n));
+            line(rt, *b"ACC", 0, 0, cast::word(n));
         }
         RoomAnswer::Refused(n, p) => match p {
             Place::Line(at) => {
-                line(*b"REF", cast::byte(n), 1, cast::word(at));
+                line(rt, *b"REF", cast::byte(n), 1, cast::word(at));
             }
             Place::Position(at) => {
-                line(*b"REF", cast::byte(n), 2, cast::word(at));
+                line(rt, *b"REF", cast::byte(n), 2, cast::word(at));
             }
             Place::Risk(at) => {
-                line(*b"REF", cast::byte(n), 3, cast::word(at));
+                line(rt, *b"REF", cast::byte(n), 3, cast::word(at));
             }
             Place::Sheet(at) => {
-                line(*b"REF", cast::byte(n), 4, cast::word(at));
+                line(rt, *b"REF", cast::byte(n), 4, cast::word(at));
             }
             Place::Nowhere => {
-                line(*b"REF", cast::byte(n), 0, 0);
+                line(rt, *b"REF", cast::byte(n), 0, 0);
             }
         },
     }
 }
 
 // One line of an answer.
-fn line(code: [u8; 3], block: u64, item: u64, number: u64) {
+fn line(rt: &impl Print, code: [u8; 3], block: u64, item: u64, number: u64) {
     let mut text = [0u8; REPORT_LINE_BYTES];
     report_line::write_line(&mut text, code, block, item, number);
-    show(&text, REPORT_LINE_BYTES);
+    show(rt, &text, REPORT_LINE_BYTES);
 }
 
 // The first n bytes of a text.
-fn show(text: &[u8], n: usize) {
+fn show(rt: &impl Print, text: &[u8], n: usize) {
     if n <= text.len() {
-        io::write_all(STDOUT_FILENO, &text[0..n]);
+        let _ = rt.write_all(&text[0..n]);
     }
 }

@@ -2,48 +2,42 @@
 // of the refusal. A read or a write that fails is said on standard error; an input that could not be read gets neither.
 #![tactic(auto)]
 
-use libc::STDERR_FILENO;
 use movement::MOVEMENT_BYTES;
 use movement_input::INPUT_BYTES;
+use std::io;
 use stdio::Got;
 
 // One byte more than the input has, so that one that is too long is seen to be.
 const INPUT_ROOM: usize = INPUT_BYTES + 1;
 
 // Reads, has it answered, and writes.
-fn main() {
+fn main(rt: HostRuntime) {
     let mut input = [0u8; INPUT_ROOM];
-    let got = stdio::read_all(&mut input);
-    match got {
-        Got::Bytes(n) => {
-            answer(&input, n);
-        }
-        Got::Failed => say_unread(),
+    match stdio::read_all(&mut rt.stdin(), &mut input) {
+        Got::Bytes(n) => answer(&rt, &input, n),
+        Got::Failed => say_unread(&rt),
     }
 }
 
 // Said where the input could not be read.
-fn say_unread() {
-    io::write_all(STDERR_FILENO, b"tsav-movement: the input cannot be read\n");
+fn say_unread(rt: &impl Eprint) {
+    let _ = rt.eprintln("tsav-movement: the input cannot be read");
 }
 
 // The first n bytes are the input; what is printed of it is fixed by `print_movement`.
-fn answer(bytes: &[u8], n: usize) {
+fn answer(rt: &(impl Print + Eprint), bytes: &[u8], n: usize) {
     if bytes.len() < n {
-        return say_unread();
+        return say_unread(rt);
     }
     let mut room = [0u8; MOVEMENT_BYTES];
     let length = movement::print_movement(&bytes[0..n], &mut room);
-    put_room(&room, length);
+    put_room(rt, &room, length);
 }
 
 // The first n bytes of the room.
-fn put_room(room: &[u8; MOVEMENT_BYTES], n: usize) {
-    if stdio::put(room, n) {
+fn put_room(rt: &(impl Print + Eprint), room: &[u8; MOVEMENT_BYTES], n: usize) {
+    if stdio::put(&mut io::writer(rt), room, n) {
         return;
     }
-    io::write_all(
-        STDERR_FILENO,
-        b"tsav-movement: the movements cannot be written\n",
-    );
+    let _ = rt.eprintln("tsav-movement: the movements cannot be written");
 }

@@ -4,8 +4,8 @@
 
 ghost use Rattle.std.specs.Prelude.{◌<◌};
 
-use libc::STDERR_FILENO;
 use quarter::{OUTPUT_ROOM, SHEET_ROOM};
+use std::io;
 use stdio::Got;
 
 // How many bytes are read at a time.
@@ -15,16 +15,16 @@ const CHUNK: usize = 4096;
 const MOST_READS: u64 = 0xFFFF_FFFF_FFFF_FFFF;
 
 // Reads some bytes at a time and has them taken, and writes what the whole input comes to.
-fn main() {
+fn main(rt: HostRuntime) {
+    let mut input = rt.stdin();
     let mut room = [0u8; SHEET_ROOM];
     let mut out = [0u8; OUTPUT_ROOM];
     let mut chunk = [0u8; CHUNK];
     let mut q = quarter::start();
     let mut left = MOST_READS;
     while 0 < left {
-        let got = stdio::read_some(&mut chunk);
-        match got {
-            Got::Failed => return say_unread(),
+        match stdio::read_some(&mut input, &mut chunk) {
+            Got::Failed => return say_unread(&rt),
             Got::Bytes(n) => {
                 q = quarter::take_chunk(&mut room, &mut out, q, &chunk[..n]);
                 left = reads_left(left, n, q.over);
@@ -32,7 +32,7 @@ fn main() {
         }
     }
     let n = quarter::finish(&mut out, q);
-    put_room(&out, n);
+    put_room(&rt, &out, n);
 }
 
 // How many reads may follow one that gave n bytes: none at the end of the input, nor once the input has too many sheets, whatever follows.
@@ -50,17 +50,14 @@ fn reads_left(left: u64, n: usize, over: bool) -> u64
 }
 
 // Said where the sheets could not be read.
-fn say_unread() {
-    io::write_all(STDERR_FILENO, b"tsav-quarter: the sheets cannot be read\n");
+fn say_unread(rt: &impl Eprint) {
+    let _ = rt.eprintln("tsav-quarter: the sheets cannot be read");
 }
 
 // The first n bytes of the room.
-fn put_room(room: &[u8; OUTPUT_ROOM], n: usize) {
-    if stdio::put(room, n) {
+fn put_room(rt: &(impl Print + Eprint), room: &[u8; OUTPUT_ROOM], n: usize) {
+    if stdio::put(&mut io::writer(rt), room, n) {
         return;
     }
-    io::write_all(
-        STDERR_FILENO,
-        b"tsav-quarter: the lines cannot be written\n",
-    );
+    let _ = rt.eprintln("tsav-quarter: the lines cannot be written");
 }

@@ -2,45 +2,42 @@
 // said on standard error; a sheet that could not be read gets neither a report nor a refusal.
 #![tactic(auto)]
 
-use libc::STDERR_FILENO;
 use report::LONGEST_REPORT;
 use sheet_length::LONGEST_SHEET;
+use std::io;
 use stdio::Got;
 
 // One byte more than the longest sheet, so that a sheet that is too long is seen to be.
 const SHEET_ROOM: usize = LONGEST_SHEET + 1;
 
 // Reads, has it answered, and writes.
-fn main() {
+fn main(rt: HostRuntime) {
     let mut sheet = [0u8; SHEET_ROOM];
-    let got = stdio::read_all(&mut sheet);
-    match got {
-        Got::Bytes(n) => {
-            answer(&sheet, n);
-        }
-        Got::Failed => say_unread(),
+    match stdio::read_all(&mut rt.stdin(), &mut sheet) {
+        Got::Bytes(n) => answer(&rt, &sheet, n),
+        Got::Failed => say_unread(&rt),
     }
 }
 
 // Said where a sheet could not be read.
-fn say_unread() {
-    io::write_all(STDERR_FILENO, b"tsav-sheet: the sheet cannot be read\n");
+fn say_unread(rt: &impl Eprint) {
+    let _ = rt.eprintln("tsav-sheet: the sheet cannot be read");
 }
 
 // The first n bytes are the sheet; what is printed of it is fixed by `print_sheet`.
-fn answer(bytes: &[u8], n: usize) {
+fn answer(rt: &(impl Print + Eprint), bytes: &[u8], n: usize) {
     if bytes.len() < n {
-        return say_unread();
+        return say_unread(rt);
     }
     let mut room = [0u8; LONGEST_REPORT];
     let length = aggregate::print_sheet(&bytes[0..n], &mut room);
-    put_room(&room, length);
+    put_room(rt, &room, length);
 }
 
 // The first n bytes of the room.
-fn put_room(room: &[u8; LONGEST_REPORT], n: usize) {
-    if stdio::put(room, n) {
+fn put_room(rt: &(impl Print + Eprint), room: &[u8; LONGEST_REPORT], n: usize) {
+    if stdio::put(&mut io::writer(rt), room, n) {
         return;
     }
-    io::write_all(STDERR_FILENO, b"tsav-sheet: the report cannot be written\n");
+    let _ = rt.eprintln("tsav-sheet: the report cannot be written");
 }
