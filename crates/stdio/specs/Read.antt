@@ -1,4 +1,5 @@
--- What a read gives the programs of documents 01 and 02. Which bytes come is the world's; what holds of their number: it is within the room, which keeps its length. Assumes nothing.
+-- What a read gives the programs of documents 01 and 02. Which bytes come is the world's; what holds of their number: it is within the room, which
+-- keeps its length. Of an input whose bytes are known, they are the next ones. Assumes nothing.
 use Rattle.std.specs.Prelude.{◌≡◌, List, ℕ, ◌<◌, ◌≤◌, length, take, Option}
 use Rattle.std.specs.Io.KnownBytes.{Consumes, IsAtEnd, Keeps}
 use Rattle.stdio.specs.declared.Got.{Got}

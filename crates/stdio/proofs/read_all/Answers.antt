@@ -1,12 +1,14 @@
 -- What the room began with and what the last read put behind it are one stretch of the input. Assumes nothing.
-use Rattle.std.proofs.Common.{◌≡◌, ℕ, ◌+◌, ◌≤◌, List, ◌++◌, length, take, drop, take-add, rules, sym, ap, ◌∙◌, subst, drop_at, length-take-le}
+use Rattle.std.proofs.Common.{◌≡◌, ℕ, ◌+◌, ◌≤◌, List, ◌++◌, length, take, drop, rules, sym, ap, ◌∙◌, subst}
+use Rattle.std.proofs.Common.{take-add, drop_at, length-take-le}
 use Rattle.std.proofs.lemmas.List.{take-append-le}
 use borrow.Rule.Slice.PartMut.{put_mid, post_of, take_put}
 use Rattle.std.specs.Io.KnownBytes.{Consumes}
 use Rattle.std.proofs.KnownBytes.{Consumes-kept, Consumes-trans}
 use Rattle.stdio.proofs.read_all.Goals as goal
 
-taken_more : (a k n : ℕ) (room part : List ℕ) → a ≤ length room → n ≤ length part → take a room ++ take n part ≡ take (a + n) (put_mid a k room part)
+taken_more : (a k n : ℕ) (room part : List ℕ) → a ≤ length room → n ≤ length part
+    → take a room ++ take n part ≡ take (a + n) (put_mid a k room part)
 taken_more a k n room part within fits =
     let after = post_of a k room in
     let front = take_put a k room part within in
@@ -18,11 +20,12 @@ loop-at-preserved g c = record {
   within = search rules;
   kept = search rules;
   taken =
-      subst (Consumes _ _) (taken_more _ _ _ c.loop-at.room c.read_some.new.room c.loop-at.invariant.within c.in-Bytes.ensures.within.0)
+      subst (Consumes _ _) (taken_more c.loop-at.at _ c.in-Bytes.n c.loop-at.room c.read_some.new.room c.loop-at.invariant.within (search rules))
       (Consumes-trans _ _ _ _ _ c.loop-at.invariant.taken c.in-Bytes.ensures.taken.0);
 }
 
 pub returns-in-Failed-clause-taken : goal.returns-in-Failed-clause-taken
 returns-in-Failed-clause-taken g c =
-    let within = c.loop-at.invariant.within in
-    (c.loop-at.at, search rules, subst (Consumes _ _) (sym (take_put c.loop-at.at _ c.loop-at.room c.read_some.new.room within)) (Consumes-kept _ _ _ _ c.loop-at.invariant.taken c.in-Failed.ensures.taken))
+    let front = take_put c.loop-at.at _ c.loop-at.room c.read_some.new.room c.loop-at.invariant.within in
+    let kept = Consumes-kept _ _ _ _ c.loop-at.invariant.taken c.in-Failed.ensures.taken in
+    (c.loop-at.at, search rules, subst (Consumes _ _) (sym front) kept)
