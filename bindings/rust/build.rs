@@ -1,4 +1,4 @@
-//! Finds the static library that `rt staticlib exports` writes into target/staticlib, at the repository's top.
+//! Finds the static library that `bindings/library` puts into target/staticlib, at the repository's top.
 
 use std::{env, path::Path};
 
