@@ -43,7 +43,7 @@ pub fn any_credit_above(
     credits: &[u64; NON_PARTICIPATING],
 ) -> bool
     requires ledger { Ledger firsts.now seconds.now marks.now }
-    requires of_lines { OfLines firsts.now seconds.now marks.now (λ es. Credits es credits.now) }
+    requires credited { OfLines firsts.now seconds.now marks.now (λ es. Credits es credits.now) }
     ensures { OfLines firsts.now seconds.now marks.now (λ es. result ≡ any_to (credit_above es) non_participating) }
 {
     let mut i = 0;
@@ -66,7 +66,7 @@ pub fn numbers_after_credit(
 ) -> [u64; BLOCK_NUMBERS]
     requires block_number { (1 ≤ block) × (block ≤ blocks) }
     requires ledger { Ledger firsts.now seconds.now marks.now }
-    requires of_lines { OfLines firsts.now seconds.now marks.now (λ es. Credited es credits.now) }
+    requires credited { OfLines firsts.now seconds.now marks.now (λ es. Credited es credits.now) }
     ensures { OfLines firsts.now seconds.now marks.now (λ es. result ≡ after_credit es block) }
 {
     let entered = ledger::block_numbers(firsts, seconds, block);
@@ -83,7 +83,7 @@ fn credit_of(
 ) -> u64
     requires block_number { 1 ≤ block }
     requires ledger { Ledger firsts.now seconds.now marks.now }
-    requires of_lines { OfLines firsts.now seconds.now marks.now (λ es. Credited es credits.now) }
+    requires credited { OfLines firsts.now seconds.now marks.now (λ es. Credited es credits.now) }
     ensures { OfLines firsts.now seconds.now marks.now (λ es. result ≡ credit_of es block) }
 {
     if NON_PARTICIPATING < block {
