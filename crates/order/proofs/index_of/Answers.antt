@@ -1,0 +1,24 @@
+-- A code's blocks and columns end within the table, so its index is below the number of places and no sum on the way to it wraps. Assumes nothing.
+use native.Mathlib.Omega.{arith}
+use Prim.Native.Nat.{◌+◌, ◌≤◌}
+use Rattle.guideline.specs.Sizes.{blocks}
+use Rattle.order.specs.Places.{row_places, columns_before, index_of}
+use Rattle.order.proofs.Indexes.{block_most, column_most}
+use Rattle.order.proofs.index_of.Goals.{Start}
+use Rattle.order.proofs.index_of.Goals as goal
+
+bounded : (s : Start) → (s.args.block ≤ blocks) × (columns_before s.args.code + s.args.class ≤ row_places)
+bounded s = (omega (arith, block_most s.args.code s.args.block), omega (arith, column_most s.args.code s.args.block))
+
+pub returns : goal.returns
+unfolding index_of
+returns c = let b = bounded (goal.at.returns c).Start in (rw c.columns_before.ensures, omega arith)
+
+pub overflow_mul-result : goal.overflow_mul-result
+overflow_mul-result c = omega (arith, (bounded c).0)
+
+pub overflow_add-result : goal.overflow_add-result
+overflow_add-result c = let b = bounded (goal.at.overflow_add-result c).Start in omega arith
+
+pub overflow_add-result-2 : goal.overflow_add-result-2
+overflow_add-result-2 c = let b = bounded (goal.at.overflow_add-result-2 c).Start in omega arith
