@@ -2,7 +2,6 @@
 use mathlib.Core.Path.{refl}
 use native.Mathlib.Omega.{arith}
 use Rattle.order.proofs.Admission.{keyed_good, stands_marked, comes_before, comes_after}
-use borrow.Author.Rules.{rules}
 use Rattle.order.proofs.admit.Goals as goal
 
 pub index_for-at-requires : goal.index_for-at-requires
@@ -22,7 +21,3 @@ returns-then-key_of-last c =
 pub returns : goal.returns
 returns c =
     comes_after c.in-Good.is _ _ c.index_for-at.ensures.0 c.key_of.ensures c.if-marks-at-gt0.false (omega (arith, c.if-key_of-last.false))
-
-pub bounds-marks-at-2 : goal.bounds-marks-at-2
-bounds-marks-at-2 c = search
-    rules
