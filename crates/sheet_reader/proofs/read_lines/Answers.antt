@@ -1,8 +1,8 @@
 -- Whenever the loop's test is reached, the tables hold the entries of the i lines before, last is the key of the last one, and what is left to read
 -- gives what all lines give. Assumes nothing.
-use Prim.Native.Nat.{◌-◌}
 use Rattle.order.proofs.Lines.{own, lent_keyed, admitted_good}
-use Rattle.sheet_reader.proofs.Filling.{FilledTo, start, turned, again, done}
+use Rattle.sheet_reader.proofs.Filling.{start, turned, again, done}
+use Rattle.sheet_reader.proofs.read_lines.Goals.{In-Good}
 use Rattle.sheet_reader.proofs.read_lines.Goals as goal
 
 pub loop-i-init : goal.loop-i-init

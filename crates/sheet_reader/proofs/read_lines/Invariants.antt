@@ -1,6 +1,5 @@
 use Prim.Native.Nat.{◌-◌}
-use Rattle.order.proofs.Lines.{own, lent_keyed, admitted_good}
-use Rattle.sheet_reader.proofs.Filling.{FilledTo, start, turned, again, done}
+use Rattle.sheet_reader.proofs.Filling.{FilledTo}
 use Rattle.sheet_reader.proofs.read_lines.Given as goal
 
 abbrev pub invariant-loop-i : goal.invariant-loop-i
