@@ -10,7 +10,7 @@ use lib.Dec.{ltb}
 use lib.ListN.{length, get_or, set, length-set}
 use lib.Seq.{get_or-set_same, get_or-set_other}
 use Rattle.amount.specs.Amount.{limit}
-use Rattle.guideline.specs.Sizes.{non_participating, blocks, adjustable_products}
+use Rattle.guideline.specs.Sizes.{non_participating, adjustable_products}
 use Rattle.search.specs.Each.{Each}
 use Rattle.search.specs.Total.{sum_to}
 use Rattle.search.proofs.Totals.{sum_next}

@@ -1,6 +1,6 @@
 -- Whenever the loop's test is reached, the sum is that of the first i credits. Assumes nothing.
 use mathlib.Core.Path.{◌≡◌, refl}
-use Prim.Native.Nat.{◌+◌, ◌-◌, ◌≤◌}
+use Prim.Native.Nat.{◌+◌}
 use native.Mathlib.Omega.{arith}
 use Rattle.search.specs.Total.{sum_to}
 use Rattle.search.proofs.Totals.{sum_most}
@@ -9,7 +9,6 @@ use Rattle.guideline.specs.Sizes.{adjustable_products}
 use Rattle.codes.specs.declared.Code.TheVariants.{Crd}
 use Rattle.ledger.specs.Numbers.{adjustable_credit}
 use Rattle.ledger.proofs.Bounds.{first_most}
-use Rattle.ledger.specs.Tables.{OfLines}
 use Rattle.credits.proofs.Credits.{adjustable_key, next_adjustable}
 use borrow.Author.Rules.{rules}
 use Rattle.credits.proofs.adjustable_credits.Goals as goal

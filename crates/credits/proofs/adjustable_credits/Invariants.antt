@@ -1,15 +1,9 @@
-use mathlib.Core.Path.{◌≡◌, refl}
-use Prim.Native.Nat.{◌+◌, ◌-◌, ◌≤◌}
-use native.Mathlib.Omega.{arith}
+use mathlib.Core.Path.{◌≡◌}
+use Prim.Native.Nat.{◌-◌, ◌≤◌}
 use Rattle.search.specs.Total.{sum_to}
-use Rattle.search.proofs.Totals.{sum_most}
-use Rattle.amount.specs.Amount.{limit}
 use Rattle.guideline.specs.Sizes.{adjustable_products}
-use Rattle.codes.specs.declared.Code.TheVariants.{Crd}
 use Rattle.ledger.specs.Numbers.{adjustable_credit}
-use Rattle.ledger.proofs.Bounds.{first_most}
 use Rattle.ledger.specs.Tables.{OfLines}
-use Rattle.credits.proofs.Credits.{adjustable_key, next_adjustable}
 use Rattle.credits.proofs.adjustable_credits.Given as goal
 
 abbrev pub invariant-loop-i : goal.invariant-loop-i

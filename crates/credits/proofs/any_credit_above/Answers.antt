@@ -1,15 +1,12 @@
 -- Whenever the loop's test is reached, no credit of blocks 1 to i is above its block's LT(1). Assumes nothing.
 use mathlib.Core.Path.{◌≡◌, sym, ◌∙◌}
-use mathlib.Core.Bool.{false}
-use Prim.Native.Nat.{suc, ◌-◌, ◌≤◌}
+use Prim.Native.Nat.{suc}
 use native.Mathlib.Numerals.{add-one}
 use native.Mathlib.Omega.{arith}
 use borrow.Author.Tests.{lt-ltb, le-ltb}
-use Rattle.search.specs.First.{any_to}
 use Rattle.search.proofs.Anys.{none_yet, next_decides, goes_on}
 use Rattle.guideline.specs.Sizes.{non_participating}
 use Rattle.credits.specs.Credits.{credit_above}
-use Rattle.ledger.specs.Tables.{OfLines}
 use Rattle.credits.proofs.Credits.{trend_key, above_is}
 use borrow.Author.Rules.{rules}
 use Rattle.credits.proofs.any_credit_above.Goals as goal

@@ -1,15 +1,10 @@
-use mathlib.Core.Path.{◌≡◌, sym, ◌∙◌}
+use mathlib.Core.Path.{◌≡◌}
 use mathlib.Core.Bool.{false}
-use Prim.Native.Nat.{suc, ◌-◌, ◌≤◌}
-use native.Mathlib.Numerals.{add-one}
-use native.Mathlib.Omega.{arith}
-use borrow.Author.Tests.{lt-ltb, le-ltb}
+use Prim.Native.Nat.{◌-◌, ◌≤◌}
 use Rattle.search.specs.First.{any_to}
-use Rattle.search.proofs.Anys.{none_yet, next_decides, goes_on}
 use Rattle.guideline.specs.Sizes.{non_participating}
 use Rattle.credits.specs.Credits.{credit_above}
 use Rattle.ledger.specs.Tables.{OfLines}
-use Rattle.credits.proofs.Credits.{trend_key, above_is}
 use Rattle.credits.proofs.any_credit_above.Given as goal
 
 abbrev pub invariant-loop-i : goal.invariant-loop-i

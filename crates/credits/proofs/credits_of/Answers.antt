@@ -1,10 +1,7 @@
 -- Whenever the loop's test is reached, the first i credits are those of blocks 1 to i. Assumes nothing.
 use mathlib.Core.Path.{refl}
-use Prim.Native.Nat.{◌-◌, ◌≤◌}
 use native.Mathlib.Omega.{arith}
-use Rattle.guideline.specs.Sizes.{non_participating}
-use Rattle.ledger.specs.Tables.{OfLines}
-use Rattle.credits.proofs.Credits.{CreditsTo, mortality_key, sums_most, next_credit}
+use Rattle.credits.proofs.Credits.{mortality_key, sums_most, next_credit}
 use borrow.Author.Rules.{rules}
 use Rattle.credits.proofs.credits_of.Goals as goal
 
@@ -27,11 +24,10 @@ pub bounds-credits-i : goal.bounds-credits-i
 bounds-credits-i c = let l = c.requires in omega (arith, (c.loop-i.invariant.1 l.0 l.1).long, c.loop-i-test.true)
 
 pub loop-i-preserved : goal.loop-i-preserved
-loop-i-preserved c =
-    (
-      search rules,
-      λ es H. next_credit H c.loop-i-test.true (c.loop-i.invariant.1 es H) _ (rw (← c.amount_of.ensures, ← c.amount_of-in-loop-i.ensures) c.credit.ensures),
-    )
+loop-i-preserved c = (
+  search rules,
+  λ es H. next_credit H c.loop-i-test.true (c.loop-i.invariant.1 es H) _ (rw (← c.amount_of.ensures, ← c.amount_of-in-loop-i.ensures) c.credit.ensures),
+)
 
 pub returns : goal.returns
 returns c es H i h = (c.loop-i.invariant.1 es H).found i (omega (arith, c.loop-i-test.false))

@@ -1,9 +1,7 @@
-use mathlib.Core.Path.{refl}
 use Prim.Native.Nat.{◌-◌, ◌≤◌}
-use native.Mathlib.Omega.{arith}
 use Rattle.guideline.specs.Sizes.{non_participating}
 use Rattle.ledger.specs.Tables.{OfLines}
-use Rattle.credits.proofs.Credits.{CreditsTo, mortality_key, sums_most, next_credit}
+use Rattle.credits.proofs.Credits.{CreditsTo}
 use Rattle.credits.proofs.credits_of.Given as goal
 
 abbrev pub invariant-loop-i : goal.invariant-loop-i
