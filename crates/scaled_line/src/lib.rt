@@ -2,7 +2,6 @@
 // read, tested by rules 20 and 21, and written as the other sort has it.
 #![tactic(auto)]
 
-
 // The letters of the two sorts.
 pub mod letters;
 // The amounts of a line in the two sorts, rules 20 and 21.
