@@ -78,16 +78,19 @@ line_tells d e a b h q =
 -- ---- one of a sheet's lines
 
 line_in_lem : (P : Entry → Type 0) (es : List Entry) → Each P es → (e : Entry) → IsLine es e → P e
+line_in_lem P [] a e x = elim x [ ]
 line_in_lem P (d ∷ es) a e (inl q) = rw q a.0
 line_in_lem P (d ∷ es) a e (inr w) = line_in_lem P es a.1 e w
 
 key_most : (es : List Entry) → Ascending es → (e : Entry) → IsLine es e → key_for e ≤ last_key es
+key_most [] p e x = elim x [ ]
 key_most (d ∷ es) p e (inl q) = let z : key_for e ≡ key_for d = ap key_for q in omega arith
 key_most (d ∷ es) p e (inr w) = omega (arith, key_most es p.1 e w, p.0)
 
 -- it is found by its code, block and class
 found : (g : Entry → ℕ) (es : List Entry) → Ascending es → (e : Entry) → IsLine es e → lookup g es e.code e.block e.class ≡ g e
 unfolding lookup
+found g [] p e x = elim x [ ]
 found g (d ∷ es) p e (inl q) = rw q (if_true _ (has_key_lem _ _ _ d (own_key d)))
 found g (d ∷ es) p e (inr w) =
     if_false _ (no_key _ _ _ d (λ s. let z : key_for e ≡ key_for d = rw (s.code, s.block, s.class) in omega (arith, z, key_most es p.1 e w, p.0)))
