@@ -79,8 +79,8 @@ module _ (s r : List ℕ) where
       (λ t e. (same_length s t e, ap conversion (take_at t (drop (length t) r) (length t) refl) ∙ back s t e))
 
   -- what the call gives, and that it converts back
-  pub promised : (d : Done) → d ≡ convert_call s r → (d ≡ convert_call s r) × ConvertsBack s d.outcome d.room
-  promised d e = (e, subst⁻¹ (λ (x : Done). ConvertsBack s x.outcome x.room) e call_back)
+  pub promised : (d : Done) → d ≡ convert_call s r → record { answer : d ≡ convert_call s r; converts_back : ConvertsBack s d.outcome d.room }
+  promised d e = record { answer = e; converts_back = subst⁻¹ (λ (x : Done). ConvertsBack s x.outcome x.room) e call_back }
 
 -- ---- its length, and the numbers of its refusals: a rule's, with a line of the sheet
 

@@ -90,7 +90,7 @@ fn rule_17(
     rows: &mut [u64; TABLE_NUMBERS],
 ) -> Verdict
     requires ledger { Ledger firsts.now seconds.now marks.now }
-    requires of_lines { OfLines firsts.now seconds.now marks.now (λ es. Credited es credits.now) }
+    requires credited { OfLines firsts.now seconds.now marks.now (λ es. Credited es credits.now) }
     ensures findings { OfLines firsts.now seconds.now marks.now (λ es. stated result rows.new ≡ findings (rule17 es)) }
     ensures behind_rows { BehindRows result rows.old rows.new }
 {

@@ -33,7 +33,7 @@ pub fn work_out(
     rows: &mut [u64],
 ) -> Worked
     requires ledger { Ledger firsts.now seconds.now marks.now }
-    requires of_lines { OfLines firsts.now seconds.now marks.now (λ es. Credited es credits.now) }
+    requires credited { OfLines firsts.now seconds.now marks.now (λ es. Credited es credits.now) }
     requires room { length rows.old ≡ table_numbers }
     ensures worked_out { OfLines firsts.now seconds.now marks.now (λ es. WorkedOut es blocks result rows.new) }
     ensures rest_kept { RestKept result.count rows.old rows.new }
@@ -64,7 +64,7 @@ fn work_block(
 ) -> Worked
     requires block_number { (1 ≤ block) × (block ≤ blocks) }
     requires ledger { Ledger firsts.now seconds.now marks.now }
-    requires of_lines { OfLines firsts.now seconds.now marks.now (λ es. Credited es credits.now) }
+    requires credited { OfLines firsts.now seconds.now marks.now (λ es. Credited es credits.now) }
     requires worked_before { OfLines firsts.now seconds.now marks.now (λ es. WorkedOut es (block - 1) w rows.old) }
     ensures worked_out { OfLines firsts.now seconds.now marks.now (λ es. WorkedOut es block result rows.new) }
     ensures rest_kept { (w.count ≤ result.count) × RestKept result.count rows.old rows.new }

@@ -1,0 +1,93 @@
+-- A block that doesn't exist adds its dividend credit alone; the row of one that does goes behind those before it. Assumes nothing.
+use mathlib.Core.Path.{◌≡◌, refl, sym, ap, ◌∙◌}
+use mathlib.Core.List.{List, ◌∷◌}
+use Prim.Native.Nat.{◌+◌, ◌*◌, ◌≤◌, ◌<◌}
+use native.Mathlib.Omega.{arith}
+use borrow.Author.Tests.{not-true, not-false}
+use Rattle.amount.specs.Amount.{limit}
+use Rattle.guideline.specs.Sizes.{blocks}
+use Rattle.guideline.specs.Block.{K, figures_of}
+use Rattle.figures.specs.Parts.{figure_list, figures_are}
+use Rattle.sheet_line.specs.declared.Entry.{Entry}
+use Rattle.order.specs.Entries.{exists}
+use Rattle.ledger.specs.Numbers.{dividend_credit}
+use Rattle.credits.specs.Credits.{after_credit}
+use Rattle.ledger.specs.Tables.{Holds}
+use Rattle.ledger.proofs.Tables.{exists_is}
+use Rattle.credits.proofs.Accepted.{block_accepted}
+use Rattle.sheet_blocks.proofs.Figured.{row_behind, absent, present, fits, dividends_fit}
+use Rattle.sheet_blocks.proofs.work_block.Goals.{After-block_exists, After-figures_of-f, Start}
+use Rattle.sheet_blocks.proofs.work_block.Goals as goal
+
+-- the tables hold these lines
+abbrev Lines : Start → List Entry → Type 0
+Lines s es = Holds es s.args.firsts.now s.args.seconds.now s.args.marks.now
+
+-- there is room for a row more, and the sums with its K and its dividend credit fit
+room : (c : Start) →
+    let es = c.requires.ledger.0 in
+    (c.args.w.count < blocks) × (c.args.w.sum + K (after_credit es c.args.block) ≤ 10 * limit * blocks)
+    × (c.args.w.dividends + dividend_credit es c.args.block ≤ limit * blocks)
+room c =
+    let l = c.requires.ledger in
+    let w = c.requires.worked_before l.0 l.1 in
+    let f = fits l.0 c.requires.block_number.0 w c.requires.block_number.1 l.1.lines (c.requires.credited l.0 l.1).covered in
+    (f.0, f.1, dividends_fit l.0 c.requires.block_number.0 w c.requires.block_number.1 l.1.lines)
+
+-- the test tells whether the block exists
+existence : (c : After-block_exists) (es : List Entry) →
+    Lines (goal.at.After-block_exists c).Start es → c.block_exists.result ≡ exists es c.args.block
+existence c es H = c.block_exists.ensures ∙ exists_is H _ c.requires.block_number.0 c.requires.block_number.1
+
+pub joined-requires : goal.joined-requires
+joined-requires c =
+    omega (arith, room (goal.at.joined-requires c).Start, c.dividend_credit-dividend.ensures c.requires.ledger.0 c.requires.ledger.1)
+
+pub returns-then-not-block_exists : goal.returns-then-not-block_exists
+returns-then-not-block_exists c = record {
+      worked_out = λ es H.
+      let s = c.requires in
+      rw c.joined.ensures
+      (absent es s.block_number.0 (s.worked_before es H) (sym (existence (goal.at.returns-then-not-block_exists c).After-block_exists es H) ∙ c.if-not-block_exists.true) _ _ (c.dividend_credit-dividend.ensures es H) (c.has_dividend.ensures es H));
+      rest_kept = rw c.joined.ensures (omega arith, refl);
+    }
+
+pub figures_of-f-requires : goal.figures_of-f-requires
+figures_of-f-requires c =
+    let s = c.requires in
+    let l = s.ledger in
+    rw (c.numbers_after_credit-numbers.ensures l.0 l.1) (block_accepted l.0 l.1.lines (s.of_lines l.0 l.1).covered _)
+
+pub store-requires : goal.store-requires
+store-requires c =
+    let l = c.requires.ledger in
+    omega (arith, (room (goal.at.store-requires c).Start).0, (c.requires.worked_before l.0 l.1).long)
+
+-- the block's numbers are those of the lines, and so are its figures
+figured : (c : After-figures_of-f) →
+    let r = c.figures_of-f.result in
+    (es : List Entry) → Lines (goal.at.After-figures_of-f c).Start es
+    → (figure_list r ≡ figures_of (after_credit es c.args.block)) × (r.k ≡ K (after_credit es c.args.block))
+figured c es H =
+    let f = c.figures_of-f.ensures ∙ ap figures_of (c.numbers_after_credit-numbers.ensures es H) in
+    (f, (figures_are _ _ f).4)
+
+pub joined-requires-2 : goal.joined-requires-2
+joined-requires-2 c =
+    let l = c.requires.ledger in
+    omega (arith, room (goal.at.joined-requires-2 c).Start, (figured (goal.at.joined-requires-2 c).After-figures_of-f l.0 l.1).1, c.dividend_credit-dividend.ensures l.0 l.1)
+
+pub returns : goal.returns
+returns c =
+    let l = c.requires.ledger in record {
+      worked_out = λ es H.
+          let w = figured (goal.at.returns c).After-figures_of-f es H in
+          rw (c.joined-2.ensures, c.store.ensures)
+          (present es c.requires.block_number.0 (c.requires.worked_before es H) (room (goal.at.returns c).Start).0 (sym (existence (goal.at.returns c).After-block_exists es H) ∙ c.if-not-block_exists.false) _ _ _ w.0 w.1
+          (c.dividend_credit-dividend.ensures es H));
+      rest_kept = rw (c.joined-2.ensures, c.store.ensures)
+          (omega arith, row_behind c.args.rows.now c.args.w.count (c.args.block ∷ figure_list c.figures_of-f.result) (omega (arith, (room (goal.at.returns c).Start).0, (c.requires.worked_before l.0 l.1).long)) refl);
+    }
+
+pub overflow_mul-w : goal.overflow_mul-w
+overflow_mul-w c = omega (arith, (room (goal.at.overflow_mul-w c).Start).0)
