@@ -56,7 +56,7 @@ pub figures_of-f-requires : goal.figures_of-f-requires
 figures_of-f-requires c =
     let s = c.requires in
     let l = s.ledger in
-    rw (c.numbers_after_credit-numbers.ensures l.0 l.1) (block_accepted l.0 l.1.lines (s.of_lines l.0 l.1).covered _)
+    rw (c.numbers_after_credit-numbers.ensures l.0 l.1) (block_accepted l.0 l.1.lines (s.credited l.0 l.1).covered _)
 
 pub store-requires : goal.store-requires
 store-requires c =

@@ -20,7 +20,7 @@ work_block-w-requires c =
     let e : l.block + 1 - 1 ≡ l.block = omega arith in record {
       block_number = search rules;
       ledger = s.ledger;
-      credited = s.of_lines;
+      credited = s.credited;
       worked_before = λ es H. rw e (l.invariant.1 es H);
     }
 

@@ -1,0 +1,112 @@
+-- Rules 17 and 13 in turn; past both, each number that is worked out is the lines' own. Assumes nothing.
+use mathlib.Core.Path.{◌≡◌, sym, ◌∙◌}
+use mathlib.Core.List.{List}
+use mathlib.Core.Bool.{false}
+use Prim.Native.Nat.{◌+◌, ◌-◌, ◌≤◌}
+use native.Mathlib.Omega.{arith}
+use Rattle.search.specs.First.{any_to}
+use Rattle.guideline.specs.Sizes.{blocks}
+use Rattle.guideline.specs.Buffer.{free, available, most_available}
+use Rattle.sheet_line.specs.declared.Entry.{Entry}
+use Rattle.judgement.specs.Sheet.{sheet_of}
+use Rattle.sheet_blocks.specs.Blocks.{dividend_barred}
+use Rattle.ledger.specs.Tables.{Holds}
+use Rattle.ledger.proofs.Tables.{general_is}
+use Rattle.judgement.proofs.Accepted.{dividends_most, available_small, free_small, scalar_ranged}
+use Rattle.judgement.proofs.Available.{available_is, buffer_is}
+use Rattle.judgement.proofs.Rules.{dividend_above, credits_above, passes, figured}
+use Rattle.judgement.proofs.rule_17.Goals.{After-general_amount, After-general_amount-2, After-general_amount-3, Else-w, Start}
+use Rattle.judgement.proofs.rule_17.Goals as goal
+
+-- the tables hold these lines
+abbrev Lines : Start → List Entry → Type 0
+Lines s es = Holds es s.args.firsts.now s.args.seconds.now s.args.marks.now
+
+pub returns-then-w : goal.returns-then-w
+returns-then-w c = record {
+      findings = λ es H. dividend_above es (sym (c.work_out-w.ensures.worked_out es H).barred ∙ c.if-w.true);
+      behind_rows = tt;
+    }
+
+-- rule 17 bars no dividend credit
+none_barred : (c : Else-w) (es : List Entry) → Lines (goal.at.Else-w c).Start es → any_to (dividend_barred es) blocks ≡ false
+none_barred c es H = sym (c.work_out-w.ensures.worked_out es H).barred ∙ c.if-w.false
+
+-- so they can be taken off the sum of K
+pub overflow_sub-available : goal.overflow_sub-available
+overflow_sub-available c =
+    let l = c.requires.ledger in
+    let e = c.work_out-w.ensures.worked_out l.0 l.1 in
+    omega (arith, e.sum, e.dividends, dividends_most l.0 l.1.lines blocks (none_barred (goal.at.overflow_sub-available c).Else-w l.0 l.1))
+
+-- what rule 13 compares the credits with
+total : (c : After-general_amount) →
+    let w = c.work_out-w.result in
+    (es : List Entry) → Lines (goal.at.After-general_amount c).Start es
+    → w.sum - w.dividends + c.general_amount.result + c.operational_figure-ro.result ≡ available (sheet_of es)
+unfolding sheet_of
+total c es H =
+    let e = c.work_out-w.ensures.worked_out es H in
+    available_is es _ _ _ _ e.sum e.dividends (c.general_amount.ensures ∙ general_is H 2 (omega arith, omega arith))
+    (c.operational_figure-ro.ensures es H)
+
+small : (c : After-general_amount) →
+    let w = c.work_out-w.result in
+    w.sum - w.dividends + c.general_amount.result + c.operational_figure-ro.result ≤ most_available
+small c =
+    let p = c.requires in
+    let l = p.ledger in
+    omega (arith, total c l.0 l.1, available_small l.0 l.1.lines (p.credited l.0 l.1).covered)
+
+-- the credits that belong to no block
+free_is : (c : After-general_amount-2) (es : List Entry) → Lines (goal.at.After-general_amount-2 c).Start es
+    → c.adjustable_credits.result + c.general_amount-2.result ≡ free (sheet_of es)
+unfolding sheet_of
+free_is c es H =
+    let a = c.adjustable_credits.ensures es H in
+    let g = c.general_amount-2.ensures ∙ general_is H 5 (omega arith, omega arith) in
+    λ i. a i + g i
+
+pub overflow_add-free : goal.overflow_add-free
+overflow_add-free c = let l = c.requires.ledger in omega (arith, free_is c l.0 l.1, free_small l.0 l.1.lines)
+
+pub returns-then-available-free : goal.returns-then-available-free
+returns-then-available-free c = record {
+      findings = λ es H. credits_above es (none_barred (goal.at.returns-then-available-free c).Else-w es H) (omega (arith, c.if-available-free.true, total (goal.at.returns-then-available-free c).After-general_amount es H, free_is (goal.at.returns-then-available-free c).After-general_amount-2 es H));
+      behind_rows = tt;
+    }
+
+scalar_is_g : (c : After-general_amount-3) (es : List Entry) → Lines (goal.at.After-general_amount-3 c).Start es
+    → c.general_amount-3.result ≡ (sheet_of es).g
+unfolding sheet_of
+scalar_is_g c es H = c.general_amount-3.ensures ∙ general_is H 4 (omega arith, omega arith)
+
+pub scaled-buffer-requires : goal.scaled-buffer-requires
+scaled-buffer-requires c =
+    let p = c.requires in
+    let l = p.ledger in
+    (omega (arith, scalar_is_g c l.0 l.1, (scalar_ranged l.0 l.1.lines (p.credited l.0 l.1).scalar).1), omega (arith, small (goal.at.scaled-buffer-requires c).After-general_amount))
+
+pub returns : goal.returns
+unfolding sheet_of
+returns c =
+    let w = c.work_out-w.ensures in record {
+      findings = λ es H.
+          let worked = w.worked_out es H in
+          figured es
+          (record {
+            count_is = worked.count;
+            rows_are = worked.front;
+            sum_is = worked.sum;
+            ro_is = c.operational_figure-ro.ensures es H;
+            buffer_is = buffer_is es _ _ _ _ (scalar_is_g (goal.at.returns c).After-general_amount-3 es H) (total (goal.at.returns c).After-general_amount es H) (free_is (goal.at.returns c).After-general_amount-2 es H) c.scaled-buffer.ensures;
+          })
+          ∙ passes es (none_barred (goal.at.returns c).Else-w es H) (omega (arith, c.if-available-free.false, total (goal.at.returns c).After-general_amount es H, free_is (goal.at.returns c).After-general_amount-2 es H));
+      behind_rows = w.rest_kept;
+    }
+
+pub overflow_add-available : goal.overflow_add-available
+overflow_add-available c = omega (arith, small c)
+
+pub overflow_add-available-2 : goal.overflow_add-available-2
+overflow_add-available-2 c = omega (arith, small c)
