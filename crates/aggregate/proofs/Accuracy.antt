@@ -89,5 +89,5 @@ module _ (s r : List ℕ) where
   call_demand = by_answer report_of s r Meets (λ n p. tt) (λ es e. (es, e, report_demand s es e _))
 
   -- so does what is equal to what the call gives
-  pub promised : (d : Done) → d ≡ sheet_call s r → (d ≡ sheet_call s r) × Demand3 s d.outcome d.room
-  promised d e = (e, subst⁻¹ Meets e call_demand)
+  pub promised : (d : Done) → d ≡ sheet_call s r → record { answer : d ≡ sheet_call s r; demand3 : Demand3 s d.outcome d.room }
+  promised d e = record { answer = e; demand3 = subst⁻¹ Meets e call_demand }

@@ -49,7 +49,7 @@ module _ (s r : List ℕ) (n : ℕ) (rows : List ℕ) (sum ro x : ℕ) (e : figu
   reported l h q =
       let F = (findings_figures (judgement s) e).2 in
       let t = table_lines lines rows n F.count_is F.rows_are in
-      let w = q ∙ (λ i. print_rows (t i ++ total_rows (F.sum_is_lem i) (F.ro_is i) (F.buffer_is i)) ++ drop (sym l i) r) in
+      let w = q ∙ (λ i. print_rows (t i ++ total_rows (F.sum_is i) (F.ro_is i) (F.buffer_is i)) ++ drop (sym l i) r) in
       lent_filled _ r refl (long l) h w ∙ is_call
 
 -- ---- its length

@@ -52,8 +52,8 @@ module _ (s r : List ℕ) where
       let t = listing es in
       (es, e, subst⁻¹ (ListedExactly es) (take_at t (drop (length t) r) (length t) refl) (listed_exactly es (sound_passed s es e).lines (sound_ascending s es e))))
 
-  pub promised : (d : Done) → d ≡ check_call s r → (d ≡ check_call s r) × ListsExactly s d.outcome d.room
-  promised d e = (e, subst⁻¹ Lists e call_lists)
+  pub promised : (d : Done) → d ≡ check_call s r → record { answer : d ≡ check_call s r; lists_exactly : ListsExactly s d.outcome d.room }
+  promised d e = record { answer = e; lists_exactly = subst⁻¹ Lists e call_lists }
 
 -- ---- its length
 

@@ -1,0 +1,13 @@
+use mathlib.Core.Path.{◌≡◌, refl}
+use Prim.Native.Nat.{◌+◌, ◌-◌, ◌≤◌}
+use native.Mathlib.Omega.{arith}
+use Rattle.search.specs.Ascending.{ascending}
+use Rattle.needs.specs.Needing.{most_listed}
+use Rattle.sheet_check.specs.Walk.{counted_to}
+use Rattle.sheet_check.proofs.count_unmet.Given as goal
+
+abbrev pub invariant-loop-n : goal.invariant-loop-n
+invariant-loop-n l = (l.n ≤ most_listed) × (l.count ≡ counted_to l.firsts l.seconds l.n)
+
+abbrev pub decreases-loop-n : goal.decreases-loop-n
+decreases-loop-n l = most_listed - l.n
