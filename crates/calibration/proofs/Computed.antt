@@ -23,7 +23,7 @@ use Rattle.block.specs.Call.{first_lt_above, rule9, rule8, block_call}
 use Rattle.operational.specs.Call.{rule7, operational_call}
 use Rattle.fluctuation.specs.Rows.{rows, row_of, base_of}
 use Rattle.fluctuation.specs.Result.{reaches, factored_requirement}
-use Rattle.fluctuation.specs.Call.{rule7 as fluctuationRule7, fluctuation_call}
+use Rattle.fluctuation.specs.Call.{rule7 as fluctuation_rule7, fluctuation_call}
 use Rattle.apportion.specs.Shares.{base, remainder, left_over, before, rank, cent, share, shares}
 use Rattle.shares.specs.Margins.{without, k_without, margin}
 use Rattle.shares.specs.Call.{after_block, unless_zero, rule23, shares_call}
@@ -68,7 +68,7 @@ pub computed : Table
 unfolding
     pick least_from first_from first_above factors sumℤ A U LT Vh y ys Q4 largest_of largest root fine_i a fine_d reported I D requirement K figures_of
     total volume growth operational_numerator RO binary_length steps radicand_i radicand_d steps_of first_lt_above rule9 rule8 block_call rule7 operational_call
-    rows row_of base_of reaches factored_requirement fluctuationRule7 fluctuation_call
+    rows row_of base_of reaches factored_requirement fluctuation_rule7 fluctuation_call
     any_to sum_to one ascending base remainder left_over before rank cent share shares without k_without margin after_block unless_zero rule23 shares_call
     has_key lookup pairs volumes_by twice_radicand aggregated credit gives all_given pc_in_risk netted each_rounded
 computed =

@@ -49,7 +49,7 @@ pub extern "C" fn tsav_block(
     place: &mut [u64; 2],
 ) -> u64
     ensures leaves { Leaves (block_call numbers.now) result figures.old place.old figures.new place.new }
-    ensures demand3 { result ≡ 0 → BlockDemand3 numbers.now (accepted figures.new) × FewSteps (accepted figures.new) }
+    ensures at_0 { result ≡ 0 → BlockDemand3 numbers.now (accepted figures.new) × FewSteps (accepted figures.new) }
 {
     let answer = block::block_call(numbers);
     match answer {
@@ -92,7 +92,7 @@ pub extern "C" fn tsav_fluctuation(
     place: &mut [u64; 2],
 ) -> u64
     ensures leaves { Leaves (fluctuation_call row requirement face) result figure.old place.old figure.new place.new }
-    ensures fluctuation_demand { result ≡ 0 → FluctuationDemand row requirement face (accepted figure.new) }
+    ensures at_0 { result ≡ 0 → FluctuationDemand row requirement face (accepted figure.new) }
 {
     let answer = fluctuation::fluctuation_call(row, requirement, face);
     match answer {
@@ -113,7 +113,7 @@ pub extern "C" fn tsav_shares(
     place: &mut [u64; 2],
 ) -> u64
     ensures leaves { Leaves (shares_call numbers.now) result shares.old place.old shares.new place.new }
-    ensures shares_demand { result ≡ 0 → SharesDemand numbers.now (accepted shares.new) }
+    ensures at_0 { result ≡ 0 → SharesDemand numbers.now (accepted shares.new) }
 {
     let answer = shares::shares_call(numbers);
     match answer {
@@ -136,9 +136,9 @@ pub extern "C" fn tsav_sheet(
     written: &mut [u64; 1],
     place: &mut [u64; 2],
 ) -> u64
-    ensures report_after { report.new ≡ (sheet_call sheet.now report.old).room }
+    ensures room_after { report.new ≡ (sheet_call sheet.now report.old).room }
     ensures leaves { Leaves (sheet_call sheet.now report.old).outcome result written.old place.old written.new place.new }
-    ensures demand3 { result ≡ 0 → Demand3 sheet.now (accepted written.new) report.new }
+    ensures at_0 { result ≡ 0 → Demand3 sheet.now (accepted written.new) report.new }
 {
     let answer = aggregate::sheet_call(sheet, report);
     answers::tell(answer, written, place)
@@ -154,7 +154,7 @@ pub extern "C" fn tsav_convert(
 ) -> u64
     ensures room_after { room.new ≡ (convert_call sheet.now room.old).room }
     ensures leaves { Leaves (convert_call sheet.now room.old).outcome result written.old place.old written.new place.new }
-    ensures converts_back { result ≡ 0 → ConvertsBack sheet.now (accepted written.new) room.new }
+    ensures at_0 { result ≡ 0 → ConvertsBack sheet.now (accepted written.new) room.new }
 {
     let answer = convert::convert_call(sheet, room);
     answers::tell(answer, written, place)
@@ -171,7 +171,7 @@ pub extern "C" fn tsav_check(
 ) -> u64
     ensures room_after { room.new ≡ (check_call sheet.now room.old).room }
     ensures leaves { Leaves (check_call sheet.now room.old).outcome result written.old place.old written.new place.new }
-    ensures lists_exactly { result ≡ 0 → ListsExactly sheet.now (accepted written.new) room.new }
+    ensures at_0 { result ≡ 0 → ListsExactly sheet.now (accepted written.new) room.new }
 {
     let answer = sheet_check::check_call(sheet, room);
     answers::tell(answer, written, place)

@@ -14,7 +14,7 @@ pub record BlockDemand (b : List ℕ) : Type 0 where
   -- and so for the finer D
   pub fine_d_high : fine_d b ≤ fineness * Vh b
   pub fine_d_third : fineness * Vh b ≤ 3 * fine_d b
-  -- M never falls as d rises from V/3: M with d for D is mNumerator over the square of d's denominator
+  -- M never falls as d rises from V/3: M with d for D is m_numerator over the square of d's denominator
   pub m_rises :
       (d e : Fraction) → whole (Vh b) 0 ≤ᶠ thrice d → d ≤ᶠ e →
       m_numerator (Vh b) d * (e.denominator * e.denominator) ≤ m_numerator (Vh b) e * (d.denominator * d.denominator)

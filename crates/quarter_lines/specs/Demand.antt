@@ -11,7 +11,7 @@ use Rattle.summary.specs.Together.{items_of, SummaryIs}
 use Rattle.summary.specs.Exact.{TotalDemand}
 use Rattle.quarter_lines.specs.Printout.{most_sheets, columns, SUM, sound_as, accepted_of}
 
--- 'the accepted sheets', of which acceptedOf has the numbers and the buffers
+-- 'the accepted sheets', of which accepted_of has the numbers and the buffers
 unfoldable pub sound_ones : List (List ℕ) → List Sheet
 sound_ones [] = []
 sound_ones (x ∷ xs) = sound_as (judgement x) ++ sound_ones xs
