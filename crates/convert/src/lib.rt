@@ -4,7 +4,6 @@
 // writes nothing, and no table of amounts is held.
 #![tactic(auto)]
 
-
 ghost use Rattle.std.specs.Prelude.{◌≡◌, [], ◌%◌, ◌≤◌, length};
 ghost use Rattle.layout.specs.Columns.{sheet_line_bytes};
 ghost use Rattle.order.specs.Entries.{mark_of};

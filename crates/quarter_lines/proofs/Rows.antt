@@ -9,7 +9,6 @@ use lib.Seq.{take_all}
 use Rattle.search.specs.Each.{Each}
 use Rattle.search.proofs.Picks.{if_ge}
 use Rattle.search.proofs.Eaches.{each_append}
-use Rattle.guideline.specs.Buffer.{buffer}
 use Rattle.judgement.specs.Sheet.{sheet_of}
 use Rattle.judgement.specs.Judgement.{Judgement, judgement}
 use Rattle.judgement.specs.Judgement.Judgement.{turned_away, sound}

@@ -1,8 +1,7 @@
 -- Whenever the loop's test is reached, the lines before have been tested, and what is left to read gives what all lines give. Assumes nothing.
-use Prim.Native.Nat.{◌-◌}
 use Rattle.order.proofs.Lines.{lent_keyed}
 use Rattle.convert.proofs.Reading.{reads}
-use Rattle.convert.proofs.Passes.{TestedTo, test_start, test_done, test_turned, test_key, test_again}
+use Rattle.convert.proofs.Passes.{test_start, test_done, test_turned, test_key, test_again}
 use Rattle.convert.proofs.test_lines.Goals as goal
 
 pub loop-i-init : goal.loop-i-init

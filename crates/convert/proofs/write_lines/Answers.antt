@@ -1,6 +1,5 @@
 -- Whenever the loop's test is reached, the lines before stand in front of the room as the other sort has them. Assumes nothing.
-use Prim.Native.Nat.{◌-◌}
-use Rattle.convert.proofs.Passes.{Writing, write_start, write_again, write_done}
+use Rattle.convert.proofs.Passes.{write_start, write_again, write_done}
 use borrow.Author.Rules.{rules}
 use Rattle.convert.proofs.write_lines.Goals as goal
 

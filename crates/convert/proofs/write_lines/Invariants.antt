@@ -1,5 +1,5 @@
 use Prim.Native.Nat.{◌-◌}
-use Rattle.convert.proofs.Passes.{Writing, write_start, write_again, write_done}
+use Rattle.convert.proofs.Passes.{Writing}
 use Rattle.convert.proofs.write_lines.Given as goal
 
 abbrev pub invariant-loop-i : goal.invariant-loop-i

@@ -2,7 +2,6 @@
 use mathlib.Core.Path.{◌≡◌, sym, ◌∙◌}
 use mathlib.Core.List.{List}
 use mathlib.Core.Bool.{true, false}
-use borrow.Author.Tests.{not-true, not-false}
 use Rattle.search.specs.First.{any_to}
 use Rattle.guideline.specs.Sizes.{non_participating}
 use Rattle.codes.specs.Codes.{scalar_class}
@@ -23,24 +22,24 @@ Lines s es = Holds es s.args.firsts.now s.args.seconds.now s.args.marks.now
 
 pub returns-then-not-has_scalar : goal.returns-then-not-has_scalar
 returns-then-not-has_scalar c = record {
-      findings = λ es H. no_scalar es (sym (scalar_is H) ∙ sym c.has_scalar.ensures ∙ c.if-not-has_scalar.true);
-      behind_rows = tt;
-    }
+  findings = λ es H. no_scalar es (sym (scalar_is H) ∙ sym c.has_scalar.ensures ∙ c.if-not-has_scalar.true);
+  behind_rows = tt;
+}
 
 has_scalar_line : (c : Else-not-has_scalar) (es : List Entry) → Lines (goal.at.Else-not-has_scalar c).Start es → has_line es Gen 0 scalar_class ≡ true
 has_scalar_line c es H = sym (scalar_is H) ∙ sym c.has_scalar.ensures ∙ c.if-not-has_scalar.false
 
 pub any_credit_above-requires : goal.any_credit_above-requires
 any_credit_above-requires c = record {
-      ledger = c.requires;
-      credited = c.credits_of-credits.ensures;
-    }
+  ledger = c.requires;
+  credited = c.credits_of-credits.ensures;
+}
 
 pub returns-then-any_credit_above : goal.returns-then-any_credit_above
 returns-then-any_credit_above c = record {
-      findings = λ es H. credit_above_lem es (has_scalar_line (goal.at.returns-then-any_credit_above c).Else-not-has_scalar es H) (sym (c.any_credit_above.ensures es H) ∙ c.if-any_credit_above.true);
-      behind_rows = tt;
-    }
+  findings = λ es H. credit_above_lem es (has_scalar_line (goal.at.returns-then-any_credit_above c).Else-not-has_scalar es H) (sym (c.any_credit_above.ensures es H) ∙ c.if-any_credit_above.true);
+  behind_rows = tt;
+}
 
 -- no credit is above its block's LT(1)
 none_above : (c : Else-any_credit_above) (es : List Entry) →
@@ -49,10 +48,10 @@ none_above c es H = sym (c.any_credit_above.ensures es H) ∙ c.if-any_credit_ab
 
 pub rule_17-requires : goal.rule_17-requires
 rule_17-requires c = record {
-      ledger = c.requires;
-      credited = λ es H.
-          record { scalar = has_scalar_line (goal.at.rule_17-requires c).Else-not-has_scalar es H; each = c.credits_of-credits.ensures es H; covered = all_covered es H.lines (none_above (goal.at.rule_17-requires c).Else-any_credit_above es H) };
-    }
+  ledger = c.requires;
+  credited = λ es H.
+      record { scalar = has_scalar_line (goal.at.rule_17-requires c).Else-not-has_scalar es H; each = c.credits_of-credits.ensures es H; covered = all_covered es H.lines (none_above (goal.at.rule_17-requires c).Else-any_credit_above es H) };
+}
 
 pub returns : goal.returns
 returns c =

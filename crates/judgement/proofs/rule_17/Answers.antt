@@ -24,9 +24,9 @@ Lines s es = Holds es s.args.firsts.now s.args.seconds.now s.args.marks.now
 
 pub returns-then-w : goal.returns-then-w
 returns-then-w c = record {
-      findings = λ es H. dividend_above es (sym (c.work_out-w.ensures.worked_out es H).barred ∙ c.if-w.true);
-      behind_rows = tt;
-    }
+  findings = λ es H. dividend_above es (sym (c.work_out-w.ensures.worked_out es H).barred ∙ c.if-w.true);
+  behind_rows = tt;
+}
 
 -- rule 17 bars no dividend credit
 none_barred : (c : Else-w) (es : List Entry) → Lines (goal.at.Else-w c).Start es → any_to (dividend_barred es) blocks ≡ false
@@ -72,9 +72,9 @@ overflow_add-free c = let l = c.requires.ledger in omega (arith, free_is c l.0 l
 
 pub returns-then-available-free : goal.returns-then-available-free
 returns-then-available-free c = record {
-      findings = λ es H. credits_above es (none_barred (goal.at.returns-then-available-free c).Else-w es H) (omega (arith, c.if-available-free.true, total (goal.at.returns-then-available-free c).After-general_amount es H, free_is (goal.at.returns-then-available-free c).After-general_amount-2 es H));
-      behind_rows = tt;
-    }
+  findings = λ es H. credits_above es (none_barred (goal.at.returns-then-available-free c).Else-w es H) (omega (arith, c.if-available-free.true, total (goal.at.returns-then-available-free c).After-general_amount es H, free_is (goal.at.returns-then-available-free c).After-general_amount-2 es H));
+  behind_rows = tt;
+}
 
 scalar_is_g : (c : After-general_amount-3) (es : List Entry) → Lines (goal.at.After-general_amount-3 c).Start es
     → c.general_amount-3.result ≡ (sheet_of es).g

@@ -1,6 +1,6 @@
 -- Whenever the loop's test is reached, the chunk is taken up to a place, whichever bytes came before it. Assumes nothing.
 use mathlib.Core.Path.{◌≡◌, sym, ◌∙◌}
-use Prim.Native.Nat.{◌+◌, ◌-◌, ◌≤◌, ◌<◌}
+use Prim.Native.Nat.{◌+◌, ◌≤◌, ◌<◌}
 use native.Mathlib.Omega.{arith}
 use lib.ListN.{length}
 use lib.Seq.{length-take-le}
@@ -8,7 +8,7 @@ use Rattle.search.proofs.Stretches.{stretch_long}
 use Rattle.report_line.specs.Line.{line_bytes}
 use Rattle.quarter_lines.specs.Printout.{columns}
 use Rattle.quarter.specs.Steps.{lines_long, longest_output}
-use Rattle.quarter.proofs.Taking.{Taking, at_first, of_false, rooms, outs, out_is, held_within, few, line_fits, taken_all, taken_many, taken_on, closed_at, taken_next}
+use Rattle.quarter.proofs.Taking.{at_first, of_false, rooms, outs, out_is, held_within, few, line_fits, taken_all, taken_many, taken_on, closed_at, taken_next}
 use Rattle.quarter.proofs.take_bytes.Goals.{In-Closed}
 use Rattle.quarter.proofs.take_bytes.Goals as goal
 
@@ -27,9 +27,9 @@ returns-then-sheets-eq-MOST_SHEETS c =
 
 pub feed-fed-requires : goal.feed-fed-requires
 feed-fed-requires c = record {
-      within = held_within c.loop-at.invariant;
-      from_in_bounds = omega (arith, c.loop-at-test.true);
-    }
+  within = held_within c.loop-at.invariant;
+  from_in_bounds = omega (arith, c.loop-at-test.true);
+}
 
 pub shape_of-room-in-On : goal.shape_of-room-in-On
 shape_of-room-in-On c =

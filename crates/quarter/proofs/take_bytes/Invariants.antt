@@ -1,13 +1,6 @@
-use mathlib.Core.Path.{◌≡◌, sym, ◌∙◌}
-use Prim.Native.Nat.{◌+◌, ◌-◌, ◌≤◌, ◌<◌}
-use native.Mathlib.Omega.{arith}
+use Prim.Native.Nat.{◌-◌}
 use lib.ListN.{length}
-use lib.Seq.{length-take-le}
-use Rattle.search.proofs.Stretches.{stretch_long}
-use Rattle.report_line.specs.Line.{line_bytes}
-use Rattle.quarter_lines.specs.Printout.{columns}
-use Rattle.quarter.specs.Steps.{lines_long, longest_output}
-use Rattle.quarter.proofs.Taking.{Taking, at_first, of_false, rooms, outs, out_is, held_within, few, line_fits, taken_all, taken_many, taken_on, closed_at, taken_next}
+use Rattle.quarter.proofs.Taking.{Taking}
 use Rattle.quarter.proofs.take_bytes.Given as goal
 
 abbrev pub invariant-loop-at : goal.invariant-loop-at

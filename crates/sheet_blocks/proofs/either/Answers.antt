@@ -1,6 +1,5 @@
 -- The first decides where it is so, else the other. Assumes nothing.
 use Rattle.search.proofs.Sides.{tests}
-use borrow.Author.Rules.{rules}
 use Rattle.sheet_blocks.proofs.either.Goals as goal
 
 pub returns-then-one : goal.returns-then-one

@@ -3,7 +3,6 @@ use mathlib.Core.Path.{◌≡◌, refl, sym, ap, ◌∙◌}
 use mathlib.Core.List.{List, ◌∷◌}
 use Prim.Native.Nat.{◌+◌, ◌*◌, ◌≤◌, ◌<◌}
 use native.Mathlib.Omega.{arith}
-use borrow.Author.Tests.{not-true, not-false}
 use Rattle.amount.specs.Amount.{limit}
 use Rattle.guideline.specs.Sizes.{blocks}
 use Rattle.guideline.specs.Block.{K, figures_of}
@@ -45,12 +44,12 @@ joined-requires c =
 
 pub returns-then-not-block_exists : goal.returns-then-not-block_exists
 returns-then-not-block_exists c = record {
-      worked_out = λ es H.
+  worked_out = λ es H.
       let s = c.requires in
       rw c.joined.ensures
       (absent es s.block_number.0 (s.worked_before es H) (sym (existence (goal.at.returns-then-not-block_exists c).After-block_exists es H) ∙ c.if-not-block_exists.true) _ _ (c.dividend_credit-dividend.ensures es H) (c.has_dividend.ensures es H));
-      rest_kept = rw c.joined.ensures (omega arith, refl);
-    }
+  rest_kept = rw c.joined.ensures (omega arith, refl);
+}
 
 pub figures_of-f-requires : goal.figures_of-f-requires
 figures_of-f-requires c =

@@ -1,11 +1,9 @@
 -- Whenever the loop's test is reached, the blocks up to `block` are worked out, and behind their rows the table is as it was. Assumes nothing.
 use mathlib.Core.Path.{◌≡◌, refl, sym, ◌∙◌}
-use Prim.Native.Nat.{◌+◌, ◌-◌, ◌*◌, ◌≤◌}
+use Prim.Native.Nat.{◌+◌, ◌-◌, ◌*◌}
 use native.Mathlib.Omega.{arith}
 use Rattle.search.proofs.Stretches.{from_further}
 use Rattle.guideline.specs.Sizes.{blocks, row_numbers}
-use Rattle.ledger.specs.Tables.{OfLines}
-use Rattle.sheet_blocks.specs.Steps.{WorkedOut, RestKept}
 use Rattle.sheet_blocks.proofs.Figured.{none}
 use borrow.Author.Rules.{rules}
 use Rattle.sheet_blocks.proofs.work_out.Goals as goal

@@ -1,11 +1,7 @@
-use mathlib.Core.Path.{◌≡◌, refl, sym, ◌∙◌}
-use Prim.Native.Nat.{◌+◌, ◌-◌, ◌*◌, ◌≤◌}
-use native.Mathlib.Omega.{arith}
-use Rattle.search.proofs.Stretches.{from_further}
-use Rattle.guideline.specs.Sizes.{blocks, row_numbers}
+use Prim.Native.Nat.{◌-◌, ◌≤◌}
+use Rattle.guideline.specs.Sizes.{blocks}
 use Rattle.ledger.specs.Tables.{OfLines}
 use Rattle.sheet_blocks.specs.Steps.{WorkedOut, RestKept}
-use Rattle.sheet_blocks.proofs.Figured.{none}
 use Rattle.sheet_blocks.proofs.work_out.Given as goal
 
 abbrev pub invariant-loop-block : goal.invariant-loop-block

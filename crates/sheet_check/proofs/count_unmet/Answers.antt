@@ -1,10 +1,9 @@
 -- Whenever the loop's test is reached, the count is that of the first n lines. Assumes nothing.
 use mathlib.Core.Path.{◌≡◌, refl}
-use Prim.Native.Nat.{◌+◌, ◌-◌, ◌≤◌}
+use Prim.Native.Nat.{◌+◌, ◌-◌}
 use native.Mathlib.Omega.{arith}
 use Rattle.search.specs.Ascending.{ascending}
 use Rattle.needs.specs.Needing.{most_listed}
-use Rattle.sheet_check.specs.Walk.{counted_to}
 use borrow.Author.Rules.{rules}
 use Rattle.sheet_check.proofs.count_unmet.Goals as goal
 

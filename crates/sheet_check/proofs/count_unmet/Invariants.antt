@@ -1,7 +1,5 @@
-use mathlib.Core.Path.{◌≡◌, refl}
-use Prim.Native.Nat.{◌+◌, ◌-◌, ◌≤◌}
-use native.Mathlib.Omega.{arith}
-use Rattle.search.specs.Ascending.{ascending}
+use mathlib.Core.Path.{◌≡◌}
+use Prim.Native.Nat.{◌-◌, ◌≤◌}
 use Rattle.needs.specs.Needing.{most_listed}
 use Rattle.sheet_check.specs.Walk.{counted_to}
 use Rattle.sheet_check.proofs.count_unmet.Given as goal

@@ -1,12 +1,12 @@
 -- Whenever the loop's test is reached, the lines of the first n stand in front. Assumes nothing.
 use mathlib.Core.Path.{◌≡◌}
-use Prim.Native.Nat.{◌+◌, ◌-◌, ◌≤◌}
+use Prim.Native.Nat.{◌+◌, ◌≤◌}
 use native.Mathlib.Omega.{arith}
 use lib.ListN.{length}
 use Rattle.search.specs.Ascending.{ascending}
-use Rattle.search.proofs.Stretches.{Wrote, nothing}
+use Rattle.search.proofs.Stretches.{nothing}
 use Rattle.needs.specs.Needing.{most_listed}
-use Rattle.sheet_check.specs.Walk.{walked_to, one_at}
+use Rattle.sheet_check.specs.Walk.{one_at}
 use Rattle.sheet_check.proofs.Walking.{room_left, next_put, all_put}
 use borrow.Author.Rules.{rules}
 use Rattle.sheet_check.proofs.write_listing.Goals.{In-loop-n}

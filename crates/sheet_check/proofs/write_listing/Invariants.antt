@@ -1,12 +1,7 @@
-use mathlib.Core.Path.{◌≡◌}
-use Prim.Native.Nat.{◌+◌, ◌-◌, ◌≤◌}
-use native.Mathlib.Omega.{arith}
-use lib.ListN.{length}
-use Rattle.search.specs.Ascending.{ascending}
-use Rattle.search.proofs.Stretches.{Wrote, nothing}
+use Prim.Native.Nat.{◌-◌, ◌≤◌}
+use Rattle.search.proofs.Stretches.{Wrote}
 use Rattle.needs.specs.Needing.{most_listed}
-use Rattle.sheet_check.specs.Walk.{walked_to, one_at}
-use Rattle.sheet_check.proofs.Walking.{room_left, next_put, all_put}
+use Rattle.sheet_check.specs.Walk.{walked_to}
 use Rattle.sheet_check.proofs.write_listing.Given as goal
 
 abbrev pub invariant-loop-n : goal.invariant-loop-n
