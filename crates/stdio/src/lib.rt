@@ -5,7 +5,7 @@ ghost use Rattle.std.specs.Prelude.{◌≡◌, true, ◌≤◌, length, take};
 ghost use Rattle.std.specs.Io.KnownBytes.{Appends};
 ghost use Rattle.stdio.specs.Read.{ReadInto, TakesAll, TakesSome};
 
-use std::io::{ErrorKind, Read, Write};
+use std::io::{Read, Write};
 
 // How many bytes were read; or that a read failed.
 #[derive(Clone, Copy)]
@@ -34,23 +34,15 @@ pub fn read_all<R: Read>(input: &mut R, room: &mut [u8]) -> Got
     Got::Bytes(at)
 }
 
-// Reads some bytes, as many as come at once and the room takes; none at the end of the input, and where there is no room. A read that a signal
-// interrupts is tried again.
+// Reads some bytes, as many as come at once and the room takes; none at the end of the input, and where there is no room.
 pub fn read_some<R: Read>(input: &mut R, room: &mut [u8]) -> Got
     ensures within { ReadInto result room.old room.new }
     ensures taken { TakesSome result (R.remaining input.old) (R.remaining input.new) room.new }
 {
-    for _ in 0..u64::MAX {
-        match input.read(room) {
-            Ok(n) => return Got::Bytes(n),
-            Err(e) => {
-                if e.kind() != ErrorKind::Interrupted {
-                    return Got::Failed;
-                }
-            }
-        }
+    match input.read(room) {
+        Ok(n) => Got::Bytes(n),
+        Err(_) => Got::Failed,
     }
-    Got::Failed
 }
 
 // Writes the first n bytes of a text, and tells whether all of them were written: never of a text that has fewer.
