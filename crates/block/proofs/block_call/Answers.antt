@@ -17,17 +17,21 @@ long c = omega arith
 
 -- past rule 7, and past rule 8
 after_7 : (c : Else-above-lt-BLOCK_NUMBERS) → let b = c.args.b.now in block_call b ≡ rule8 b
-after_7 c = passed_7 _ (long (goal.at.Else-above-lt-BLOCK_NUMBERS c).After-first_above-arg-1) c.first_above-above.ensures c.if-above-lt-BLOCK_NUMBERS.false
+after_7 c =
+    let first_above_arg_1 = (goal.at.Else-above-lt-BLOCK_NUMBERS c).After-first_above-arg-1 in
+    passed_7 _ (long first_above_arg_1) c.first_above-above.ensures c.if-above-lt-BLOCK_NUMBERS.false
 
 after_8 : (c : Else-b-ne0) → let b = c.args.b.now in block_call b ≡ rule9 b
 after_8 c = after_7 (goal.at.Else-b-ne0 c).Else-above-lt-BLOCK_NUMBERS ∙ passed_8 _ c.if-b-ne0.false
 
 pub returns-then-above-lt-BLOCK_NUMBERS : goal.returns-then-above-lt-BLOCK_NUMBERS
-returns-then-above-lt-BLOCK_NUMBERS c = record {
-  outcome = sym (refused_7 _ (long (goal.at.returns-then-above-lt-BLOCK_NUMBERS c).After-first_above-arg-1) c.first_above-above.ensures c.if-above-lt-BLOCK_NUMBERS.true);
-  demand3 = tt;
-  few_steps = tt;
-}
+returns-then-above-lt-BLOCK_NUMBERS c =
+    let first_above_arg_1 = (goal.at.returns-then-above-lt-BLOCK_NUMBERS c).After-first_above-arg-1 in
+    record {
+      outcome = sym (refused_7 _ (long first_above_arg_1) c.first_above-above.ensures c.if-above-lt-BLOCK_NUMBERS.true);
+      demand3 = tt;
+      few_steps = tt;
+    }
 
 pub returns-then-b-ne0 : goal.returns-then-b-ne0
 returns-then-b-ne0 c = record {
@@ -45,7 +49,8 @@ returns-then-risk-lt-RISKS c = record {
 
 pub worked_out-worked-requires : goal.worked_out-worked-requires
 worked_out-worked-requires c =
-    let amounts = within_limit _ (long (goal.at.worked_out-worked-requires c).After-first_above-arg-1) c.first_above-above.ensures c.if-above-lt-BLOCK_NUMBERS.false in
+    let first_above_arg_1 = (goal.at.worked_out-worked-requires c).After-first_above-arg-1 in
+    let amounts = within_limit _ (long first_above_arg_1) c.first_above-above.ensures c.if-above-lt-BLOCK_NUMBERS.false in
     acceptable _ c.first_lt_above-risk.ensures amounts c.if-b-ne0.false c.if-risk-lt-RISKS.false
 
 pub returns : goal.returns

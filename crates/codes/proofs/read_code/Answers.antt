@@ -17,7 +17,9 @@ last_left c = search tests depth 14
 
 pub returns-then-starts_with-7 : goal.returns-then-starts_with-7
 unfolding code_among
-returns-then-starts_with-7 c = sym (if_true _ (sym c.starts_with-7.ensures ∙ c.if-starts_with-7.true)) ∙ last_left (goal.at.returns-then-starts_with-7 c).Else-starts_with-6
+returns-then-starts_with-7 c =
+    let starts_with_6 = (goal.at.returns-then-starts_with-7 c).Else-starts_with-6 in
+    sym (if_true _ (sym c.starts_with-7.ensures ∙ c.if-starts_with-7.true)) ∙ last_left starts_with_6
 
 pub returns : goal.returns
 unfolding code_among

@@ -30,6 +30,7 @@ add_term-requires c =
 
 pub returns : goal.returns
 returns c =
+    let start = (goal.at.returns c).Start in
     let y = c.args.y.now in
     let i : ℕ = c.args.row in
     let j : ℕ = c.args.column in
@@ -37,6 +38,6 @@ returns c =
     let e = c.add_term.ensures in
     record {
       small = w.small;
-      sum = e.0 ∙ (λ t. w.sum t +ℤ read (goal.at.returns c).Start t *ℤ pos (get_or y i 0 * get_or y j 0)) ∙ sym (so_far_next y i j c.requires.in_table.1);
+      sum = e.0 ∙ (λ t. w.sum t +ℤ read start t *ℤ pos (get_or y i 0 * get_or y j 0)) ∙ sym (so_far_next y i j c.requires.in_table.1);
       room = omega (arith, w.room, e.1);
     }

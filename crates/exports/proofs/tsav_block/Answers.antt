@@ -10,7 +10,8 @@ use Rattle.exports.proofs.tsav_block.Goals as goal
 pub returns-in-Accepted : goal.returns-in-Accepted
 returns-in-Accepted c =
     let e = c.block_call-answer.ensures in
-    with_promise (λ o. BlockDemand3 c.args.numbers.now o × FewSteps o) e.outcome (e.demand3, e.few_steps) (answered stated c.in-Accepted.is e.outcome (accepts_block _).never_0 refl refl refl)
+    with_promise (λ o. BlockDemand3 c.args.numbers.now o × FewSteps o) e.outcome (e.demand3, e.few_steps)
+    (answered stated c.in-Accepted.is e.outcome (accepts_block _).never_0 refl refl refl)
 
 pub returns-in-Refused : goal.returns-in-Refused
 returns-in-Refused c =

@@ -28,5 +28,4 @@ pub returns : goal.returns
 returns c = sym (field_end _ _ c.loop-i-test.false) ∙ c.loop-i.invariant.1
 
 pub loop-i-smaller : goal.loop-i-smaller
-loop-i-smaller c = search
-    rules
+loop-i-smaller c = search rules

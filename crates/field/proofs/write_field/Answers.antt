@@ -19,5 +19,4 @@ pub returns : goal.returns
 returns c = all_written c.loop-i.invariant c.loop-i-test.false ∙ simp length-set
 
 pub bounds-out-i-in-loop-i : goal.bounds-out-i-in-loop-i
-bounds-out-i-in-loop-i c = search
-    rules
+bounds-out-i-in-loop-i c = search rules

@@ -37,8 +37,12 @@ positive c = omega (arith, c.if-u-eq0.false)
 
 pub divide_up-requires : goal.divide_up-requires
 divide_up-requires c =
-    quotient_divides _ _ _ c.requires (positive (goal.at.divide_up-requires c).Else-u-eq0) _ _ (numerator (goal.at.divide_up-requires c).After-add-numerator) c.quotient_up.ensures
+    let u_eq0 = (goal.at.divide_up-requires c).Else-u-eq0 in
+    let add_numerator = (goal.at.divide_up-requires c).After-add-numerator in
+    quotient_divides _ _ _ c.requires (positive u_eq0) _ _ (numerator add_numerator) c.quotient_up.ensures
 
 pub returns : goal.returns
 returns c =
-    c.divide_up.ensures ∙ requirement_is _ _ _ c.requires (positive (goal.at.returns c).Else-u-eq0) _ _ (numerator (goal.at.returns c).After-add-numerator) c.quotient_up.ensures
+    let u_eq0 = (goal.at.returns c).Else-u-eq0 in
+    let add_numerator = (goal.at.returns c).After-add-numerator in
+    c.divide_up.ensures ∙ requirement_is _ _ _ c.requires (positive u_eq0) _ _ (numerator add_numerator) c.quotient_up.ensures

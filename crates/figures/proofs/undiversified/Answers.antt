@@ -8,5 +8,4 @@ unfolding U A
 returns c = search rules
 
 pub overflow_add-result-7 : goal.overflow_add-result-7
-overflow_add-result-7 c = search
-    rules
+overflow_add-result-7 c = search rules

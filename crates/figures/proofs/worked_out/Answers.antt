@@ -35,12 +35,13 @@ in_half_cents-requires-2 c =
 pub returns : goal.returns
 unfolding figures_of steps_of
 returns c =
+    let diversified_joint = (goal.at.returns c).After-diversified-joint in
     let u = c.undiversified-u.ensures in
     let t = c.level_and_trend-lt.ensures in
-    let k = adjusted_found _ _ _ _ _ u t (joined (goal.at.returns c).After-diversified-joint) c.adjusted-k.ensures in
+    let k = adjusted_found _ _ _ _ _ u t (joined diversified_joint) c.adjusted-k.ensures in
     let i = c.insurance-insurance.ensures in
     let h = i_found _ _ _ i.0 c.in_half_cents.ensures in
-    let e = d_found _ _ _ (joined (goal.at.returns c).After-diversified-joint) c.in_half_cents-2.ensures in (
+    let e = d_found _ _ _ (joined diversified_joint) c.in_half_cents-2.ensures in (
       (λ j. h j ∷ e j ∷ u j ∷ t j ∷ k j ∷ []),
       λ j. i.1 j ∷ (c.diversified-joint.ensures.1 ∙ ap steps (joint_radicand _ _ i.0)) j ∷ [],
     )

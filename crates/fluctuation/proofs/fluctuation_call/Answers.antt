@@ -30,10 +30,12 @@ after_18 : (c : Else-row-gt-ROWS) →
 after_18 c = passed_18 _ _ _ c.if-row-lt1.false (omega (arith, c.if-row-gt-ROWS.false))
 
 pub returns-then-above-lt2 : goal.returns-then-above-lt2
-returns-then-above-lt2 c = record {
-  outcome = sym (after_18 (goal.at.returns-then-above-lt2 c).Else-row-gt-ROWS ∙ refused_7 _ _ _ c.first_above-above.ensures (omega (arith, c.if-above-lt2.true)));
-  accuracy = tt;
-}
+returns-then-above-lt2 c =
+    let row_gt_rows = (goal.at.returns-then-above-lt2 c).Else-row-gt-ROWS in
+    record {
+      outcome = sym (after_18 row_gt_rows ∙ refused_7 _ _ _ c.first_above-above.ensures (omega (arith, c.if-above-lt2.true)));
+      accuracy = tt;
+    }
 
 pub fluctuation-requires : goal.fluctuation-requires
 fluctuation-requires c =
@@ -43,9 +45,10 @@ fluctuation-requires c =
 
 pub returns : goal.returns
 returns c =
+    let row_gt_rows = (goal.at.returns c).Else-row-gt-ROWS in
     let e =
     ap (λ (x : ℕ). accepted (x ∷ [])) c.fluctuation.ensures
-    ∙ sym (after_18 (goal.at.returns c).Else-row-gt-ROWS ∙ passed_7 _ _ _ c.first_above-above.ensures (omega (arith, c.if-above-lt2.false))) in record {
+    ∙ sym (after_18 row_gt_rows ∙ passed_7 _ _ _ c.first_above-above.ensures (omega (arith, c.if-above-lt2.false))) in record {
       outcome = e;
       accuracy = fluctuation_demanded _ _ _ _ e;
     }

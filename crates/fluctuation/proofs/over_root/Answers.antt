@@ -50,10 +50,16 @@ sum_is : (c : After-times) → value c.times.result + value (record { high = 0; 
 sum_is c = omega (arith, c.times.ensures, one_word c.divide_up-part.result)
 
 pub add-radicand-requires : goal.add-radicand-requires
-add-radicand-requires c = in_words _ (omega (arith, sum_is (goal.at.add-radicand-requires c).After-times, radicand_small (goal.at.add-radicand-requires c).After-divide_up-part))
+add-radicand-requires c =
+    let times = (goal.at.add-radicand-requires c).After-times in
+    let divide_up_part = (goal.at.add-radicand-requires c).After-divide_up-part in
+    in_words _ (omega (arith, sum_is times, radicand_small divide_up_part))
 
 pub root_up-requires : goal.root_up-requires
-root_up-requires c = in_root _ (omega (arith, c.add-radicand.ensures, sum_is (goal.at.root_up-requires c).After-times, radicand_small (goal.at.root_up-requires c).After-divide_up-part))
+root_up-requires c =
+    let times = (goal.at.root_up-requires c).After-times in
+    let divide_up_part = (goal.at.root_up-requires c).After-divide_up-part in
+    in_root _ (omega (arith, c.add-radicand.ensures, sum_is times, radicand_small divide_up_part))
 
 pub returns : goal.returns
 returns c =

@@ -8,9 +8,8 @@ unfolding ys y
 returns c = search rules
 
 pub bounds-b-7 : goal.bounds-b-7
-bounds-b-7 c = search
-    rules
+bounds-b-7 c = search rules
 
 pub bounds-b-11 : goal.bounds-b-11
-bounds-b-11 = (λ
-    c. search rules)
+bounds-b-11 c =
+    search rules

@@ -71,10 +71,14 @@ pub overflow_add-free : goal.overflow_add-free
 overflow_add-free c = let l = c.requires.ledger in omega (arith, free_is c l.0 l.1, free_small l.0 l.1.lines)
 
 pub returns-then-available-free : goal.returns-then-available-free
-returns-then-available-free c = record {
-  findings = λ es H. credits_above es (none_barred (goal.at.returns-then-available-free c).Else-w es H) (omega (arith, c.if-available-free.true, total (goal.at.returns-then-available-free c).After-general_amount es H, free_is (goal.at.returns-then-available-free c).After-general_amount-2 es H));
-  behind_rows = tt;
-}
+returns-then-available-free c =
+    let at_w = (goal.at.returns-then-available-free c).Else-w in
+    let general_amount = (goal.at.returns-then-available-free c).After-general_amount in
+    let general_amount_2 = (goal.at.returns-then-available-free c).After-general_amount-2 in
+    record {
+      findings = λ es H. credits_above es (none_barred at_w es H) (omega (arith, c.if-available-free.true, total general_amount es H, free_is general_amount_2 es H));
+      behind_rows = tt;
+    }
 
 scalar_is_g : (c : After-general_amount-3) (es : List Entry) → Lines (goal.at.After-general_amount-3 c).Start es
     → c.general_amount-3.result ≡ (sheet_of es).g
@@ -83,13 +87,18 @@ scalar_is_g c es H = c.general_amount-3.ensures ∙ general_is H 4 (omega arith,
 
 pub scaled-buffer-requires : goal.scaled-buffer-requires
 scaled-buffer-requires c =
+    let general_amount = (goal.at.scaled-buffer-requires c).After-general_amount in
     let p = c.requires in
     let l = p.ledger in
-    (omega (arith, scalar_is_g c l.0 l.1, (scalar_ranged l.0 l.1.lines (p.credited l.0 l.1).scalar).1), omega (arith, small (goal.at.scaled-buffer-requires c).After-general_amount))
+    (omega (arith, scalar_is_g c l.0 l.1, (scalar_ranged l.0 l.1.lines (p.credited l.0 l.1).scalar).1), omega (arith, small general_amount))
 
 pub returns : goal.returns
 unfolding sheet_of
 returns c =
+    let general_amount_3 = (goal.at.returns c).After-general_amount-3 in
+    let general_amount = (goal.at.returns c).After-general_amount in
+    let general_amount_2 = (goal.at.returns c).After-general_amount-2 in
+    let at_w = (goal.at.returns c).Else-w in
     let w = c.work_out-w.ensures in record {
       findings = λ es H.
           let worked = w.worked_out es H in
@@ -99,9 +108,9 @@ returns c =
             rows_are = worked.front;
             sum_is = worked.sum;
             ro_is = c.operational_figure-ro.ensures es H;
-            buffer_is = buffer_is es _ _ _ _ (scalar_is_g (goal.at.returns c).After-general_amount-3 es H) (total (goal.at.returns c).After-general_amount es H) (free_is (goal.at.returns c).After-general_amount-2 es H) c.scaled-buffer.ensures;
+            buffer_is = buffer_is es _ _ _ _ (scalar_is_g general_amount_3 es H) (total general_amount es H) (free_is general_amount_2 es H) c.scaled-buffer.ensures;
           })
-          ∙ passes es (none_barred (goal.at.returns c).Else-w es H) (omega (arith, c.if-available-free.false, total (goal.at.returns c).After-general_amount es H, free_is (goal.at.returns c).After-general_amount-2 es H));
+          ∙ passes es (none_barred at_w es H) (omega (arith, c.if-available-free.false, total general_amount es H, free_is general_amount_2 es H));
       behind_rows = w.rest_kept;
     }
 

@@ -2,5 +2,5 @@
 use Rattle.layout.proofs.fields_of.Goals as goal
 
 pub returns : goal.returns
-returns = (λ c.
-    rw (c.in-Value.is, c.in-Value-class.is, c.in-Value-first.is, c.in-Value-second.is))
+returns c =
+    rw (c.in-Value.is, c.in-Value-class.is, c.in-Value-first.is, c.in-Value-second.is)

@@ -82,6 +82,6 @@ fields_of-requires c = search tests
 
 pub returns : goal.returns
 unfolding layout_of
-returns = (λ c.
+returns c =
     side_true _ _ _ _ _ c.separated.ensures c.if-not-separated.false
-    (c.fields_of.ensures ∙ rw (c.read_field-block.ensures, c.read_field-class.ensures, c.read_field-first.ensures, c.read_field-second.ensures)))
+    (c.fields_of.ensures ∙ rw (c.read_field-block.ensures, c.read_field-class.ensures, c.read_field-first.ensures, c.read_field-second.ensures))

@@ -28,15 +28,18 @@ returns-then-kept-lt-INPUT_LINES c =
 
 pub write_movements-requires : goal.write_movements-requires
 write_movements-requires c =
+    let block_call_answer = (goal.at.write_movements-requires c).After-block_call-answer in
     let e = sym (ap stated c.in-Accepted.is) ∙ c.block_call-answer.ensures.outcome in
-    (unmoved (input (goal.at.write_movements-requires c).After-block_call-answer) c.block_of-block.ensures _ _ e, omega (arith, c.write_movements-arg-1.given))
+    (unmoved (input block_call_answer) c.block_of-block.ensures _ _ e, omega (arith, c.write_movements-arg-1.given))
 
 pub returns-in-Refused : goal.returns-in-Refused
 returns-in-Refused c =
-    promised _ _ _ (block_refused _ _ c.if-input-ne-INPUT_BYTES.false c.lines_kept-kept.ensures c.if-kept-lt-INPUT_LINES.false (said (goal.at.returns-in-Refused c).After-block_call-answer _ c.in-Refused.is))
+    let block_call_answer = (goal.at.returns-in-Refused c).After-block_call-answer in
+    promised _ _ _ (block_refused _ _ c.if-input-ne-INPUT_BYTES.false c.lines_kept-kept.ensures c.if-kept-lt-INPUT_LINES.false (said block_call_answer _ c.in-Refused.is))
 
 pub returns-in-Accepted : goal.returns-in-Accepted
 returns-in-Accepted c =
+    let block_call_answer = (goal.at.returns-in-Accepted c).After-block_call-answer in
     promised _ _ _
-    (all_told _ _ c.if-input-ne-INPUT_BYTES.false c.lines_kept-kept.ensures c.if-kept-lt-INPUT_LINES.false (said (goal.at.returns-in-Accepted c).After-block_call-answer _ c.in-Accepted.is)
+    (all_told _ _ c.if-input-ne-INPUT_BYTES.false c.lines_kept-kept.ensures c.if-kept-lt-INPUT_LINES.false (said block_call_answer _ c.in-Accepted.is)
     (omega (arith, c.write_movements-arg-1.given)) c.block_of-block.ensures c.number_at-raise.ensures c.write_movements.ensures)

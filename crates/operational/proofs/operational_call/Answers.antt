@@ -30,7 +30,8 @@ returns-then-above-n c = sym (after_15 (goal.at.returns-then-above-n c).Else-n-n
 
 pub returns-then-after-lt-GENERAL_FIGURES : goal.returns-then-after-lt-GENERAL_FIGURES
 returns-then-after-lt-GENERAL_FIGURES c =
-    sym (after_15 (goal.at.returns-then-after-lt-GENERAL_FIGURES c).Else-n-ne0 ∙ in_general _ _ c.first_above-above.ensures c.if-above-n.false c.first_above-after.ensures (omega arith))
+    let n_ne0 = (goal.at.returns-then-after-lt-GENERAL_FIGURES c).Else-n-ne0 in
+    sym (after_15 n_ne0 ∙ in_general _ _ c.first_above-above.ensures c.if-above-n.false c.first_above-after.ensures (omega arith))
 
 pub operational-requires : goal.operational-requires
 operational-requires c =
@@ -38,5 +39,6 @@ operational-requires c =
 
 pub returns : goal.returns
 returns c =
+    let n_ne0 = (goal.at.returns c).Else-n-ne0 in
     ap (λ (x : ℕ). accepted (x ∷ [])) c.operational.ensures
-    ∙ sym (after_15 (goal.at.returns c).Else-n-ne0 ∙ passed_7 _ _ c.first_above-above.ensures c.if-above-n.false c.first_above-after.ensures (omega arith))
+    ∙ sym (after_15 n_ne0 ∙ passed_7 _ _ c.first_above-above.ensures c.if-above-n.false c.first_above-after.ensures (omega arith))

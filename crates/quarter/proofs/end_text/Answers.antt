@@ -24,7 +24,9 @@ returns-then-q c =
     finished_24 _ _ (left (goal.at.returns-then-q c).Start).0 c.if-q.true _ c.write_refusal.ensures
 
 pub write_refusal-requires-then-held-ne0 : goal.write_refusal-requires-then-held-ne0
-write_refusal-requires-then-held-ne0 c = omega (arith, line_long c.args.out.now c.args.q.sheets (left (goal.at.write_refusal-requires-then-held-ne0 c).Start).0)
+write_refusal-requires-then-held-ne0 c =
+    let start = (goal.at.write_refusal-requires-then-held-ne0 c).Start in
+    omega (arith, line_long c.args.out.now c.args.q.sheets (left start).0)
 
 pub returns-then-held-ne0 : goal.returns-then-held-ne0
 returns-then-held-ne0 c =
@@ -32,7 +34,8 @@ returns-then-held-ne0 c =
 
 pub write_items-requires : goal.write_items-requires
 write_items-requires c =
-    (omega arith, stretch_long _ _ _ (left (goal.at.write_items-requires c).Start).0 ∙ ap (λ (v : List ℕ). line_bytes columns * length v) (sym c.items-items.ensures))
+    let start = (goal.at.write_items-requires c).Start in
+    (omega arith, stretch_long _ _ _ (left start).0 ∙ ap (λ (v : List ℕ). line_bytes columns * length v) (sym c.items-items.ensures))
 
 pub returns : goal.returns
 returns c =

@@ -56,11 +56,14 @@ answer_sheet-summary-requires c =
     (stretch_long _ _ _ (line_fits c.loop-at.invariant c.if-sheets-eq-MOST_SHEETS.false), few c.loop-at.invariant)
 
 pub loop-at-smaller : goal.loop-at-smaller
-loop-at-smaller c = omega (arith, (closed (goal.at.loop-at-smaller c).In-Closed).3, (closed (goal.at.loop-at-smaller c).In-Closed).4)
+loop-at-smaller c =
+    let at_closed = (goal.at.loop-at-smaller c).In-Closed in
+    omega (arith, (closed at_closed).3, (closed at_closed).4)
 
 pub loop-at-preserved : goal.loop-at-preserved
 loop-at-preserved c =
-    taken_next c.loop-at.invariant c.feed-fed.ensures c.feed-fed.auto.room c.if-sheets-eq-MOST_SHEETS.false c.in-Closed.is c.answer_sheet-summary.ensures.line_after c.fresh-held.ensures c.answer_sheet-summary.ensures.summed
+    taken_next c.loop-at.invariant c.feed-fed.ensures c.feed-fed.auto.room c.if-sheets-eq-MOST_SHEETS.false c.in-Closed.is
+    c.answer_sheet-summary.ensures.line_after c.fresh-held.ensures c.answer_sheet-summary.ensures.summed
 
 pub shape_of-room : goal.shape_of-room
 shape_of-room c = rooms c.loop-at.invariant

@@ -27,7 +27,8 @@ letters c = search rules
 
 pub loop-k-preserved : goal.loop-k-preserved
 loop-k-preserved c =
-    next_item _ _ c.loop-k.invariant c.requires.0 c.requires.1 c.loop-k-test.true (letters (goal.at.loop-k-preserved c).Start) (rw c.word-item.ensures at c.write_line_in.ensures)
+    let start = (goal.at.loop-k-preserved c).Start in
+    next_item _ _ c.loop-k.invariant c.requires.0 c.requires.1 c.loop-k-test.true (letters start) (rw c.word-item.ensures at c.write_line_in.ensures)
 
 pub shape_of-out : goal.shape_of-out
 shape_of-out c = c.loop-k.invariant.front.long

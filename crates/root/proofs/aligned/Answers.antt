@@ -17,11 +17,12 @@ fits c = start_fits (value c.args.n) c.args.count (64 - c.args.count) c.requires
 pub returns-then-count-le32 : goal.returns-then-count-le32
 unfolding value
 returns-then-count-le32 c =
+    let start = (goal.at.returns-then-count-le32 c).Start in
     let h = c.args.n.high in
     let l = c.args.n.low in
     let k = c.args.count in
     let p = far_power k c.if-count-le32.true in
-    far (2 ^ 64) (2 ^ (64 - 2 * k)) h l (pow_pos 64) (pow_pos (64 - 2 * k)) (subst (λ (x : ℕ). (h * 2 ^ 64 + l) * x < 2 ^ 128) (sym p) (fits (goal.at.returns-then-count-le32 c).Start))
+    far (2 ^ 64) (2 ^ (64 - 2 * k)) h l (pow_pos 64) (pow_pos (64 - 2 * k)) (subst (λ (x : ℕ). (h * 2 ^ 64 + l) * x < 2 ^ 128) (sym p) (fits start))
     ∙ ap (λ (x : ℕ). (h * 2 ^ 64 + l) * x) p
 
 -- the same bound in powers of 2

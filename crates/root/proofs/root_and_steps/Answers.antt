@@ -44,8 +44,10 @@ to_go c = omega (arith, c.loop-j-test.true, c.count_steps-count.ensures)
 
 pub root_step-s-requires : goal.root_step-s-requires
 root_step-s-requires c =
+    let at_loop_j = (goal.at.root_step-s-requires c).At-loop-j in
+    let in_loop_j = (goal.at.root_step-s-requires c).In-loop-j in
     let p = c.requires in
-    (small _ p _ _ _ _ (held (goal.at.root_step-s-requires c).At-loop-j), root_small _ p _ _ _ _ (to_go (goal.at.root_step-s-requires c).In-loop-j) (held (goal.at.root_step-s-requires c).At-loop-j), c.top_digits.ensures.1)
+    (small _ p _ _ _ _ (held at_loop_j), root_small _ p _ _ _ _ (to_go in_loop_j) (held at_loop_j), c.top_digits.ensures.1)
 
 -- what a call gives is in its type's range
 window_fits : (c : After-bring_down-window) → value c.bring_down-window.result < 2 ^ 128
@@ -76,8 +78,12 @@ overflow_add-result c =
 
 pub returns-then-rest-eq0 : goal.returns-then-rest-eq0
 returns-then-rest-eq0 c =
-    (exact_root _ c.requires _ _ _ _ (gone (goal.at.returns-then-rest-eq0 c).After-loop-j) (held (goal.at.returns-then-rest-eq0 c).At-loop-j) (omega (arith, c.if-rest-eq0.true)), c.count_steps-count.ensures)
+    let after_loop_j = (goal.at.returns-then-rest-eq0 c).After-loop-j in
+    let at_loop_j = (goal.at.returns-then-rest-eq0 c).At-loop-j in
+    (exact_root _ c.requires _ _ _ _ (gone after_loop_j) (held at_loop_j) (omega (arith, c.if-rest-eq0.true)), c.count_steps-count.ensures)
 
 pub returns-else-rest-eq0 : goal.returns-else-rest-eq0
 returns-else-rest-eq0 c =
-    (next_root _ c.requires _ _ _ _ (gone (goal.at.returns-else-rest-eq0 c).After-loop-j) (held (goal.at.returns-else-rest-eq0 c).At-loop-j) (omega (arith, c.if-rest-eq0.false)), c.count_steps-count.ensures)
+    let after_loop_j = (goal.at.returns-else-rest-eq0 c).After-loop-j in
+    let at_loop_j = (goal.at.returns-else-rest-eq0 c).At-loop-j in
+    (next_root _ c.requires _ _ _ _ (gone after_loop_j) (held at_loop_j) (omega (arith, c.if-rest-eq0.false)), c.count_steps-count.ensures)

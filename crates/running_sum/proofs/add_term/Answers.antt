@@ -38,19 +38,29 @@ term c = λ i. sized c i * c.columns_of-p.ensures.0 i
 pub returns-then-factor-lt0 : goal.returns-then-factor-lt0
 unfolding held filled
 returns-then-factor-lt0 c =
+    let columns_of_p = (goal.at.returns-then-factor-lt0 c).After-columns_of-p in
     let s = c.args.s in
-    let e = c.add_columns.ensures in
-    (taken_away _ _ (same (goal.at.returns-then-factor-lt0 c).After-columns_of-p) c.if-factor-lt0.true (number s.added) _ _ _ (e.0 ∙ ap (λ (x : ℕ). number s.taken + x) (term (goal.at.returns-then-factor-lt0 c).After-columns_of-p)), omega (arith, small (goal.at.returns-then-factor-lt0 c).After-columns_of-p, e.1))
+    let e = c.add_columns.ensures in (
+      taken_away _ _ (same columns_of_p) c.if-factor-lt0.true (number s.added) _ _ _ (e.0 ∙ ap (λ (x : ℕ). number s.taken + x) (term columns_of_p)),
+      omega (arith, small columns_of_p, e.1),
+    )
 
 pub returns-else-factor-lt0 : goal.returns-else-factor-lt0
 unfolding held filled
 returns-else-factor-lt0 c =
+    let columns_of_p = (goal.at.returns-else-factor-lt0 c).After-columns_of-p in
     let s = c.args.s in
-    let e = c.add_columns-else-factor-lt0.ensures in
-    (added_to _ _ (same (goal.at.returns-else-factor-lt0 c).After-columns_of-p) c.if-factor-lt0.false _ (number s.taken) _ _ (e.0 ∙ ap (λ (x : ℕ). number s.added + x) (term (goal.at.returns-else-factor-lt0 c).After-columns_of-p)), omega (arith, small (goal.at.returns-else-factor-lt0 c).After-columns_of-p, e.1))
+    let e = c.add_columns-else-factor-lt0.ensures in (
+      added_to _ _ (same columns_of_p) c.if-factor-lt0.false _ (number s.taken) _ _ (e.0 ∙ ap (λ (x : ℕ). number s.added + x) (term columns_of_p)),
+      omega (arith, small columns_of_p, e.1),
+    )
 
 pub add_columns-requires : goal.add_columns-requires
-add_columns-requires c = omega (arith, small (goal.at.add_columns-requires c).After-columns_of-p, parts (goal.at.add_columns-requires c).After-columns_of-p)
+add_columns-requires c =
+    let columns_of_p = (goal.at.add_columns-requires c).After-columns_of-p in
+    omega (arith, small columns_of_p, parts columns_of_p)
 
 pub add_columns-requires-else-factor-lt0 : goal.add_columns-requires-else-factor-lt0
-add_columns-requires-else-factor-lt0 c = omega (arith, small (goal.at.add_columns-requires-else-factor-lt0 c).After-columns_of-p, parts (goal.at.add_columns-requires-else-factor-lt0 c).After-columns_of-p)
+add_columns-requires-else-factor-lt0 c =
+    let columns_of_p = (goal.at.add_columns-requires-else-factor-lt0 c).After-columns_of-p in
+    omega (arith, small columns_of_p, parts columns_of_p)

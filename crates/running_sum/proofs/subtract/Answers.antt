@@ -27,7 +27,8 @@ returns-then-bl-al c =
 pub returns-else-bl-al : goal.returns-else-bl-al
 unfolding value
 returns-else-bl-al c =
-    minus_borrow (2 ^ 64) c.args.a.high c.args.a.low c.args.b.high c.args.b.low (borrowed c) c.if-bl-al.false (fits (goal.at.returns-else-bl-al c).Start).1
+    let start = (goal.at.returns-else-bl-al c).Start in
+    minus_borrow (2 ^ 64) c.args.a.high c.args.a.low c.args.b.high c.args.b.low (borrowed c) c.if-bl-al.false (fits start).1
 
 pub overflow_sub-result : goal.overflow_sub-result
 overflow_sub-result c = no_borrow (goal.at.overflow_sub-result c).Start

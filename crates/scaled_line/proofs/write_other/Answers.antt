@@ -18,5 +18,4 @@ returns c =
     line_other c.args.scale c.args.s.now (sym c.read_in-read.ensures ∙ c.in-Good.is) c.requires.0 _ c.other_letters.ensures c.rescaled.ensures c.write_lettered.ensures
 
 pub shape_of-out : goal.shape_of-out
-shape_of-out c = search
-    rules
+shape_of-out c = search rules

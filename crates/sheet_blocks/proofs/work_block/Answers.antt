@@ -43,13 +43,16 @@ joined-requires c =
     omega (arith, room (goal.at.joined-requires c).Start, c.dividend_credit-dividend.ensures c.requires.ledger.0 c.requires.ledger.1)
 
 pub returns-then-not-block_exists : goal.returns-then-not-block_exists
-returns-then-not-block_exists c = record {
-  worked_out = λ es H.
-      let s = c.requires in
-      rw c.joined.ensures
-      (absent es s.block_number.0 (s.worked_before es H) (sym (existence (goal.at.returns-then-not-block_exists c).After-block_exists es H) ∙ c.if-not-block_exists.true) _ _ (c.dividend_credit-dividend.ensures es H) (c.has_dividend.ensures es H));
-  rest_kept = rw c.joined.ensures (omega arith, refl);
-}
+returns-then-not-block_exists c =
+    let block_exists = (goal.at.returns-then-not-block_exists c).After-block_exists in
+    record {
+      worked_out = λ es H.
+          let s = c.requires in
+          rw c.joined.ensures
+          (absent es s.block_number.0 (s.worked_before es H) (sym (existence block_exists es H) ∙ c.if-not-block_exists.true)
+          _ _ (c.dividend_credit-dividend.ensures es H) (c.has_dividend.ensures es H));
+      rest_kept = rw c.joined.ensures (omega arith, refl);
+    }
 
 pub figures_of-f-requires : goal.figures_of-f-requires
 figures_of-f-requires c =
@@ -73,19 +76,26 @@ figured c es H =
 
 pub joined-requires-2 : goal.joined-requires-2
 joined-requires-2 c =
+    let start = (goal.at.joined-requires-2 c).Start in
+    let figures_of_f = (goal.at.joined-requires-2 c).After-figures_of-f in
     let l = c.requires.ledger in
-    omega (arith, room (goal.at.joined-requires-2 c).Start, (figured (goal.at.joined-requires-2 c).After-figures_of-f l.0 l.1).1, c.dividend_credit-dividend.ensures l.0 l.1)
+    omega (arith, room start, (figured figures_of_f l.0 l.1).1, c.dividend_credit-dividend.ensures l.0 l.1)
 
 pub returns : goal.returns
 returns c =
+    let start = (goal.at.returns c).Start in
+    let block_exists = (goal.at.returns c).After-block_exists in
     let l = c.requires.ledger in record {
       worked_out = λ es H.
           let w = figured (goal.at.returns c).After-figures_of-f es H in
           rw (c.joined-2.ensures, c.store.ensures)
-          (present es c.requires.block_number.0 (c.requires.worked_before es H) (room (goal.at.returns c).Start).0 (sym (existence (goal.at.returns c).After-block_exists es H) ∙ c.if-not-block_exists.false) _ _ _ w.0 w.1
+          (present es c.requires.block_number.0 (c.requires.worked_before es H) (room start).0 (sym (existence block_exists es H) ∙ c.if-not-block_exists.false) _ _ _ w.0 w.1
           (c.dividend_credit-dividend.ensures es H));
-      rest_kept = rw (c.joined-2.ensures, c.store.ensures)
-          (omega arith, row_behind c.args.rows.now c.args.w.count (c.args.block ∷ figure_list c.figures_of-f.result) (omega (arith, (room (goal.at.returns c).Start).0, (c.requires.worked_before l.0 l.1).long)) refl);
+      rest_kept = rw (c.joined-2.ensures, c.store.ensures) (
+        omega arith,
+        row_behind c.args.rows.now c.args.w.count (c.args.block ∷ figure_list c.figures_of-f.result)
+            (omega (arith, (room start).0, (c.requires.worked_before l.0 l.1).long)) refl,
+      );
     }
 
 pub overflow_mul-w : goal.overflow_mul-w

@@ -25,8 +25,11 @@ work_block-w-requires c =
 pub loop-block-preserved : goal.loop-block-preserved
 loop-block-preserved c =
     let l = c.loop-block in
-    let e = c.work_block-w.ensures in
-    (search rules, e.worked_out, e.rest_kept.1 ∙ from_further _ _ {k = row_numbers * l.w.count} {m = row_numbers * c.work_block-w.result.count} (omega (arith, e.rest_kept.0)) l.invariant.2)
+    let e = c.work_block-w.ensures in (
+      search rules,
+      e.worked_out,
+      e.rest_kept.1 ∙ from_further _ _ {k = row_numbers * l.w.count} {m = row_numbers * c.work_block-w.result.count} (omega (arith, e.rest_kept.0)) l.invariant.2,
+    )
 
 pub returns : goal.returns
 returns c =

@@ -24,7 +24,8 @@ overflow_add-result c =
 
 pub returns-then-unmet : goal.returns-then-unmet
 returns-then-unmet c =
-    ap (λ (n : ℕ). n + 1) c.requires.2 ∙ count_more c.args.firsts.now c.args.seconds.now _ c.requires.0 (sym (asked (goal.at.returns-then-unmet c).After-unmet) ∙ c.if-unmet.true)
+    let at_unmet = (goal.at.returns-then-unmet c).After-unmet in
+    ap (λ (n : ℕ). n + 1) c.requires.2 ∙ count_more c.args.firsts.now c.args.seconds.now _ c.requires.0 (sym (asked at_unmet) ∙ c.if-unmet.true)
 
 pub returns : goal.returns
 returns c =

@@ -31,6 +31,7 @@ write_listing-requires c = omega (arith, c.if-room-length.false, long (goal.at.w
 
 pub returns : goal.returns
 returns c =
+    let count_unmet_length = (goal.at.returns c).After-count_unmet-length in
     let h : listed_bytes * c.count_unmet-length.result ≤ length c.args.room.now = omega (arith, c.if-room-length.false) in
-    lent_filled _ _ refl (long (goal.at.returns c).After-count_unmet-length) h
-    (c.write_listing.ensures ∙ ap (λ (n : ℕ). walked c.args.firsts.now c.args.seconds.now ++ drop n c.args.room.now) (sym (long (goal.at.returns c).After-count_unmet-length)))
+    lent_filled _ _ refl (long count_unmet_length) h
+    (c.write_listing.ensures ∙ ap (λ (n : ℕ). walked c.args.firsts.now c.args.seconds.now ++ drop n c.args.room.now) (sym (long count_unmet_length)))

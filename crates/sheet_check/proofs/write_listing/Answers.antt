@@ -26,7 +26,8 @@ write_one-at-requires c = (omega arith, search rules, left (goal.at.write_one-at
 
 pub loop-n-preserved : goal.loop-n-preserved
 loop-n-preserved c =
-    (search rules, next_put c.args.firsts.now c.args.seconds.now c.loop-n.n c.loop-n.invariant.1 (left (goal.at.loop-n-preserved c).In-loop-n) c.write_one-at.ensures)
+    let loop_n = (goal.at.loop-n-preserved c).In-loop-n in
+    (search rules, next_put c.args.firsts.now c.args.seconds.now c.loop-n.n c.loop-n.invariant.1 (left loop_n) c.write_one-at.ensures)
 
 pub shape_of-room : goal.shape_of-room
 shape_of-room c = c.loop-n.invariant.1.long

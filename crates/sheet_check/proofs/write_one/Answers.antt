@@ -25,7 +25,9 @@ is_unmet : (c : Else-not-unmet) → unmet_at c.args.firsts.now c.args.seconds.no
 is_unmet c = sym (asked (goal.at.Else-not-unmet c).After-unmet) ∙ c.if-not-unmet.false
 
 pub returns-then-not-unmet : goal.returns-then-not-unmet
-returns-then-not-unmet c = none_put c.args.firsts.now c.args.seconds.now c.args.n _ _ (sym (asked (goal.at.returns-then-not-unmet c).After-unmet) ∙ c.if-not-unmet.true)
+returns-then-not-unmet c =
+    let at_unmet = (goal.at.returns-then-not-unmet c).After-unmet in
+    none_put c.args.firsts.now c.args.seconds.now c.args.n _ _ (sym (asked at_unmet) ∙ c.if-not-unmet.true)
 
 -- what the n-th needs
 needed : (c : After-need_of-need) → c.need_of-need.result ≡ need_of (needing c.args.n)
@@ -33,11 +35,14 @@ needed c = c.need_of-need.ensures ∙ ap need_of c.needing-line.ensures
 
 pub returns-in_default : goal.returns-in_default
 returns-in_default c =
-    never_nothing c.args.firsts.now c.args.seconds.now c.args.n 0 [] (is_unmet (goal.at.returns-in_default c).Else-not-unmet) (sym (needed (goal.at.returns-in_default c).After-need_of-need) ∙ c.in_default.is)
+    let not_unmet = (goal.at.returns-in_default c).Else-not-unmet in
+    let need_of_need = (goal.at.returns-in_default c).After-need_of-need in
+    never_nothing c.args.firsts.now c.args.seconds.now c.args.n 0 [] (is_unmet not_unmet) (sym (needed need_of_need) ∙ c.in_default.is)
 
 pub slice_bounds-write_listed-end : goal.slice_bounds-write_listed-end
 slice_bounds-write_listed-end c =
-    omega (arith, c.requires.2, one_long c.args.firsts.now c.args.seconds.now c.args.n 0 [] (is_unmet (goal.at.slice_bounds-write_listed-end c).Else-not-unmet))
+    let not_unmet = (goal.at.slice_bounds-write_listed-end c).Else-not-unmet in
+    omega (arith, c.requires.2, one_long c.args.firsts.now c.args.seconds.now c.args.n 0 [] (is_unmet not_unmet))
 
 pub returns : goal.returns
 returns c =

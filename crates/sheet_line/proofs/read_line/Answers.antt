@@ -34,7 +34,7 @@ rule_3-requires c = search rules
 
 pub returns : goal.returns
 unfolding parse_line
-returns = (λ c.
+returns c =
     let l = c.args.s.now in
     let all : take sheet_line_bytes l ≡ l = take_all sheet_line_bytes l (omega (arith, c.requires)) in
-    rw (c.rule_3.ensures, c.read_code-coded.ensures, c.read_layout-layout.ensures, all))
+    rw (c.rule_3.ensures, c.read_code-coded.ensures, c.read_layout-layout.ensures, all)

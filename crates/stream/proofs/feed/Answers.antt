@@ -21,5 +21,4 @@ pub returns : goal.returns
 returns c = all_fed c.loop-i.invariant c.loop-i-test.false
 
 pub enum_known-s-in-On-1 : goal.enum_known-s-in-On-1
-enum_known-s-in-On-1 c = search
-    rules
+enum_known-s-in-On-1 c = search rules

@@ -20,8 +20,11 @@ returns-then-amount_of-gt0 c =
     some_found _ _ _ (omega (arith, c.loop-class-test.true)) c.loop-class.invariant.1 c.amount_of.ensures c.if-amount_of-gt0.true
 
 pub loop-class-preserved : goal.loop-class-preserved
-loop-class-preserved c =
-    (search rules, some_more (tabled c.args.firsts.now) c.args.block _ (omega (arith, c.loop-class-test.true)) c.loop-class.invariant.1 c.amount_of.ensures c.if-amount_of-gt0.false)
+loop-class-preserved c = (
+  search rules,
+  some_more (tabled c.args.firsts.now) c.args.block _ (omega (arith, c.loop-class-test.true))
+      c.loop-class.invariant.1 c.amount_of.ensures c.if-amount_of-gt0.false,
+)
 
 pub returns : goal.returns
 unfolding some_risk

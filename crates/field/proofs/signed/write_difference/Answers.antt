@@ -13,5 +13,4 @@ pub returns : goal.returns
 returns c = c.minus_place-at.ensures.1 ∙ ap with_minus c.write_field-2.ensures ∙ fallen _ (omega (arith, c.if-from-to.false))
 
 pub shape_of-out : goal.shape_of-out
-shape_of-out c = search
-    rules
+shape_of-out c = search rules

@@ -29,5 +29,5 @@ returns c =
     rw c.word.ensures at c.write_signed.ensures ∙ moved_line c.requires.0 _ _ c.requires.1 (omega (arith, c.if-component-raise.false)) k
 
 pub shape_of-out : goal.shape_of-out
-shape_of-out = (λ
-    c. search rules)
+shape_of-out c =
+    search rules
