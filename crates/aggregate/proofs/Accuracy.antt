@@ -6,7 +6,7 @@ use Prim.Native.Nat.{ℕ, ◌-◌, ◌≤◌}
 use native.Mathlib.Omega.{arith}
 use lib.ListN.{length, get_or}
 use Rattle.search.specs.Each.{Each}
-use Rattle.field.specs.declared.Field.TheVariants.{Value}
+use Rattle.std.specs.Prelude.{Some}
 use Rattle.guideline.specs.Sizes.{blocks, block_figures, FitsColumns}
 use Rattle.guideline.specs.Block.{D, U, LT, K, figures_of}
 use Rattle.guideline.specs.Buffer.{buffer}
@@ -36,11 +36,11 @@ module _ (s : List ℕ) (es : List Entry) (j : judgement s ≡ sound es) where
 
   -- the report's bytes, and whatever stands behind them
   module _ (rest : List ℕ) where
-    reads_total : number_at (report_of es ++ rest) TOT 0 3 ≡ Value (buffer (sheet_of es))
+    reads_total : number_at (report_of es ++ rest) TOT 0 3 ≡ Some (buffer (sheet_of es))
     unfolding block_rows_of
     reads_total = buffer_read (exists es) (λ b. figures_of (after_credit es b)) _ _ _ rest five (totals_fit (sheet_of es) (sound_accepted s es j))
 
-    reads_figure : (b i : ℕ) → exists es b ≡ true → 1 ≤ i → i ≤ block_figures → number_at (report_of es ++ rest) BLK b i ≡ Value (get_or (figures_of (after_credit es b)) (i - 1) 0)
+    reads_figure : (b i : ℕ) → exists es b ≡ true → 1 ≤ i → i ≤ block_figures → number_at (report_of es ++ rest) BLK b i ≡ Some (get_or (figures_of (after_credit es b)) (i - 1) 0)
     unfolding block_rows_of
     reads_figure b i e l h =
         let w = exists_within es (sound_passed s es j).lines b e in

@@ -3,7 +3,7 @@
 -- diversified requirement item 2, D, in half cents, and the undiversified one item 3, U.' 'The exact figures come from the sheet's
 -- amounts.'
 -- Assumes nothing.
-use Rattle.std.specs.Prelude.{◌≡◌, true, List, ℕ, ◌+◌, ◌*◌, ◌≤◌}
+use Rattle.std.specs.Prelude.{◌≡◌, true, List, ℕ, ◌+◌, ◌*◌, ◌≤◌, Some}
 use Rattle.refusal.specs.Outcome.{Outcome}
 use Rattle.refusal.specs.Outcome.Outcome.{accepted, refused}
 use Rattle.guideline.specs.Sizes.{fineness, block_allowance}
@@ -11,7 +11,6 @@ use Rattle.guideline.specs.Block.{U, LT}
 use Rattle.guideline.specs.Fraction.{whole, hundredths}
 use Rattle.guideline.specs.Exact.{StrictlyBelowK}
 use Rattle.guideline.specs.Demand.{BufferDemand}
-use Rattle.field.specs.declared.Field.TheVariants.{Value}
 use Rattle.report_line.specs.Line.{number_at}
 use Rattle.sheet_line.specs.declared.Entry.{Entry}
 use Rattle.order.specs.Entries.{exists}
@@ -30,10 +29,10 @@ pub record ReportedBlock (es : List Entry) (report : List ℕ) (b : ℕ) : Type 
   pub u : ℕ
   pub lt : ℕ
   pub k : ℕ
-  pub reads_d : number_at report BLK b 2 ≡ Value d
-  pub reads_u : number_at report BLK b 3 ≡ Value u
-  pub reads_lt : number_at report BLK b 4 ≡ Value lt
-  pub reads_k : number_at report BLK b 5 ≡ Value k
+  pub reads_d : number_at report BLK b 2 ≡ Some d
+  pub reads_u : number_at report BLK b 3 ≡ Some u
+  pub reads_lt : number_at report BLK b 4 ≡ Some lt
+  pub reads_k : number_at report BLK b 5 ≡ Some k
   pub twice : lt + d ≤ 2 * k
   pub within : k ≤ u
   pub k_not_below : ¬ StrictlyBelowK (after_credit es b) (whole k 0)
@@ -46,7 +45,7 @@ pub record ReportedBlock (es : List Entry) (report : List ℕ) (b : ℕ) : Type 
 -- block the reported credit against the exact one (document 02, #101)
 pub record ReportDemand (es : List Entry) (report : List ℕ) : Type 0 where
   pub buffer : ℕ
-  pub reads_buffer : number_at report TOT 0 3 ≡ Value buffer
+  pub reads_buffer : number_at report TOT 0 3 ≡ Some buffer
   pub accurate : BufferDemand (sheet_of es) buffer
   pub blocks : (b : ℕ) → exists es b ≡ true → ReportedBlock es report b
   pub credits : (b : ℕ) → CreditDemand (survival_sum es b) (death_sum es b) (credit_of es b)

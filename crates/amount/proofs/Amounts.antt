@@ -1,15 +1,18 @@
 -- Rule 7 over a list, and over two lists one after the other. Assumes nothing.
-use mathlib.Core.Path.{◌≡◌, ap, ◌∙◌}
+use mathlib.Core.Path.{◌≡◌, sym, ap, ◌∙◌}
 use mathlib.Core.List.{List, ◌++◌}
 use Prim.Native.Nat.{ℕ, ◌+◌, ◌-◌, ◌≤◌, ◌<◌}
 use native.Mathlib.Decide.{dec_le, dec_lt}
 use native.Mathlib.Omega.{arith}
 use lib.Dec.{ltb}
-use borrow.Author.Tests.{ltb-false, le-ltb}
+use borrow.Author.Tests.{ltb-false, lt-ltb, le-ltb}
 use lib.ListN.{length, get_or, length-append, get_or-eq_default, get_or-append}
 use lib.Seq.{get_or-append-add}
-use Rattle.search.proofs.Firsts.{found_from, found_unique, none_passes, sought_none}
-use Rattle.amount.specs.Amount.{limit, above, first_above}
+use Rattle.std.proofs.Common.{Option, Some, None}
+use Rattle.std.specs.Option.{MatchOption}
+use Rattle.std.specs.List.{AllWithin, HoldsAt}
+use Rattle.search.proofs.Firsts.{found_from, found_unique, none_passes, sought_found, sought_none}
+use Rattle.amount.specs.Amount.{limit, above, first_above, FoundAt}
 
 -- where the search for an amount above the limit finds none, there is none
 pub none_above : (l : List ℕ) → length l ≤ first_above l → (k : ℕ) → get_or l k 0 ≤ limit
@@ -24,6 +27,17 @@ none_above l h k =
 pub all_within : (l : List ℕ) → ((k : ℕ) → get_or l k 0 ≤ limit) → first_above l ≡ length l
 unfolding first_above
 all_within l a = sought_none (above l) (length l) (length l) (omega arith) (record { within = omega arith; before = λ k h. le-ltb _ _ (a k) })
+
+-- what a search over the items finds: none above the limit, or the first that is
+pub first_at :
+    (l : List ℕ) (r : Option ℕ)
+    → MatchOption r (AllWithin (λ x. x ≤ limit) l 0 (length l)) (λ k. (k < length l) × HoldsAt (λ x. limit < x) l k × AllWithin (λ x. x ≤ limit) l 0 k)
+    → FoundAt (length l) (first_above l) r
+unfolding first_above
+first_at l None a =
+    omega (arith, sought_none (above l) (length l) (length l) (omega arith) (record { within = omega arith; before = λ k h. le-ltb _ _ (a k 0 (omega arith) h) }))
+first_at l (Some k) (h, a, b) =
+    (sym (sought_found (above l) (length l) k h (lt-ltb _ _ (a 0)) (record { within = omega arith; before = λ i j. le-ltb _ _ (b i 0 (omega arith) j) })), h)
 
 -- of two lists one after the other, the test at a place of the first and of the second
 module _ (l m : List ℕ) where

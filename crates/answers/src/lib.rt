@@ -1,35 +1,51 @@
-// What a call gives to C and Rust of its answer: its number, how many bytes it has written, or the place of its refusal.
+// What a call gives to C and Rust of its answer: its number, its values or how many bytes it has written, or the place of its refusal.
 #![tactic(auto)]
 
-ghost use Rattle.std.specs.Prelude.{◌≡◌};
-ghost use Rattle.refusal.specs.Outcome.{place_of};
+ghost use Rattle.std.specs.Prelude.{◌≡◌, [], ◌∷◌};
+ghost use Rattle.refusal.specs.Outcome.{place_of, rule_number, stated_by};
 ghost use Rattle.printing.specs.Lent.{stated};
 ghost use Rattle.answers.specs.Left.{Never0, Leaves};
 
-use printing::RoomAnswer;
-use refusal::Place;
+use refusal::Refusal;
 
 // Given by a call that is accepted. No refusal has this number.
 pub const ACCEPTED: u64 = 0;
 
-// What a call has answered that was lent room: how many bytes it has written, or its refusal.
-pub fn tell(answer: RoomAnswer, written: &mut [u64; 1], place: &mut [u64; 2]) -> u64
-    requires { Never0 (stated answer) }
-    ensures { Leaves (stated answer) result written.old place.old written.new place.new }
+// What a call has answered that gives N values: these are written, or its refusal is.
+pub fn leave<const N: usize>(
+    answer: Result<[u64; N], Refusal>,
+    values: &mut [u64; N],
+    place: &mut [u64; 2],
+) -> u64
+    ensures never_0 { Never0 (stated_by (λ vs. vs) answer.entry) }
+    ensures leaves { Leaves (stated_by (λ vs. vs) answer.entry) result values.old place.old values.new place.new }
 {
     match answer {
-        RoomAnswer::Accepted(length) => {
-            *written = [cast::word(length)];
+        Ok(given) => {
+            *values = given;
             ACCEPTED
         }
-        RoomAnswer::Refused(number, at) => refuse(number, at, place),
+        Err(refusal) => refuse(refusal, place),
     }
 }
 
-// A refusal's number is given, and its place is written.
-pub fn refuse(number: u8, at: Place, place: &mut [u64; 2]) -> u64
-    ensures { (result ≡ number) × (place.new ≡ place_of at) }
+// What a call has answered that was lent room: how many bytes it has written, or its refusal.
+pub fn tell(answer: Result<usize, Refusal>, written: &mut [u64; 1], place: &mut [u64; 2]) -> u64
+    ensures { Leaves (stated answer) result written.old place.old written.new place.new }
 {
-    *place = refusal::place_numbers(at);
-    cast::byte(number)
+    let lengths = answer.map(
+        |length: usize|
+            ensures { result ≡ length ∷ [] }
+        { [cast::word(length)] },
+    );
+    leave(lengths, written, place)
+}
+
+// A refusal's number is given, and its place is written.
+pub fn refuse(refusal: Refusal, place: &mut [u64; 2]) -> u64
+    ensures { (result ≡ rule_number refusal.0) × (place.new ≡ place_of refusal.1) }
+{
+    let Refusal(rule, at) = refusal;
+    *place = at.into();
+    rule.number()
 }

@@ -1,13 +1,16 @@
 -- What the code finds part by part is what the definitions say of the list of margins: a quotient with its rest, what they leave of K, and the
 -- cents by ranks among the rests. Assumes nothing.
 use mathlib.Core.Path.{◌≡◌, refl, sym, ap, ◌∙◌}
+use mathlib.Core.Bool.{Bool, true, false}
 use mathlib.Core.List.{List}
 use Prim.Native.Nat.{ℕ, zero, suc, ◌+◌, ◌-◌, ◌*◌, ◌/◌, ◌%◌, ◌^◌, ◌≤◌, ◌<◌}
 use native.Mathlib.Nat.{div-eq_of_lt-le, div-add-mod', mul-le-mul}
 use native.Mathlib.Numerals.{add-one}
 use native.Mathlib.Omega.{arith}
 use lib.Dec.{ltb, eqb}
-use lib.ListN.{get_or}
+use lib.ListN.{get_or, get_or-map}
+use mir.Val.{bool_byte}
+use Rattle.division.specs.declared.Division.{Division}
 use Rattle.search.specs.Pick.{pick}
 use Rattle.search.specs.Total.{sum_to, one}
 use Rattle.search.specs.Ascending.{list_to}
@@ -15,9 +18,15 @@ use Rattle.search.proofs.Totals.{sum_step, sum_part, sum_same}
 use Rattle.search.proofs.Ascents.{list_same}
 use Rattle.guideline.specs.Sizes.{parts}
 use Rattle.apportion.specs.Shares.{value_of_part, total, base, remainder, left_over, before, rank, cent, share, shares}
-use Rattle.apportion.specs.Steps.{Shareable}
+use Rattle.apportion.specs.Steps.{Shareable, quotients, rests}
 use Rattle.apportion.proofs.Ranks.{rank_alike}
 use Rattle.apportion.proofs.Fair.{of_part, base_most}
+
+-- a test as a number
+pub as_number : (t : Bool) → bool_byte t ≡ one t
+unfolding one pick
+as_number true = refl
+as_number false = refl
 
 -- the number at place i is that of part i + 1
 pub part_at : (l : List ℕ) (i : ℕ) → value_of_part l (i + 1) ≡ get_or l i 0
@@ -28,13 +37,22 @@ part_before : (l : List ℕ) (p : ℕ) → 1 ≤ p → get_or l (p - 1) 0 ≡ va
 part_before l zero h = absurd (omega arith)
 part_before l (suc i) h = let e : suc i - 1 ≡ i = omega arith in rw e refl
 
+-- where the parts are divided, the quotient and the rest at place i are those of part i + 1
+abbrev pub nothing : Division ℕ
+nothing = record { quotient = 0; rest = 0 }
+
+pub quotient_at : (l : List (Division ℕ)) (i : ℕ) → value_of_part (quotients l) (i + 1) ≡ (get_or l i nothing).quotient
+quotient_at l i = part_at (quotients l) i ∙ get_or-map (λ d. d.quotient) l i nothing
+
 -- one where the part at place i comes before part p
-pub counted : (l : List ℕ) (i p : ℕ) → 1 ≤ p →
-    one (pick (eqb (get_or l i 0) (get_or l (p - 1) 0)) (ltb (i + 1) p) (ltb (get_or l (p - 1) 0) (get_or l i 0))) ≡ one (before (value_of_part l) (i + 1) p)
+pub counted : (l : List (Division ℕ)) (i p : ℕ) → 1 ≤ p →
+    let r : ℕ = (get_or l i nothing).rest in
+    let s : ℕ = (get_or l (p - 1) nothing).rest in
+    one (pick (eqb r s) (ltb (i + 1) p) (ltb s r)) ≡ one (before (value_of_part (rests l)) (i + 1) p)
 unfolding before
 counted l i p h =
-    let a : get_or l i 0 ≡ value_of_part l (i + 1) = sym (part_at l i) in
-    let b : get_or l (p - 1) 0 ≡ value_of_part l p = part_before l p h in
+    let a : (get_or l i nothing).rest ≡ value_of_part (rests l) (i + 1) = sym (part_at (rests l) i ∙ get_or-map (λ d. d.rest) l i nothing) in
+    let b : (get_or l (p - 1) nothing).rest ≡ value_of_part (rests l) p = sym (get_or-map (λ d. d.rest) l (p - 1) nothing) ∙ part_before (rests l) p h in
     λ j. one (pick (eqb (a j) (b j)) (ltb (i + 1) p) (ltb (b j) (a j)))
 
 -- no part's number is above their sum

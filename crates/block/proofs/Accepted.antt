@@ -51,7 +51,7 @@ module _ (b : List ℕ) (v : AcceptedBlock b) where
       (record { within = omega arith; before = values_same (lt_above b) (λ i. false) risks pairs })
 
   passes : length b ≡ block_numbers → block_call b ≡ accepted (figures_of b ++ steps_of b)
-  passes long = passed_7 b long refl (omega (arith, all_within b (within long))) ∙ passed_8 b v.lt_seven ∙ passed_9 b refl (omega (arith, none_above_ir))
+  passes long = passed_7 b (omega (arith, all_within b (within long))) ∙ passed_8 b v.lt_seven ∙ passed_9 b (omega (arith, none_above_ir))
 
 -- what holds of an outcome: accepted, the values are the figures and steps of a block that the rules leave; refused, the number is not 0
 unfoldable Promised : List ℕ → Outcome → Type 0
@@ -61,7 +61,7 @@ Promised b (refused n p) = n ≡ 0 → ⊥
 module _ (b : List ℕ) where
   after_8 : ((k : ℕ) → get_or b k 0 ≤ limit) → lt b 7 ≡ 0 → Promised b (rule9 b)
   unfolding Promised rule9
-  after_8 r7 r8 = by_test (Promised b) _ _ _ (λ t z. omega arith) (λ r9. (refl, acceptable b refl r7 r8 (ltb-false _ _ r9)))
+  after_8 r7 r8 = by_test (Promised b) _ _ _ (λ t z. omega arith) (λ r9. (refl, acceptable b r7 r8 (ltb-false _ _ r9)))
 
   promised : Promised b (block_call b)
   unfolding Promised block_call rule8

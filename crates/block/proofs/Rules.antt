@@ -1,39 +1,60 @@
 -- Rules 7, 8 and 9 of the block call: what each gives where its test finds something, and where it finds nothing. Assumes nothing.
-use mathlib.Core.Path.{◌≡◌, sym, ap, ◌∙◌}
+use mathlib.Core.Path.{◌≡◌, sym, ◌∙◌}
+use mathlib.Core.Bool.{true, false}
 use mathlib.Core.List.{List, ◌++◌}
 use Prim.Native.Nat.{ℕ, ◌+◌, ◌*◌, ◌≤◌, ◌<◌}
 use native.Mathlib.Omega.{arith}
 use lib.ListN.{length, get_or}
 use borrow.Author.Tests.{ltb-false}
+use Rattle.std.proofs.Common.{Option, Some, None}
+use Rattle.std.specs.Option.{MatchOption}
+use Rattle.std.specs.List.{AllWithin, HoldsAt, range_with_len}
+use Rattle.std.proofs.lemmas.List.FromFn.{get_or-range_with_len}
 use Rattle.search.proofs.Picks.{if_lt, if_ge, if_eq, if_ne}
-use Rattle.search.proofs.Firsts.{none_passes}
+use Rattle.search.proofs.Firsts.{none_passes, sought_found, sought_none}
 use Rattle.refusal.specs.Outcome.Outcome.{accepted, refused}
 use Rattle.refusal.specs.declared.Place.TheVariants.{Position}
-use Rattle.amount.specs.Amount.{limit, first_above}
-use Rattle.amount.proofs.Amounts.{none_above}
-use Rattle.guideline.specs.Sizes.{risks, block_numbers}
+use Rattle.amount.specs.Amount.{limit, first_above, FoundAt}
+use Rattle.guideline.specs.Sizes.{risks}
 use Rattle.guideline.specs.Block.{AcceptedBlock, lt, figures_of}
 use Rattle.guideline.proofs.Figures.{accepted_of_lem}
 use Rattle.figures.specs.RootSteps.{steps_of}
 use Rattle.block.specs.Call.{lt_above, first_lt_above, rule9, rule8, block_call}
 
-module _ (b : List ℕ) {r : ℕ} (long : length b ≡ block_numbers) (e : r ≡ first_above b) where
-  pub refused_7 : r < block_numbers → block_call b ≡ refused 7 (Position r)
-  unfolding block_call
-  refused_7 h =
-      let i : first_above b < length b = omega arith in
-      if_lt _ i ∙ ap (λ (x : ℕ). refused 7 (Position x)) (sym e)
+-- the seven pairs, counted from 0, as a search goes over them
+abbrev pub pairs : List ℕ
+pairs = range_with_len 0 risks
 
-  pub passed_7 : block_numbers ≤ r → block_call b ≡ rule8 b
-  unfolding block_call
-  passed_7 h =
-      let i : length b ≤ first_above b = omega arith in
-      if_ge _ i
-
-  pub within_limit : block_numbers ≤ r → (k : ℕ) → get_or b k 0 ≤ limit
-  within_limit h = none_above b (omega arith)
+pair_at : (k d : ℕ) → k < risks → get_or pairs k d ≡ k
+pair_at k d h = omega (arith, get_or-range_with_len 0 risks k d h)
 
 module _ (b : List ℕ) where
+  abbrev Within : ℕ → Type 0
+  Within i = lt_above b i ≡ false
+
+  -- what such a search finds: none, or the first pair whose LT is above its IR
+  pub first_pair :
+      (r : Option ℕ)
+      → MatchOption r (AllWithin Within pairs 0 risks)
+      (λ i. (lt_above b i ≡ true) × (k : ℕ) × (k < risks) × HoldsAt (λ j. j ≡ i) pairs k × AllWithin Within pairs 0 k)
+      → FoundAt risks (first_lt_above b) r
+  unfolding first_lt_above
+  first_pair None a =
+      let before = λ (k : ℕ) (h : k < risks). rw (pair_at k 0 h) at (a k 0 (omega arith) h) in
+      omega (arith, sought_none (lt_above b) risks risks (omega arith) (record { within = omega arith; before = before }))
+  first_pair (Some i) (t, k, h, e, a) =
+      let same : k ≡ i = sym (pair_at k 0 h) ∙ e 0 in
+      let before = λ (j : ℕ) (l : j < i). rw (pair_at j 0 (omega arith)) at (a j 0 (omega arith) (omega arith)) in
+      (sym (sought_found (lt_above b) risks i (omega arith) t (record { within = omega arith; before = before })), omega arith)
+
+  pub refused_7 : {r : ℕ} → (r ≡ first_above b) × (r < length b) → block_call b ≡ refused 7 (Position r)
+  unfolding block_call
+  refused_7 (e, h) = rw e (if_lt _ (rw e at h))
+
+  pub passed_7 : length b ≤ first_above b → block_call b ≡ rule8 b
+  unfolding block_call
+  passed_7 h = if_ge _ h
+
   pub refused_8 : (lt b 7 ≡ 0 → ⊥) → rule8 b ≡ refused 8 (Position 13)
   unfolding rule8
   refused_8 n = if_ne _ n
@@ -42,19 +63,14 @@ module _ (b : List ℕ) where
   unfolding rule8
   passed_8 z = if_eq _ z
 
-module _ (b : List ℕ) {s : ℕ} (f : s ≡ first_lt_above b) where
-  pub refused_9 : s < risks → rule9 b ≡ refused 9 (Position (2 * s + 1))
+  pub refused_9 : {s : ℕ} → (s ≡ first_lt_above b) × (s < risks) → rule9 b ≡ refused 9 (Position (2 * s + 1))
   unfolding rule9
-  refused_9 k =
-      let i : first_lt_above b < risks = omega arith in
-      if_lt _ i ∙ ap (λ (x : ℕ). refused 9 (Position (2 * x + 1))) (sym f)
+  refused_9 (e, h) = rw e (if_lt _ (rw e at h))
 
-  pub passed_9 : risks ≤ s → rule9 b ≡ accepted (figures_of b ++ steps_of b)
+  pub passed_9 : risks ≤ first_lt_above b → rule9 b ≡ accepted (figures_of b ++ steps_of b)
   unfolding rule9
-  passed_9 k =
-      let i : risks ≤ first_lt_above b = omega arith in
-      if_ge _ i
+  passed_9 h = if_ge _ h
 
-  pub acceptable : ((k : ℕ) → get_or b k 0 ≤ limit) → lt b 7 ≡ 0 → risks ≤ s → AcceptedBlock b
+  pub acceptable : ((k : ℕ) → get_or b k 0 ≤ limit) → lt b 7 ≡ 0 → risks ≤ first_lt_above b → AcceptedBlock b
   unfolding first_lt_above
-  acceptable a z k = accepted_of_lem b a z (λ i l. ltb-false _ _ (none_passes (lt_above b) risks (omega arith) i l))
+  acceptable a z h = accepted_of_lem b a z (λ i l. ltb-false _ _ (none_passes (lt_above b) risks h i l))

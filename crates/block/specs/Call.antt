@@ -1,24 +1,23 @@
 -- The block call of document 01, 'What is turned away': 'it tests 7 at the first bad position, then 8, then 9, these two at the
 -- position of the first bad LT', and 'Accepted, the block call gives I, D, U, LT and K'; after them, by document 02, #107, the steps of the
 -- two roots. Assumes nothing.
-use Rattle.std.specs.Prelude.{Bool, List, ◌++◌, ℕ, ◌+◌, ◌*◌, ltb, eqb, length, get_or}
+use Rattle.std.specs.Prelude.{Bool, Result, List, ◌++◌, ℕ, ◌+◌, ◌*◌, ltb, eqb, length, get_or}
 use Rattle.search.specs.Pick.{pick}
 use Rattle.search.specs.First.{first}
 use Rattle.amount.specs.Amount.{first_above}
-use Rattle.refusal.specs.Outcome.{Outcome}
+use Rattle.refusal.specs.Outcome.{Outcome, stated_by}
 use Rattle.refusal.specs.Outcome.Outcome.{accepted, refused}
 use Rattle.refusal.specs.declared.Place.TheVariants.{Position}
+use Rattle.refusal.specs.declared.Refusal.{Refusal}
 use Rattle.guideline.specs.Sizes.{risks}
 use Rattle.guideline.specs.Block.{lt, figures_of}
+use Rattle.figures.specs.declared.Worked.{Worked}
 use Rattle.figures.specs.Parts.{figure_list, step_list}
 use Rattle.figures.specs.RootSteps.{steps_of}
-use Rattle.block.specs.declared.BlockAnswer.{BlockAnswer}
-use Rattle.block.specs.declared.BlockAnswer.TheVariants.{Accepted, Refused}
 
--- what the enum's cases say in document 01's numbers: the figures in its order and the steps, or the refusal's number and place
-abbrev pub stated : BlockAnswer → Outcome
-stated (Accepted f s) = accepted (figure_list f ++ step_list s)
-stated (Refused n p) = refused n p
+-- what the result says in document 01's numbers: the figures in its order and the steps, or the refusal's number and place
+abbrev pub stated : Result Worked Refusal → Outcome
+stated = stated_by (λ w. figure_list w.figures ++ step_list w.steps)
 
 -- rule 9 at the pair i, counted from 0: its LT, at position 2i + 1, is above its IR
 abbrev pub lt_above : List ℕ → ℕ → Bool

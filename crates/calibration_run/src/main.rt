@@ -4,15 +4,16 @@
 #![tactic(auto)]
 
 use amount::LARGEST_AMOUNT;
-use block::BlockAnswer;
-use fluctuation::FluctuationAnswer;
-use guideline::{BLOCK_NUMBERS, GENERAL_FIGURES, TERRITORY_NUMBERS, VOLUME_NUMBERS};
-use operational::OperationalAnswer;
-use refusal::Place;
-use shares::SharesAnswer;
+use guideline::{BLOCK_NUMBERS, GENERAL_FIGURES, RISKS, TERRITORY_NUMBERS, VOLUME_NUMBERS};
+use refusal::{Place, Refusal};
 
 // The largest word: an amount far above the limit.
-const MOST: u64 = 18446744073709551615;
+const MOST: u64 = u64::MAX;
+
+// The thresholds of rows 1 to 6 of the fluctuation factors, in cents.
+const THRESHOLDS: [u64; 6] = [
+    4200000000, 7500000000, 600000000, 300000000, 500000000, 300000000,
+];
 
 // Every part in turn.
 fn main(rt: HostRuntime) {
@@ -40,8 +41,10 @@ fn number(rt: &impl Print, n: u64) {
 }
 
 // A refusal: its number and its place.
-fn refused(rt: &impl Print, n: u8, p: Place) {
-    let _ = match p {
+// Kept: a match in place of a Display, which only the crate of Place can have, for this program alone; a type round it would be longer.
+fn refused(rt: &impl Print, refusal: Refusal) {
+    let n = refusal.0.number();
+    let _ = match refusal.1 {
         Place::Line(at) => println!(rt; "refused {n} line {at}"),
         Place::Position(at) => println!(rt; "refused {n} position {at}"),
         Place::Risk(at) => println!(rt; "refused {n} risk {at}"),
@@ -53,23 +56,25 @@ fn refused(rt: &impl Print, n: u8, p: Place) {
 // What the block call gives, on a line.
 fn block_row(rt: &impl Print, b: &[u64; BLOCK_NUMBERS]) {
     match block::block_call(b) {
-        BlockAnswer::Accepted(f, s) => {
+        Ok(worked) => {
+            let f = worked.figures;
+            let s = worked.steps;
             let _ = println!(rt;
                 "I, D, U, LT, K, steps: {} {} {} {} {} {} {}",
                 f.i, f.d, f.u, f.lt, f.k, s.i, s.d
             );
         }
-        BlockAnswer::Refused(n, p) => refused(rt, n, p),
+        Err(refusal) => refused(rt, refusal),
     }
 }
 
 // What the operational call gives, on a line.
 fn operational_row(rt: &impl Print, volumes: &[u64], general: &[u64; GENERAL_FIGURES]) {
     match operational::operational_call(volumes, general) {
-        OperationalAnswer::Accepted(ro) => {
+        Ok(ro) => {
             let _ = println!(rt; "RO: {ro}");
         }
-        OperationalAnswer::Refused(n, p) => refused(rt, n, p),
+        Err(refusal) => refused(rt, refusal),
     }
 }
 
@@ -81,22 +86,17 @@ fn dollars(half_cents: u64) -> u64 {
 // The example of document 000, section 11.2.4: each figure that it prints, in dollars, in its order.
 fn printed_example(rt: &impl Print) {
     let b = example();
-    let answer = block::block_call(&b);
-    let BlockAnswer::Accepted(f, _) = answer else {
+    let Ok(worked) = block::block_call(&b) else {
         return;
     };
+    let f = worked.figures;
     say(rt, "document 000\n");
-    let y1 = half_cents(b[0], b[1]);
-    number(rt, dollars(y1));
-    number(rt, dollars(half_cents(b[2], b[3])));
-    number(rt, dollars(half_cents(b[4], b[5])));
-    number(rt, dollars(half_cents(b[6], b[7])));
-    number(rt, dollars(half_cents(b[8], b[9])));
-    number(rt, dollars(half_cents(b[10], b[11])));
-    number(rt, dollars(half_cents(b[12], b[13])));
-    let two = plus(b[0], b[2]);
-    let four = plus(two, plus(b[4], b[6]));
-    let components = plus(four, plus(b[8], plus(b[10], b[12])));
+    let mut components = 0;
+    for risk in 0..RISKS {
+        let ir = b[2 * risk];
+        number(rt, dollars(half_cents(ir, b[2 * risk + 1])));
+        components = plus(components, ir);
+    }
     say(rt, "\ntotals");
     number(rt, dollars(plus(components, components)));
     number(rt, dollars(plus(f.lt, f.lt)));
@@ -106,7 +106,7 @@ fn printed_example(rt: &impl Print) {
     number(rt, dollars(amount::excess(f.i, pc)));
     number(rt, dollars(f.i));
     // mortality is the largest of the seven
-    number(rt, dollars(plus(y1, pc)));
+    number(rt, dollars(plus(half_cents(b[0], b[1]), pc)));
     say(rt, "\nA, D, U, K");
     number(rt, dollars(plus(a, a)));
     number(rt, dollars(f.d));
@@ -122,7 +122,7 @@ fn half_cents(ir: u64, lt: u64) -> u64 {
 
 // The sum, or nothing where it does not fit.
 fn plus(x: u64, y: u64) -> u64 {
-    if y <= MOST - x { x + y } else { 0 }
+    x.checked_add(y).unwrap_or(0)
 }
 
 // The example of document 000 in cents.
@@ -131,6 +131,15 @@ fn example() -> [u64; BLOCK_NUMBERS] {
         100000000, 70000000, 300000, 300000, 5000000, 1000000, 250000, 100000, 30000000, 15000000,
         10000000, 4000000, 1000000, 0, 2500000, 20000000, 7500000,
     ]
+}
+
+// The largest amounts, with no level and trend part.
+fn all_equal() -> [u64; BLOCK_NUMBERS] {
+    let mut b = [LARGEST_AMOUNT; BLOCK_NUMBERS];
+    for risk in 0..RISKS {
+        b[2 * risk + 1] = 0;
+    }
+    b
 }
 
 // Document 01's rows for a block.
@@ -263,24 +272,16 @@ fn root_steps(rt: &impl Print) {
     c[0] = 64;
     c[2] = 16;
     block_row(rt, &c);
-    let mut d = [LARGEST_AMOUNT; BLOCK_NUMBERS];
-    d[1] = 0;
-    d[3] = 0;
-    d[5] = 0;
-    d[7] = 0;
-    d[9] = 0;
-    d[11] = 0;
-    d[13] = 0;
-    block_row(rt, &d);
+    block_row(rt, &all_equal());
 }
 
 // What the fluctuation call gives, on a line.
 fn fluctuation_row(rt: &impl Print, row: u64, requirement: u64, face: u64) {
     match fluctuation::fluctuation_call(row, requirement, face) {
-        FluctuationAnswer::Accepted(result) => {
+        Ok(result) => {
             let _ = println!(rt; "result: {result}");
         }
-        FluctuationAnswer::Refused(n, p) => refused(rt, n, p),
+        Err(refusal) => refused(rt, refusal),
     }
 }
 
@@ -289,24 +290,11 @@ fn fluctuations(rt: &impl Print) {
     say(rt, "document 02, fluctuations\n");
     fluctuation_row(rt, 2, 10000000000, 0);
     fluctuation_row(rt, 7, 100000000, 40000000000);
-    fluctuation_row(rt, 1, 4200000000, 0);
-    fluctuation_row(rt, 1, 4200000001, 0);
-    fluctuation_row(rt, 1, LARGEST_AMOUNT, 0);
-    fluctuation_row(rt, 2, 7500000000, 0);
-    fluctuation_row(rt, 2, 7500000001, 0);
-    fluctuation_row(rt, 2, LARGEST_AMOUNT, 0);
-    fluctuation_row(rt, 3, 600000000, 0);
-    fluctuation_row(rt, 3, 600000001, 0);
-    fluctuation_row(rt, 3, LARGEST_AMOUNT, 0);
-    fluctuation_row(rt, 4, 300000000, 0);
-    fluctuation_row(rt, 4, 300000001, 0);
-    fluctuation_row(rt, 4, LARGEST_AMOUNT, 0);
-    fluctuation_row(rt, 5, 500000000, 0);
-    fluctuation_row(rt, 5, 500000001, 0);
-    fluctuation_row(rt, 5, LARGEST_AMOUNT, 0);
-    fluctuation_row(rt, 6, 300000000, 0);
-    fluctuation_row(rt, 6, 300000001, 0);
-    fluctuation_row(rt, 6, LARGEST_AMOUNT, 0);
+    for (row, threshold) in (1..7).zip(THRESHOLDS) {
+        fluctuation_row(rt, row, threshold, 0);
+        fluctuation_row(rt, row, plus(threshold, 1), 0);
+        fluctuation_row(rt, row, LARGEST_AMOUNT, 0);
+    }
     fluctuation_row(rt, 7, LARGEST_AMOUNT, 30000000000);
     fluctuation_row(rt, 7, LARGEST_AMOUNT, 30000000001);
     fluctuation_row(rt, 7, LARGEST_AMOUNT, LARGEST_AMOUNT);
@@ -335,21 +323,20 @@ fn bad_fluctuations(rt: &impl Print) {
 // What the shares call gives, on a line.
 fn shares_row(rt: &impl Print, b: &[u64; BLOCK_NUMBERS]) {
     match shares::shares_call(b) {
-        SharesAnswer::Accepted(s) => {
+        Ok(s) => {
             say(rt, "shares:");
-            number(rt, s.risk1);
-            number(rt, s.risk2);
-            number(rt, s.risk3);
-            number(rt, s.risk4);
-            number(rt, s.risk5);
-            number(rt, s.risk6);
-            number(rt, s.risk7);
-            number(rt, s.pc);
-            number(rt, s.credit);
-            number(rt, s.market);
+            let risks = [
+                s.risk1, s.risk2, s.risk3, s.risk4, s.risk5, s.risk6, s.risk7,
+            ];
+            for share in risks {
+                number(rt, share);
+            }
+            for share in [s.pc, s.credit, s.market] {
+                number(rt, share);
+            }
             say(rt, "\n");
         }
-        SharesAnswer::Refused(n, p) => refused(rt, n, p),
+        Err(refusal) => refused(rt, refusal),
     }
 }
 
@@ -366,20 +353,19 @@ fn illustration() -> [u64; BLOCK_NUMBERS] {
     b
 }
 
-// K in whole dollars, of a block with the numbers at two positions zero.
-fn coalition(rt: &impl Print, b: &[u64; BLOCK_NUMBERS], one: usize, two: usize) {
+// K in whole dollars, of a block with the numbers at some positions zero.
+fn coalition(rt: &impl Print, b: &[u64; BLOCK_NUMBERS], positions: &[usize]) {
     let mut less = *b;
-    if one < BLOCK_NUMBERS {
-        less[one] = 0;
+    for at in positions {
+        if *at < BLOCK_NUMBERS {
+            less[*at] = 0;
+        }
     }
-    if two < BLOCK_NUMBERS {
-        less[two] = 0;
-    }
-    let answer = block::block_call(&less);
-    let BlockAnswer::Accepted(f, _) = answer else {
+    let Ok(worked) = block::block_call(&less) else {
         return;
     };
-    number(rt, dollars(plus(f.k, f.k)));
+    let k = worked.figures.k;
+    number(rt, dollars(plus(k, k)));
 }
 
 // A number of tenths with a decimal comma, after a space.
@@ -403,17 +389,16 @@ fn percentage(rt: &impl Print, share: u64, k: u64) {
 }
 
 // Document 001's illustration: the capital of all four segments and of each three of them, the shares and their percentages, as they are
-// printed there. Segment 1 is market, 2 to 4 are risks 5 to 7; at position 0 stands nothing, so that the first is all four.
+// printed there. Segment 1 is market, 2 to 4 are risks 5 to 7.
 fn printed_illustration(rt: &impl Print) {
     say(rt, "document 001\nSCR");
     let b = illustration();
-    coalition(rt, &b, 0, 0);
-    coalition(rt, &b, 16, 16);
-    coalition(rt, &b, 8, 9);
-    coalition(rt, &b, 10, 11);
-    coalition(rt, &b, 12, 13);
-    let answer = shares::shares_call(&b);
-    let SharesAnswer::Accepted(s) = answer else {
+    coalition(rt, &b, &[]);
+    coalition(rt, &b, &[16]);
+    coalition(rt, &b, &[8, 9]);
+    coalition(rt, &b, &[10, 11]);
+    coalition(rt, &b, &[12, 13]);
+    let Ok(s) = shares::shares_call(&b) else {
         return;
     };
     say(rt, "\nshares");
@@ -441,15 +426,7 @@ fn printed_shares(rt: &impl Print) {
     b[0] = 1;
     b[1] = 1;
     shares_row(rt, &b);
-    let mut d = [LARGEST_AMOUNT; BLOCK_NUMBERS];
-    d[1] = 0;
-    d[3] = 0;
-    d[5] = 0;
-    d[7] = 0;
-    d[9] = 0;
-    d[11] = 0;
-    d[13] = 0;
-    shares_row(rt, &d);
+    shares_row(rt, &all_equal());
 }
 
 // 23: no amount at all, a cent of each of five risks, whose margins are all zero, and a negative margin. 7, 8 and 9 come before it: 9 and 8

@@ -7,13 +7,14 @@ ghost use Rattle.std.specs.Prelude.{◌≡◌};
 pub fn byte(b: u8) -> u64
     ensures { result ≡ b }
 {
-    b as u64
+    u64::from(b)
 }
 
 // A size as a word.
 pub fn word(n: usize) -> u64
     ensures { result ≡ n }
 {
+    // Kept: the library has no From between a size and a word, and a TryFrom would have a failure that never comes.
     n as u64
 }
 
@@ -21,5 +22,6 @@ pub fn word(n: usize) -> u64
 pub fn size(x: u64) -> usize
     ensures { result ≡ x }
 {
+    // Kept: the library has no From between a word and a size, and a TryFrom would have a failure that never comes.
     x as usize
 }

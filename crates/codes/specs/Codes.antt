@@ -1,12 +1,10 @@
 -- The codes of a line: document 01's table of them, the sheet and the report. A code more is a clause more in each definition.
 -- Bytes are numbers: R is 82. Assumes nothing.
-use Rattle.std.specs.Prelude.{ℕ, zero, suc, ◌+◌, ◌≤◌, List, [], ◌∷◌, Bool, false, eqb, get_or}
+use Rattle.std.specs.Prelude.{Option, Some, None, ℕ, zero, suc, ◌+◌, ◌≤◌, List, [], ◌∷◌, Bool, false, eqb, get_or}
 use Rattle.search.specs.Pick.{pick}
 use Rattle.guideline.specs.Sizes.{non_participating, blocks, risks, other_amounts, territories, volume_classes, adjustable_products}
 use Rattle.codes.specs.declared.Code.{Code}
 use Rattle.codes.specs.declared.Code.TheVariants.{Rsk, Oth, Mor, Vol, Acq, Gen, Crd}
-use Rattle.codes.specs.declared.Coded.{Coded}
-use Rattle.codes.specs.declared.Coded.TheVariants.{Known, Unknown}
 use Rattle.codes.specs.declared.Range.{Range}
 
 -- the codes, in the table's order, with document 02's MOR after OTH, ACQ after VOL and CRD last
@@ -94,11 +92,11 @@ pub record Key (k : Code) (b c : ℕ) : Type 0 where
 unfoldable pub is_code : List ℕ → List ℕ → Bool
 is_code w s = pick (eqb (get_or s 0 0) (get_or w 0 0)) (pick (eqb (get_or s 1 0) (get_or w 1 0)) (eqb (get_or s 2 0) (get_or w 2 0)) false) false
 
--- the first of some codes whose letters columns 1 to 3 are
-unfoldable pub code_among : List Code → List ℕ → Coded
-code_among [] s = Unknown
-code_among (k ∷ ks) s = pick (is_code (letters_of k) s) (Known k) (code_among ks s)
+-- the first of some codes whose letters columns 1 to 3 are; none where they are the letters of none
+unfoldable pub code_among : List Code → List ℕ → Option Code
+code_among [] s = None
+code_among (k ∷ ks) s = pick (is_code (letters_of k) s) (Some k) (code_among ks s)
 
 -- 'code in columns 1–3'
-abbrev pub code_of : List ℕ → Coded
+abbrev pub code_of : List ℕ → Option Code
 code_of s = code_among codes s

@@ -2,7 +2,7 @@
 #![tactic(auto)]
 
 ghost use Rattle.std.specs.Prelude.{◌≡◌, ◌≤◌, length};
-ghost use Rattle.codes.specs.Codes.{range_of, is_code, code_of};
+ghost use Rattle.codes.specs.Codes.{range_of, code_of};
 
 use guideline::{
     ADJUSTABLE_PRODUCTS, BLOCKS, NON_PARTICIPATING, OTHER_AMOUNTS, RISKS, TERRITORIES,
@@ -19,13 +19,6 @@ pub enum Code {
     Acq,
     Gen,
     Crd,
-}
-
-// What the first three columns hold.
-#[derive(Clone, Copy)]
-pub enum Coded {
-    Known(Code),
-    Unknown,
 }
 
 // The blocks and the classes that a code has: blocks from the lowest to the highest, classes from 1 on. CRD has two such ranges, one for
@@ -73,47 +66,22 @@ pub const SCALAR_CLASS: usize = 4;
 // CRD's classes of a participating block: one, its dividend credit.
 pub const DIVIDEND_CLASSES: usize = 1;
 
-// Compares the codes one after the other.
-pub fn read_code(s: &[u8]) -> Coded
+// The code whose letters columns 1 to 3 are.
+#[tactic(auto, unfolding(crate::specs::Codes::code_among, crate::specs::Codes::is_code, search::specs::Pick::pick))]
+pub fn read_code(s: &[u8]) -> Option<Code>
     requires { 3 ≤ length s.now }
     ensures { result ≡ code_of s.now }
 {
-    if starts_with(s, b"RSK") {
-        return Coded::Known(Code::Rsk);
+    match &s[0..3] {
+        b"RSK" => Some(Code::Rsk),
+        b"OTH" => Some(Code::Oth),
+        b"MOR" => Some(Code::Mor),
+        b"VOL" => Some(Code::Vol),
+        b"ACQ" => Some(Code::Acq),
+        b"GEN" => Some(Code::Gen),
+        b"CRD" => Some(Code::Crd),
+        _ => None,
     }
-    if starts_with(s, b"OTH") {
-        return Coded::Known(Code::Oth);
-    }
-    if starts_with(s, b"MOR") {
-        return Coded::Known(Code::Mor);
-    }
-    if starts_with(s, b"VOL") {
-        return Coded::Known(Code::Vol);
-    }
-    if starts_with(s, b"ACQ") {
-        return Coded::Known(Code::Acq);
-    }
-    if starts_with(s, b"GEN") {
-        return Coded::Known(Code::Gen);
-    }
-    if starts_with(s, b"CRD") {
-        return Coded::Known(Code::Crd);
-    }
-    Coded::Unknown
-}
-
-// Whether columns 1 to 3 are these letters.
-fn starts_with(s: &[u8], letters: &[u8; 3]) -> bool
-    requires { 3 ≤ length s.now }
-    ensures { result ≡ is_code letters.now s.now }
-{
-    if s[0] != letters[0] {
-        return false;
-    }
-    if s[1] != letters[1] {
-        return false;
-    }
-    s[2] == letters[2]
 }
 
 // The range of a code that a block falls under.

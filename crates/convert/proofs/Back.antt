@@ -110,7 +110,7 @@ accepted_sheet : (s t : List ℕ) → conversion s ≡ bytes t → Accepted s t
 unfolding conversion
 accepted_sheet s t =
     by_length s (λ l. after_length l no_text (after_reading (scale_of s) (reading_in (scale_of s) s)) ≡ bytes t → Accepted s t)
-    (λ n p j m q. never (cc)) (λ h z. go h z (reading_in (scale_of s) s) refl)
+    (λ r j m q. never (cc)) (λ h z. go h z (reading_in (scale_of s) s) refl)
   where
     go : length s ≤ longest_sheet → length s % sheet_line_bytes ≡ 0 → (o : Reading) → reading_in (scale_of s) s ≡ o
         → after_reading (scale_of s) o ≡ bytes t → Accepted s t

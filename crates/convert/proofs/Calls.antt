@@ -7,20 +7,20 @@ use native.Mathlib.Omega.{arith}
 use lib.ListN.{length, drop}
 use lib.Seq.{take_at}
 use Rattle.search.proofs.Picks.{never}
-use Rattle.refusal.specs.Outcome.{Judging, printed}
+use Rattle.refusal.specs.Outcome.{Judging, printed, rule_number}
 use Rattle.refusal.specs.Outcome.Outcome.{accepted, refused}
 use Rattle.refusal.specs.declared.Place.{Place}
 use Rattle.refusal.specs.declared.Place.TheVariants.{Line, Nowhere}
 use Rattle.guideline.specs.Sizes.{FitsColumns}
 use Rattle.layout.specs.Columns.{sheet_line_bytes}
 use Rattle.sheet_length.specs.Measured.{longest_sheet, measured, after_length}
-use Rattle.sheet_length.specs.declared.Length.TheVariants.{Whole, Refused}
+use Rattle.std.specs.Prelude.{Result, Ok, Err}
+use Rattle.refusal.specs.declared.Refusal.{Refusal}
 use Rattle.sheet_length.proofs.Measures.{by_length}
 use Rattle.sheet_line.specs.declared.Entry.{Entry}
 use Rattle.order.specs.Reading.{Reading, outcome_of}
 use Rattle.order.specs.Reading.Reading.{complete, stopped}
 use Rattle.order.proofs.Lines.{stopped_by}
-use Rattle.printing.specs.declared.RoomAnswer.{RoomAnswer}
 use Rattle.printing.specs.Lent.{Done, stated, untouched}
 use Rattle.printing.specs.Lent.Text.{no_text}
 use Rattle.printing.specs.Printing.{printout, Printed, Shown}
@@ -60,15 +60,15 @@ module _ (d : Scale) (s r : List ℕ) where
 
 -- ---- by the length
 
-pub whole_lines_lem : (s : List ℕ) → measured s ≡ Whole → length s % sheet_line_bytes ≡ 0
-whole_lines_lem s = by_length s (λ l. l ≡ Whole → length s % sheet_line_bytes ≡ 0) (λ n p j m q. never (cc)) (λ h z q. z)
+pub whole_lines_lem : (s : List ℕ) → measured s ≡ Ok tt → length s % sheet_line_bytes ≡ 0
+whole_lines_lem s = by_length s (λ l. l ≡ Ok tt → length s % sheet_line_bytes ≡ 0) (λ e j m q. never (cc)) (λ h z q. z)
 
 module _ (s r : List ℕ) where
-  pub call_turned : {n : ℕ} {p : Place} → measured s ≡ Refused n p → untouched n p r ≡ convert_call s r
+  pub call_turned : {e : Refusal} → measured s ≡ Err e → untouched (rule_number e.0) e.1 r ≡ convert_call s r
   unfolding convert_call conversion
   call_turned q = lent.lent_turned _ r (rw q refl)
 
-  pub call_lines : measured s ≡ Whole → lines_call (scale_of s) s r ≡ convert_call s r
+  pub call_lines : measured s ≡ Ok tt → lines_call (scale_of s) s r ≡ convert_call s r
   unfolding convert_call conversion
   call_lines q = rw q
 
@@ -92,9 +92,9 @@ pub right_numbers : (s : List ℕ) → Numbered (conversion s)
 unfolding conversion
 right_numbers s n p =
     by_length s (λ l. after_length l no_text (after_reading (scale_of s) (reading_in (scale_of s) s)) ≡ no_text n p → Judging n × FitsColumns (printed p))
-    (λ m r j h q.
-    let e : m ≡ n = cc in
-    let f : r ≡ p = cc in
+    (λ r j h q.
+    let e : rule_number r.0 ≡ n = cc in
+    let f : r.1 ≡ p = cc in
     (subst Judging e j, subst (λ (x : Place). FitsColumns (printed x)) f (omega (arith, h))))
     (λ h z. go h (reading_in (scale_of s) s) refl)
   where
@@ -108,7 +108,7 @@ right_numbers s n p =
     go h (complete es) e q = never (cc)
 
 -- so what is printed with such room is the conversion's own
-pub printed_sheet : (s r : List ℕ) → longest_sheet ≤ length r → (a : RoomAnswer) {r' r'' : List ℕ} {g : ℕ}
+pub printed_sheet : (s r : List ℕ) → longest_sheet ≤ length r → (a : Result ℕ Refusal) {r' r'' : List ℕ} {g : ℕ}
     → ◌≡◌ {A = Done} (record { outcome = stated a; room = r' }) (convert_call s r) → Shown a g r' r'' → Printed (printout (conversion s)) g r r''
 unfolding convert_call
 printed_sheet s r room = lent.printed_answer _ r (room_for s r room)

@@ -16,8 +16,9 @@ use Rattle.layout.specs.Columns.{sheet_line_bytes}
 use Rattle.layout.specs.Whole.{whole_lines, line_at}
 use Rattle.layout.proofs.Lent.{lent, lent_is}
 use Rattle.sheet_line.specs.declared.Entry.{Entry}
-use Rattle.sheet_line.specs.declared.Line.{Line}
-use Rattle.sheet_line.specs.declared.Line.TheVariants.{Good, Refused}
+use Rattle.std.specs.Prelude.{Result, Ok, Err}
+use Rattle.refusal.specs.declared.Rule.{Rule}
+use Rattle.refusal.specs.Outcome.{rule_number}
 use Rattle.order.specs.Entries.{mark_of}
 use Rattle.order.specs.Marks.{Admits}
 use Rattle.order.specs.Order.{key_for}
@@ -51,14 +52,14 @@ module _ {d : Scale} {s m : List ℕ} {last i : ℕ} (B : TestedTo d s m last i)
       let n : whole_lines s ≡ length B.seen = omega (arith, B.read.count, B.read.some) in
       rw (lines.done (reads d) B.read h, n)
 
-  module _ (h : i < whole_lines s) {r : Line} {m' : List ℕ} (A : Admits (parse_in d (lent s i)) last m r m') {l : Line} (c : l ≡ convertible d r) where
-    pub test_turned : {n : ℕ} → l ≡ Refused n → refused n (place.Line (i + 1)) ≡ outcome_of (reading_in d s)
+  module _ (h : i < whole_lines s) {r : Result Entry Rule} {m' : List ℕ} (A : Admits (parse_in d (lent s i)) last m r m') {l : Result Entry Rule} (c : l ≡ convertible d r) where
+    pub test_turned : {n : Rule} → l ≡ Err n → refused (rule_number n) (place.Line (i + 1)) ≡ outcome_of (reading_in d s)
     test_turned q = rw (lines.turned (reads d) B.read h A (sym c ∙ q))
 
-    pub test_key : {e : Entry} → l ≡ Good e → Key e.code e.block e.class
+    pub test_key : {e : Entry} → l ≡ Ok e → Key e.code e.block e.class
     test_key {e} q = (lines.admitted_good (reads d) B.read h A (keeps d r e (sym c ∙ q))).key
 
-    pub test_again : {e : Entry} → l ≡ Good e → {k : ℕ} → k ≡ key_for e → TestedTo d s m' k (i + 1)
+    pub test_again : {e : Entry} → l ≡ Ok e → {k : ℕ} → k ≡ key_for e → TestedTo d s m' k (i + 1)
     test_again {e} q k = record { seen = e ∷ B.seen; read = lines.again (reads d) B.read h A (sym c ∙ q) k }
 
 -- ---- the lines written
@@ -95,7 +96,7 @@ module _ {d : Scale} {s r₀ r : List ℕ} {i : ℕ} (W : Writing d s r₀ r i) 
         (convertible d (line_after T.seen (parse_in d (line_at s i)))) (λ n p q. never (cc))
         (λ e p q.
         let a = lines.next_line (reads d) T.seen (line_at s i) line_long e p in
-        let y : ys ≡ other_line d e = w ∙ ap (λ (l : Line). other_over d l old) (ap (parse_in d) (lent_is s i) ∙ a.parsed) in
+        let y : ys ≡ other_line d e = w ∙ ap (λ (l : Result Entry Rule). other_over d l old) (ap (parse_in d) (lent_is s i) ∙ a.parsed) in
         let k : sheet_line_bytes * i + sheet_line_bytes ≡ sheet_line_bytes * (i + 1) = omega arith in
         let p = part T.wrote sheet_line_bytes ys (omega arith) (ap length y ∙ length_in_lem (other d) (rescaled d e)) in
         record { seen = e ∷ T.seen; rest = q; wrote = rw k at (subst Put y p) })

@@ -3,9 +3,10 @@
 use mathlib.Core.Path.{◌≡◌}
 use mathlib.Core.List.{List}
 use Prim.Native.Nat.{ℕ}
-use Rattle.refusal.specs.Outcome.{Judging}
+use Rattle.refusal.specs.Outcome.{Judging, rule_number}
 use Rattle.sheet_line.specs.declared.Entry.{Entry}
-use Rattle.sheet_line.specs.declared.Line.TheVariants.{Refused}
+use Rattle.std.specs.Prelude.{Err}
+use Rattle.refusal.specs.declared.Rule.{Rule}
 use Rattle.scaled_line.specs.Scale.{parse_in, print_in}
 use Rattle.scaled_line.specs.Amounts.{convertible}
 use Rattle.scaled_line.specs.declared.Scale.{Scale}
@@ -23,5 +24,5 @@ pub inverse : (d : Scale) → Inverse (parse_in d) (print_in d)
 inverse d = record { long = length_in_lem d; printed = line_printed d; parsed = line_parsed d }
 
 -- the numbers that a line is refused by
-pub judged : (d : Scale) (seen : List Entry) (s : List ℕ) (r : ℕ) → convertible d (line_after seen (parse_in d s)) ≡ Refused r → Judging r
+pub judged : (d : Scale) (seen : List Entry) (s : List ℕ) (r : Rule) → convertible d (line_after seen (parse_in d s)) ≡ Err r → Judging (rule_number r)
 judged d seen s = test_judging d (line_after seen (parse_in d s)) (refused_admitted _ _ (parse_in d s) (line_refused d s))

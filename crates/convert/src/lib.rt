@@ -16,22 +16,17 @@ ghost use Rattle.convert.specs.Steps.{LinesWritten, lines_call};
 
 use layout::SHEET_LINE_BYTES;
 use order::PLACES;
-use printing::RoomAnswer;
-use refusal::Place;
+use refusal::{Place, Refusal, Rule};
 use scaled_line::Scale;
-use sheet_length::{LONGEST_SHEET, Length};
-use sheet_line::Line;
+use sheet_length::LONGEST_SHEET;
 
 // A sheet of any bytes, and lent room of any length: nothing is written into it before every rule passes.
-pub fn convert_call(sheet: &[u8], room: &mut [u8]) -> RoomAnswer
+pub fn convert_call(sheet: &[u8], room: &mut [u8]) -> Result<usize, Refusal>
     ensures answer { ◌≡◌ {A = Done} (record { outcome = stated result; room = room.new }) (convert_call sheet.now room.old) }
     ensures converts_back { ConvertsBack sheet.now (stated result) room.new }
 {
-    let length = sheet_length::measure(sheet);
-    match length {
-        Length::Refused(rule, place) => RoomAnswer::Refused(rule, place),
-        Length::Whole => convert_lines(scaled_line::letters::scale_of(sheet), sheet, room),
-    }
+    sheet_length::measure(sheet)?;
+    convert_lines(scaled_line::letters::scale_of(sheet), sheet, room)
 }
 
 // What tsav-convert prints of a sheet of any bytes, from the room's start on: the converted sheet, or the line of the refusal. It gives how many
@@ -44,46 +39,37 @@ pub fn print_converted(sheet: &[u8], room: &mut [u8; LONGEST_SHEET]) -> usize
 }
 
 // A sheet of whole lines: they are tested, then comes rule 14, and then they are written.
-fn convert_lines(scale: Scale, sheet: &[u8], room: &mut [u8]) -> RoomAnswer
+fn convert_lines(scale: Scale, sheet: &[u8], room: &mut [u8]) -> Result<usize, Refusal>
     requires { length sheet.now % sheet_line_bytes ≡ 0 }
     ensures { ◌≡◌ {A = Done} (record { outcome = stated result; room = room.new }) (lines_call scale sheet.now room.old) }
 {
     let mut marks = [0u8; PLACES];
-    let tested = test_lines(scale, sheet, &mut marks);
-    match tested {
-        RoomAnswer::Refused(rule, place) => RoomAnswer::Refused(rule, place),
-        RoomAnswer::Accepted(_) => {
-            if room.len() < sheet.len() {
-                return RoomAnswer::Refused(14, Place::Nowhere);
-            }
-            write_lines(scale, sheet, room);
-            RoomAnswer::Accepted(sheet.len())
-        }
+    test_lines(scale, sheet, &mut marks)?;
+    if room.len() < sheet.len() {
+        return Err(Refusal(Rule::RoomTooShort, Place::Nowhere));
     }
+    write_lines(scale, sheet, room);
+    Ok(sheet.len())
 }
 
 // Tests the lines of a sheet one after the other, up to the first bad one. There is no text yet: all good, it gives how many lines there are.
-fn test_lines(scale: Scale, sheet: &[u8], marks: &mut [u8; PLACES]) -> RoomAnswer
+fn test_lines(scale: Scale, sheet: &[u8], marks: &mut [u8; PLACES]) -> Result<usize, Refusal>
     requires { marks.old ≡ table mark_of [] }
     ensures { stated result ≡ outcome_of (reading_in scale sheet.now) }
 {
     let n = sheet.len() / SHEET_LINE_BYTES;
     let mut last = 0u64;
-    let mut i = 0;
-    while i < n {
+    for i in 0..n {
         let from = SHEET_LINE_BYTES * i;
         let read = scaled_line::read_in(scale, &sheet[from..from + SHEET_LINE_BYTES]);
         let admitted = order::admit(read, last, marks);
         let line = scaled_line::amounts::convertible(scale, admitted);
         match line {
-            Line::Refused(rule) => return RoomAnswer::Refused(rule, Place::Line(i + 1)),
-            Line::Good(e) => {
-                last = order::key_of(e);
-            }
+            Ok(e) => last = order::key_of(e),
+            Err(rule) => return Err(Refusal(rule, Place::Line(i + 1))),
         }
-        i += 1;
     }
-    RoomAnswer::Accepted(n)
+    Ok(n)
 }
 
 // Writes the lines of a sheet, all of them good, as the other sort has them, each into its own stretch of the room.
@@ -91,15 +77,12 @@ fn write_lines(scale: Scale, sheet: &[u8], room: &mut [u8])
     requires { (length sheet.now % sheet_line_bytes ≡ 0) × (length sheet.now ≤ length room.old) }
     ensures { LinesWritten scale sheet.now room.old room.new }
 {
-    let n = sheet.len() / SHEET_LINE_BYTES;
-    let mut i = 0;
-    while i < n {
+    for i in 0..sheet.len() / SHEET_LINE_BYTES {
         let from = SHEET_LINE_BYTES * i;
         scaled_line::write_other(
             scale,
             &sheet[from..from + SHEET_LINE_BYTES],
             &mut room[from..from + SHEET_LINE_BYTES],
         );
-        i += 1;
     }
 }

@@ -18,17 +18,18 @@ pub fn correlated(y: &[u64; RISKS]) -> Wide
     requires { SmallYs y.now }
     ensures { pos (value result) ≡ quarter_sum y.now }
 {
-    running_sum::unsigned(row_by_row(y))
+    row_by_row(y).unsigned()
 }
 
 // The sum over i and j from 1 to 7, row by row over all 49 products, those with factor 0 too. f(k) is the factor of the product that
 // comes after k others: read at places that are written out, the compiler works with the factors as with numbers.
+// Kept: the 49 products written out are a form that document 01 names.
 fn row_by_row(y: &[u64; RISKS]) -> Sum
     requires { SmallYs y.now }
     ensures all_products { SoFar y.now products result }
     ensures sum { held result ≡ quarter_sum y.now }
 {
-    let s0 = running_sum::empty();
+    let s0 = Sum::empty();
     // i = 1, Mortalité
     let s1 = with_row(s0, y, 0, f(0), f(1), f(2), f(3), f(4), f(5), f(6));
     // i = 2, Longévité
@@ -80,5 +81,5 @@ fn with_product(before: Sum, y: &[u64; RISKS], row: usize, column: usize, quarte
     requires is_factor { quarters ≡ factor (risks * row + column) }
     ensures { SoFar y.now (risks * row + (column + 1)) result }
 {
-    running_sum::add_term(before, quarters, y[row], y[column])
+    before.add_term(quarters, y[row], y[column])
 }

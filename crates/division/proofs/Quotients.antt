@@ -48,26 +48,12 @@ width_of d h k =
 pub fewer : (d w m : ℕ) → Width d w → m ≤ w → 2 ^ m * d ≤ 2 ^ 64
 fewer d w m k h = omega (arith, k.fits, mul-le-mul_right d (pow_mono h))
 
--- ---- one step: a rest r by d and a digit c in base B
-
-pub next_below : (r c B d : ℕ) → r < d → c < B → r * B + c < B * d
-next_below r c B d h k = omega (arith, mul-le-mul_right B h)
-
-pub digit_below : (x B d : ℕ) → x < B * d → x / d < B
-digit_below x B d k = lt_of_mul-lt-mul_right d (omega (arith, div-add-mod' x d))
-
-pub stepped : (d q B c t r s : ℕ) → t * d + s ≡ r * B + c → (q * B + t) * d + s ≡ (q * d + r) * B + c
-stepped d q B c t r s e = omega arith
-
 -- ---- between two steps, with m binary digits of the lower word to go
 
 pub record Between (n low d q r m : ℕ) : Type 0 where
   pub small : r < d
   pub room : (q + 1) * 2 ^ m ≤ 2 ^ 64
   pub adds_up : (q * d + r) * 2 ^ m + low % 2 ^ m ≡ n
-
-pub start : (above low d : ℕ) → above < d → low < 2 ^ 64 → Between (above * 2 ^ 64 + low) low d 0 above 64
-start above low d h k = record { small = h; room = omega arith; adds_up = omega arith }
 
 -- a step of fewer digits has room, too
 pub narrower : (q w k : ℕ) → w ≤ k → (q + 1) * 2 ^ k ≤ 2 ^ 64 → (q + 1) * 2 ^ w ≤ 2 ^ 64
@@ -89,41 +75,21 @@ step n low d q r k w q' r' l b h g e =
       adds_up = brought_down d q r q' r' (2 ^ w) (2 ^ m) _ _ n (sym (λ i. (q * d + r) * p i + t i) ∙ b.adds_up) e;
     }
 
--- the last step brings down all that is left
-pub last : (n low d q r k x : ℕ) → Between n low d q r k → x ≡ (q * d + r) * 2 ^ k + low / 2 ^ 0 % 2 ^ k → x ≡ n
-last n low d q r k x b e = e ∙ ap (λ (y : ℕ). (q * d + r) * 2 ^ k + y % 2 ^ k) (omega arith) ∙ b.adds_up
-
 -- the quotient by the upper word and by what is below its rest
 pub two_words : (P h l d q r : ℕ) → q * d + r ≡ h % d * P + l → (h / d * P + q) * d + r ≡ h * P + l
 two_words P h l d q r e = omega (arith, ap (λ (x : ℕ). x * P) (div-add-mod' h d))
 
 -- and where there is no upper word
-pub one_word : (P h l d : ℕ) → h ≡ 0 → (0 * P + l / d) * d + l % d ≡ h * P + l
+pub one_word : (P h l d : ℕ) → h ≡ 0 → l / d * d + l % d ≡ h * P + l
 one_word P h l d e = omega (arith, div-add-mod' l d, ap (λ (x : ℕ). x * P) e)
 
--- ---- the quotient rounded up, from the quotient and the rest
+-- the quotient of a number that is at most d times the largest word fits a word
+pub quotient_below : (n d q r : ℕ) → q * d + r ≡ n → r < d → n ≤ d * (2 ^ 64 - 1) → q < 2 ^ 64
+quotient_below n d q r whole small fits = lt_of_mul-lt-mul_right d (omega arith)
 
-module _ (n d q r : ℕ) (whole : q * d + r ≡ n) (small : r < d) (fits : n ≤ d * (2 ^ 64 - 1)) where
-  pub quotient_below : q < 2 ^ 64
-  quotient_below = lt_of_mul-lt-mul_right d (omega arith)
-
-  pub exact_quotient : r ≡ 0 → q ≡ least (λ x. leb n (d * x))
-  exact_quotient h = sym (ceil_eq n d q quotient_below (omega arith) (omega arith))
-
-  pub quotient_room : 0 < r → q + 1 < 2 ^ 64
-  quotient_room h =
-      let k : q < 2 ^ 64 - 1 = lt_of_mul-lt-mul_right d (omega arith) in
-      omega arith
-
-  pub next_quotient : 0 < r → q + 1 ≡ least (λ x. leb n (d * x))
-  next_quotient h = sym (ceil_eq n d (q + 1) (quotient_room h) (omega arith) (omega arith))
-
--- ---- the quotient rounded up, of any size
+-- ---- the quotient rounded up
 
 module _ (n d : ℕ) (positive : 0 < d) where
-  pub up_exact : (q : ℕ) → q * d ≡ n → q ≡ (n + (d - 1)) / d
-  up_exact q e = sym (div-eq_of_lt-le {k = q} d (omega arith) (omega arith))
-
   pub up_next : (q r : ℕ) → q * d + r ≡ n → 0 < r → r < d → q + 1 ≡ (n + (d - 1)) / d
   up_next q r e h k = sym (div-eq_of_lt-le {k = q + 1} d (omega arith) (omega arith))
 
@@ -135,6 +101,13 @@ module _ (n d : ℕ) (positive : 0 < d) where
 
   up_reaches : (m : ℕ) → (n + (d - 1)) / d ≤ m → n ≤ d * m
   up_reaches m h = omega (arith, mul-le-mul_left d h, div-add-mod' (n + (d - 1)) d, mod-lt (n + (d - 1)) positive)
+
+  -- where it fits a word, it is the least number whose product with d reaches n
+  pub up_least : n ≤ d * (2 ^ 64 - 1) → (n + (d - 1)) / d ≡ least (λ q. leb n (d * q))
+  up_least fits =
+      let q : ℕ = (n + (d - 1)) / d in
+      let k : q < suc (2 ^ 64 - 1) = omega (arith, up_most (2 ^ 64 - 1) fits) in
+      sym (ceil_eq n d q (omega arith) (up_reaches q (omega arith)) (omega (arith, positive, div-add-mod' (n + (d - 1)) d)))
 
   -- rounded up by d and then by e is rounded up by d × e
   pub up_twice : (e : ℕ) → least (λ q. leb ((n + (d - 1)) / d) (e * q)) ≡ least (λ q. leb n (d * e * q))

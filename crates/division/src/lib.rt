@@ -5,20 +5,13 @@ ghost use Rattle.std.specs.Prelude.{◌≡◌, ◌+◌, ◌-◌, ◌*◌, ◌/�
 ghost use Rattle.search.specs.Least.{least};
 ghost use Rattle.wide.specs.Value.{value};
 
-use wide::{Wide, words};
+use wide::Wide;
 
-// A quotient of two words, and its rest.
+// A quotient and its rest. The quotient has one word or two.
 #[derive(Clone, Copy)]
-pub struct Division {
-    pub quotient: Wide,
+pub struct Division<Q> {
+    pub quotient: Q,
     pub rest: u64,
-}
-
-// A quotient of one word, and its rest.
-#[derive(Clone, Copy)]
-struct WordDivision {
-    quotient: u64,
-    rest: u64,
 }
 
 // n over d, rounded up, where that fits a word.
@@ -26,11 +19,7 @@ pub fn divide_up(n: Wide, d: u64) -> u64
     requires { (0 < d) × (d < 2 ^ 63) × (value n ≤ d * (2 ^ 64 - 1)) }
     ensures { result ≡ least (λ q. leb (value n) (d * q)) }
 {
-    let by = divide(n, d);
-    let down = by.quotient;
-    let low = down.low;
-    let rest = by.rest;
-    if rest == 0 { low } else { low + 1 }
+    quotient_up(n, d).low
 }
 
 // n over d, rounded up, in two words.
@@ -41,16 +30,12 @@ pub fn quotient_up(n: Wide, d: u64) -> Wide
     let by = divide(n, d);
     let down = by.quotient;
     let rest = by.rest;
-    if 0 < rest {
-        words::add(down, Wide { high: 0, low: 1 })
-    } else {
-        down
-    }
+    if 0 < rest { down + Wide::from(1) } else { down }
 }
 
 // n over any d of at most 63 binary digits, with its rest: the upper word by the machine's division, then the lower one. A number of one word,
 // the usual case, takes one division.
-pub fn divide(n: Wide, d: u64) -> Division
+pub fn divide(n: Wide, d: u64) -> Division<Wide>
     requires { (0 < d) × (d < 2 ^ 63) }
     ensures { (result.rest < d) × (value result.quotient * d + result.rest ≡ value n) }
 {
@@ -58,10 +43,7 @@ pub fn divide(n: Wide, d: u64) -> Division
     let low = n.low;
     if high == 0 {
         return Division {
-            quotient: Wide {
-                high: 0,
-                low: low / d,
-            },
+            quotient: Wide::from(low / d),
             rest: low % d,
         };
     }
@@ -76,16 +58,17 @@ pub fn divide(n: Wide, d: u64) -> Division
 }
 
 // A word below a rest, over d: as many binary digits a step as d leaves free in a word, and in the last step those that are left.
-fn divide_lower(above: u64, low: u64, d: u64) -> WordDivision
+fn divide_lower(above: u64, low: u64, d: u64) -> Division<u64>
     requires { (above < d) × (d < 2 ^ 63) }
     ensures { (result.rest < d) × (result.quotient * d + result.rest ≡ above * 2 ^ 64 + low) }
 {
     let width = u64::leading_zeros(d);
     let mut left = 64u32;
-    let mut held = WordDivision {
+    let mut held = Division {
         quotient: 0,
         rest: above,
     };
+    // Kept: each step takes `width` digits off those that are left, which no range counts.
     while width < left {
         left -= width;
         held = divide_step(held, low, left, width, d);
@@ -94,7 +77,7 @@ fn divide_lower(above: u64, low: u64, d: u64) -> WordDivision
 }
 
 // One step of a long division by d: the `width` binary digits of low above its last `left` are brought down to the rest so far.
-fn divide_step(before: WordDivision, low: u64, left: u32, width: u32, d: u64) -> WordDivision
+fn divide_step(before: Division<u64>, low: u64, left: u32, width: u32, d: u64) -> Division<u64>
     requires widths { (left < 64) × (width < 64) × (2 ^ width * d ≤ 2 ^ 64) }
     requires room { (before.rest < d) × ((before.quotient + 1) * 2 ^ width ≤ 2 ^ 64) }
     ensures below { (result.rest < d) × (result.quotient + 1 ≤ (before.quotient + 1) * 2 ^ width) }
@@ -104,7 +87,7 @@ fn divide_step(before: WordDivision, low: u64, left: u32, width: u32, d: u64) ->
     let rest = before.rest;
     let base = power_of_two(width);
     let next = rest * base + (low >> left) % base;
-    WordDivision {
+    Division {
         quotient: quotient * base + next / d,
         rest: next % d,
     }

@@ -16,7 +16,7 @@ use Rattle.search.proofs.Eaches.{each_append, each_at}
 use Rattle.search.proofs.Ascents.{each_ascending}
 use Rattle.refusal.specs.Outcome.Outcome.{accepted}
 use Rattle.refusal.specs.declared.Place.{Place}
-use Rattle.field.specs.declared.Field.TheVariants.{Value, Bad}
+use Rattle.std.specs.Prelude.{Some, None}
 use Rattle.guideline.specs.Sizes.{blocks, block_figures, FitsColumns}
 use Rattle.guideline.specs.Block.{AcceptedBlock, K, figures_of}
 use Rattle.guideline.specs.Buffer.{Sheet, count, buffer, CreditsWithin, AcceptedSheet}
@@ -72,21 +72,21 @@ other : {A : Type 0} → false ≡ true → A
 other e = absurd (false≢true e)
 
 -- among such rows no other number is found
-k_among : (k b x : ℕ) (rs : List Row) → Each (OfK k b) rs → number_among rs BLK b 5 Bad ≡ Value x → x ≡ k
+k_among : (k b x : ℕ) (rs : List Row) → Each (OfK k b) rs → number_among rs BLK b 5 None ≡ Some x → x ≡ k
 unfolding OfK number_among
 k_among k b x [] p e = never (cc)
 k_among k b x (r ∷ rs) p e =
-    by_test (λ f. f ≡ Value x → x ≡ k) (row_is r BLK b 5) _ _ (λ t q. cc (p.0 t)) (λ t q. k_among k b x rs p.1 q) e
+    by_test (λ f. f ≡ Some x → x ≡ k) (row_is r BLK b 5) _ _ (λ t q. cc (p.0 t)) (λ t q. k_among k b x rs p.1 q) e
 
 -- ---- what is read of its report
 
 -- both K that can be read are equal
 unfoldable pub SameK : Done → Type 0
-SameK d = (k₁ k₂ : ℕ) → number_at (claimed_report d) BLK 1 5 ≡ Value k₁ → number_at (claimed_report d) BLK 2 5 ≡ Value k₂ → k₁ ≡ k₂
+SameK d = (k₁ k₂ : ℕ) → number_at (claimed_report d) BLK 1 5 ≡ Some k₁ → number_at (claimed_report d) BLK 2 5 ≡ Some k₂ → k₁ ≡ k₂
 
 -- the buffer that is read where it accepts is x
 unfoldable pub Reads : ℕ → Done → Type 0
-Reads x d = (vs : List ℕ) → d.outcome ≡ accepted vs → number_at d.room TOT 0 3 ≡ Value x
+Reads x d = (vs : List ℕ) → d.outcome ≡ accepted vs → number_at d.room TOT 0 3 ≡ Some x
 
 -- of a refusal nothing is read
 pub none_read : (n : ℕ) (p : Place) (r : List ℕ) → SameK (untouched n p r)
@@ -122,7 +122,7 @@ module _ (es : List Entry) (v : AcceptedSheet (sheet_of es)) (h : CreditsWithin 
       (other, (other, (other, tt)))
 
   -- so that is what is read, if anything
-  k_read : (b k : ℕ) → b < 100 → number_at (filled_report es) BLK b 5 ≡ Value k → k ≡ K (get_or (sheet_of es).blocks 0 [])
+  k_read : (b k : ℕ) → b < 100 → number_at (filled_report es) BLK b 5 ≡ Some k → k ≡ K (get_or (sheet_of es).blocks 0 [])
   unfolding found_at found_in
   k_read b k l e =
       let p = all_printable (exists es) (λ b. first_figures es) _ _ _ [] (λ b l k t. five) totals in
@@ -136,7 +136,7 @@ module _ (es : List Entry) (v : AcceptedSheet (sheet_of es)) (h : CreditsWithin 
   pub k_same : (r : List ℕ) → SameK (filled (filled_report es) r)
   unfolding SameK
   k_same r k₁ k₂ e f =
-      let read : (b k : ℕ) → number_at (claimed_report (filled (filled_report es) r)) BLK b 5 ≡ Value k → number_at (filled_report es) BLK b 5 ≡ Value k =
+      let read : (b k : ℕ) → number_at (claimed_report (filled (filled_report es) r)) BLK b 5 ≡ Some k → number_at (filled_report es) BLK b 5 ≡ Some k =
       λ b k e. ap (λ (m : List ℕ). number_at m BLK b 5) (sym (claimed r)) ∙ e in
       k_read 1 k₁ (omega arith) (read 1 k₁ e) ∙ sym (k_read 2 k₂ (omega arith) (read 2 k₂ f))
 

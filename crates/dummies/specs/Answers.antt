@@ -1,9 +1,7 @@
 -- Small sheets, and what the sheet call answers to each: the dummies are refuted there. Assumes nothing.
-use Rattle.std.specs.Prelude.{Bool, true, List, [], ◌∷◌, ◌++◌, ℕ, ◌+◌, get_or, replicate}
+use Rattle.std.specs.Prelude.{Bool, true, List, [], ◌∷◌, ◌++◌, ℕ, ◌+◌, get_or, replicate, Option, Some, None}
 use Rattle.refusal.specs.Outcome.{Outcome}
 use Rattle.refusal.specs.Outcome.Outcome.{accepted}
-use Rattle.field.specs.declared.Field.{Field}
-use Rattle.field.specs.declared.Field.TheVariants.{Value, Bad}
 use Rattle.guideline.specs.Buffer as Buffer
 use Rattle.report_line.specs.Line.{number_at}
 use Rattle.codes.specs.Codes.{guarantee_class, scalar_class}
@@ -54,9 +52,9 @@ pub record Facts : Type 0 where
   pub amounts : Amounts
   pub outcome : Outcome
   pub head : ℕ
-  pub buffer : Field
-  pub k₁ : Field
-  pub k₂ : Field
+  pub buffer : Option ℕ
+  pub k₁ : Option ℕ
+  pub k₂ : Option ℕ
 
 -- of what a call gives for a sheet s and room r
 abbrev pub facts_of : List ℕ → List ℕ → Done → Facts
@@ -89,9 +87,9 @@ empty =
             amounts = record { allowance = 2000000; credits = 0; buffer = 0; filled_in = 0 };
             outcome = accepted (report_length 0 ∷ []);
             head = 84;
-            buffer = Value 0;
-            k₁ = Bad;
-            k₂ = Bad;
+            buffer = Some 0;
+            k₁ = None;
+            k₂ = None;
           };
     }
 
@@ -107,9 +105,9 @@ guaranteed =
             amounts = record { allowance = 2000000; credits = 0; buffer = 2; filled_in = 2 };
             outcome = accepted (report_length 0 ∷ []);
             head = 84;
-            buffer = Value 2;
-            k₁ = Bad;
-            k₂ = Bad;
+            buffer = Some 2;
+            k₁ = None;
+            k₂ = None;
           };
     }
 
@@ -125,9 +123,9 @@ two_blocks =
             amounts = record { allowance = 4020000; credits = 0; buffer = 300; filled_in = 200 };
             outcome = accepted (report_length 2 ∷ []);
             head = 66;
-            buffer = Value 300;
-            k₁ = Value 100;
-            k₂ = Value 200;
+            buffer = Some 300;
+            k₁ = Some 100;
+            k₂ = Some 200;
           };
     }
 

@@ -1,11 +1,10 @@
 -- Document 01, 'To the testers': 'Then try dummies.' Each is what is true of the call of a program that does so, and of nothing that such a
 -- program leaves open: a call is asked about sheets and rooms of bytes, and about its report where it accepts.
 -- Assumes nothing.
-use Rattle.std.specs.Prelude.{◌≡◌, Bool, true, ◌&&◌, List, [], ◌∷◌, ◌++◌, map, ℕ, ◌+◌, ◌*◌, ◌≤◌, ltb, get_or, take}
+use Rattle.std.specs.Prelude.{◌≡◌, Bool, true, ◌&&◌, List, [], ◌∷◌, ◌++◌, map, ℕ, ◌+◌, ◌*◌, ◌≤◌, ltb, get_or, take, Some}
 use Rattle.refusal.specs.Outcome.{Outcome}
 use Rattle.refusal.specs.Outcome.Outcome.{accepted, refused}
 use Rattle.refusal.specs.declared.Place.{Place}
-use Rattle.field.specs.declared.Field.TheVariants.{Value}
 use Rattle.guideline.specs.Buffer.{Sheet, buffer, CreditsWithin, millionths, allowance}
 use Rattle.report_line.specs.Line.{number_at}
 use Rattle.sheet_line.specs.declared.Entry.{Entry}
@@ -69,8 +68,8 @@ claimed_report d = bytes_of d.outcome
 -- where K of block 1 and of block 2 can both be read off its report, they are equal
 abbrev pub FirstFilledIn : Call → Type 0
 FirstFilledIn call =
-    (s r : List ℕ) (k₁ k₂ : ℕ) → Lent s r → number_at (claimed_report (call s r)) BLK 1 5 ≡ Value k₁ →
-    number_at (claimed_report (call s r)) BLK 2 5 ≡ Value k₂ → k₁ ≡ k₂
+    (s r : List ℕ) (k₁ k₂ : ℕ) → Lent s r → number_at (claimed_report (call s r)) BLK 1 5 ≡ Some k₁ →
+    number_at (claimed_report (call s r)) BLK 2 5 ≡ Some k₂ → k₁ ≡ k₂
 
 -- the first of some blocks in place of each
 abbrev pub first_for_all : List (List ℕ) → List (List ℕ)
@@ -90,7 +89,7 @@ pub record BufferOfFirst (call : Call) : Type 0 where
       (sheet_call s r).outcome ≡ accepted vs → (call s r).outcome ≡ accepted vs
   pub reads_buffer :
       (s r vs : List ℕ) (es : List Entry) → Lent s r → judgement s ≡ sound es → (call s r).outcome ≡ accepted vs →
-      number_at (call s r).room TOT 0 3 ≡ Value (buffer (filled_in (sheet_of es)))
+      number_at (call s r).room TOT 0 3 ≡ Some (buffer (filled_in (sheet_of es)))
 
 -- ---- 'A huge 'safe' buffer'
 

@@ -3,14 +3,15 @@
 // these calls, for a caller to compare before it lends anything.
 #![tactic(auto)]
 
-ghost use Rattle.std.specs.Prelude.{◌≡◌};
+ghost use Rattle.std.specs.Prelude.{◌≡◌, [], ◌∷◌, ◌++◌};
 ghost use Rattle.refusal.specs.Outcome.Outcome.{accepted};
+ghost use Rattle.figures.specs.Parts.{figure_list, step_list};
 ghost use Rattle.block.specs.Call.{block_call};
 ghost use Rattle.block.specs.Accepted.{BlockDemand3, FewSteps};
 ghost use Rattle.operational.specs.Call.{operational_call};
 ghost use Rattle.fluctuation.specs.Call.{fluctuation_call};
 ghost use Rattle.fluctuation.specs.Accepted.{FluctuationDemand};
-ghost use Rattle.shares.specs.Call.{shares_call};
+ghost use Rattle.shares.specs.Call.{share_list, shares_call};
 ghost use Rattle.shares.specs.Accepted.{SharesDemand};
 ghost use Rattle.aggregate.specs.Call.{sheet_call};
 ghost use Rattle.aggregate.specs.Demand.{Demand3};
@@ -19,12 +20,9 @@ ghost use Rattle.sheet_check.specs.Call.{check_call, ListsExactly};
 ghost use Rattle.answers.specs.Left.{Leaves};
 ghost use Rattle.exports.specs.Version.{interface_version};
 
-use answers::ACCEPTED;
-use block::BlockAnswer;
-use fluctuation::FluctuationAnswer;
+use figures::Worked;
 use guideline::{BLOCK_FIGURES, BLOCK_NUMBERS, GENERAL_FIGURES, PARTS};
-use operational::OperationalAnswer;
-use shares::SharesAnswer;
+use shares::Shares;
 
 // What the block call gives: the figures, and the steps of its two roots.
 const BLOCK_VALUES: usize = BLOCK_FIGURES + 2;
@@ -51,14 +49,18 @@ pub extern "C" fn tsav_block(
     ensures leaves { Leaves (block_call numbers.now) result figures.old place.old figures.new place.new }
     ensures at_0 { result ≡ 0 → BlockDemand3 numbers.now (accepted figures.new) × FewSteps (accepted figures.new) }
 {
-    let answer = block::block_call(numbers);
-    match answer {
-        BlockAnswer::Accepted(f, s) => {
-            *figures = [f.i, f.d, f.u, f.lt, f.k, s.i, s.d];
-            ACCEPTED
-        }
-        BlockAnswer::Refused(number, at) => answers::refuse(number, at, place),
-    }
+    let values = block::block_call(numbers).map(
+        |w: Worked|
+            ensures { result ≡ figure_list w.figures ++ step_list w.steps }
+        {
+            let Worked {
+                figures: f,
+                steps: s,
+            } = w;
+            [f.i, f.d, f.u, f.lt, f.k, s.i, s.d]
+        },
+    );
+    answers::leave(values, figures, place)
 }
 
 // The figure is RO.
@@ -71,14 +73,12 @@ pub extern "C" fn tsav_operational(
 ) -> u64
     ensures { Leaves (operational_call volumes.now general.now) result figure.old place.old figure.new place.new }
 {
-    let answer = operational::operational_call(volumes, general);
-    match answer {
-        OperationalAnswer::Accepted(ro) => {
-            *figure = [ro];
-            ACCEPTED
-        }
-        OperationalAnswer::Refused(number, at) => answers::refuse(number, at, place),
-    }
+    let values = operational::operational_call(volumes, general).map(
+        |ro: u64|
+            ensures { result ≡ ro ∷ [] }
+        { [ro] },
+    );
+    answers::leave(values, figure, place)
 }
 
 // A row of section 11.1.2, the requirement and the face amount. The figure is the requirement times its factor; where 0 is given, it meets
@@ -94,14 +94,12 @@ pub extern "C" fn tsav_fluctuation(
     ensures leaves { Leaves (fluctuation_call row requirement face) result figure.old place.old figure.new place.new }
     ensures at_0 { result ≡ 0 → FluctuationDemand row requirement face (accepted figure.new) }
 {
-    let answer = fluctuation::fluctuation_call(row, requirement, face);
-    match answer {
-        FluctuationAnswer::Accepted(result) => {
-            *figure = [result];
-            ACCEPTED
-        }
-        FluctuationAnswer::Refused(number, at) => answers::refuse(number, at, place),
-    }
+    let values = fluctuation::fluctuation_call(row, requirement, face).map(
+        |product: u64|
+            ensures { result ≡ product ∷ [] }
+        { [product] },
+    );
+    answers::leave(values, figure, place)
 }
 
 // The shares of K in cents: risks 1 to 7, then PC, credit and market. Where 0 is given, they total K, and each is within a cent of its
@@ -115,17 +113,17 @@ pub extern "C" fn tsav_shares(
     ensures leaves { Leaves (shares_call numbers.now) result shares.old place.old shares.new place.new }
     ensures at_0 { result ≡ 0 → SharesDemand numbers.now (accepted shares.new) }
 {
-    let answer = shares::shares_call(numbers);
-    match answer {
-        SharesAnswer::Accepted(s) => {
-            *shares = [
+    let values = shares::shares_call(numbers).map(
+        |s: Shares|
+            ensures { result ≡ share_list s }
+        {
+            [
                 s.risk1, s.risk2, s.risk3, s.risk4, s.risk5, s.risk6, s.risk7, s.pc, s.credit,
                 s.market,
-            ];
-            ACCEPTED
-        }
-        SharesAnswer::Refused(number, at) => answers::refuse(number, at, place),
-    }
+            ]
+        },
+    );
+    answers::leave(values, shares, place)
 }
 
 // Accepted, `written` holds how many bytes of the lent report are the report, from its start. Where 0 is given, the report meets demand 3.
@@ -140,8 +138,7 @@ pub extern "C" fn tsav_sheet(
     ensures leaves { Leaves (sheet_call sheet.now report.old).outcome result written.old place.old written.new place.new }
     ensures at_0 { result ≡ 0 → Demand3 sheet.now (accepted written.new) report.new }
 {
-    let answer = aggregate::sheet_call(sheet, report);
-    answers::tell(answer, written, place)
+    answers::tell(aggregate::sheet_call(sheet, report), written, place)
 }
 
 // Accepted, `written` holds how many bytes of the lent room are the converted sheet, from its start. Where 0 is given, it converts back.
@@ -156,8 +153,7 @@ pub extern "C" fn tsav_convert(
     ensures leaves { Leaves (convert_call sheet.now room.old).outcome result written.old place.old written.new place.new }
     ensures at_0 { result ≡ 0 → ConvertsBack sheet.now (accepted written.new) room.new }
 {
-    let answer = convert::convert_call(sheet, room);
-    answers::tell(answer, written, place)
+    answers::tell(convert::convert_call(sheet, room), written, place)
 }
 
 // Accepted, `written` holds how many bytes of the lent room are the listing, from its start. Where 0 is given, a line of the sheet is listed exactly
@@ -173,6 +169,5 @@ pub extern "C" fn tsav_check(
     ensures leaves { Leaves (check_call sheet.now room.old).outcome result written.old place.old written.new place.new }
     ensures at_0 { result ≡ 0 → ListsExactly sheet.now (accepted written.new) room.new }
 {
-    let answer = sheet_check::check_call(sheet, room);
-    answers::tell(answer, written, place)
+    answers::tell(sheet_check::check_call(sheet, room), written, place)
 }

@@ -1,5 +1,6 @@
 -- Reading and writing a field undo each other, over every width; a field's number has no more digits than the field has
 -- columns. Assumes nothing.
+use Rattle.std.specs.Prelude.{Option, Some}
 use mathlib.Core.Path.{◌≡◌, refl, sym, ap, ◌∙◌}
 use mathlib.Core.List.{List, [], ◌∷◌, ◌++◌, append-nil}
 use Prim.Native.Nat.{ℕ, zero, suc, ◌+◌, ◌-◌, ◌*◌, ◌/◌, ◌%◌, ◌^◌, ◌≤◌, ◌<◌}
@@ -11,13 +12,11 @@ use lib.Seq.{append_snoc}
 use borrow.Author.Tests.{ltb-false, eqb-true, eqb-false}
 use Rattle.search.proofs.Picks.{if_true, if_false, if_eq, if_ne, if_ge, by_test, never}
 use Rattle.field.specs.Field.{field, digits, zero_only, digit_or_space, leading_digits, decimal}
-use Rattle.field.specs.declared.Field.{Field}
-use Rattle.field.specs.declared.Field.TheVariants.{Value}
 use Rattle.field.proofs.Reading.{grows}
 
 -- ---- a digit, and what no digit is
 
-same_value : {F : Field} {a b : ℕ} → F ≡ Value a → F ≡ Value b → a ≡ b
+same_value : {F : Option ℕ} {a b : ℕ} → F ≡ Some a → F ≡ Some b → a ≡ b
 same_value p q = cc
 
 digit_read : (u b : ℕ) (t : List ℕ) → 48 ≤ b → b ≤ 57 → digits u (b ∷ t) ≡ digits (10 * u + (b - 48)) t
@@ -28,17 +27,17 @@ digit_read u b t l h = if_ge _ l ∙ if_ge _ h
 record Spelled (u b : ℕ) (t : List ℕ) (r : ℕ) : Type 0 where
   low : 48 ≤ b
   high : b ≤ 57
-  rest : digits (10 * u + (b - 48)) t ≡ Value r
+  rest : digits (10 * u + (b - 48)) t ≡ Some r
 
-spelled : (u b : ℕ) (t : List ℕ) (r : ℕ) → digits u (b ∷ t) ≡ Value r → Spelled u b t r
+spelled : (u b : ℕ) (t : List ℕ) (r : ℕ) → digits u (b ∷ t) ≡ Some r → Spelled u b t r
 unfolding digits
 spelled u b t r =
-    by_test (λ f. f ≡ Value r → Spelled u b t r) _ _ _ (λ l q. never (cc)) λ l.
-    by_test (λ f. f ≡ Value r → Spelled u b t r) _ _ _ (λ h q. never (cc)) λ h q.
+    by_test (λ f. f ≡ Some r → Spelled u b t r) _ _ _ (λ l q. never (cc)) λ l.
+    by_test (λ f. f ≡ Some r → Spelled u b t r) _ _ _ (λ h q. never (cc)) λ h q.
     record { low = ltb-false _ _ l; high = ltb-false _ _ h; rest = q }
 
 -- what holds of what a field's first column leads to holds of its number: a space, a leading zero, another byte
-by_first : (P : Field → Type 0) (b : ℕ) (bs : List ℕ) → (b ≡ 32 → P (field bs)) → (b ≡ 48 → P (zero_only bs))
+by_first : (P : Option ℕ → Type 0) (b : ℕ) (bs : List ℕ) → (b ≡ 32 → P (field bs)) → (b ≡ 48 → P (zero_only bs))
     → ((b ≡ 48 → ⊥) → P (digits 0 (b ∷ bs))) → P (field (b ∷ bs))
 unfolding field
 by_first P b bs space zeros digit =
@@ -46,7 +45,7 @@ by_first P b bs space zeros digit =
 
 -- ---- a field's number has no more digits than the field has columns
 
-digits_bound : (s : List ℕ) (u m r : ℕ) → u < 10 ^ m → digits u s ≡ Value r → r < 10 ^ (m + length s)
+digits_bound : (s : List ℕ) (u m r : ℕ) → u < 10 ^ m → digits u s ≡ Some r → r < 10 ^ (m + length s)
 unfolding digits
 digits_bound [] u m r h q = rw (← same_value refl q, add-zero) h
 digits_bound (b ∷ bs) u m r h q =
@@ -54,15 +53,15 @@ digits_bound (b ∷ bs) u m r h q =
     let e : m + 1 + length bs ≡ m + suc (length bs) = omega arith in
     rw e at (digits_bound bs (10 * u + (b - 48)) (m + 1) r (grows u m b h p.high) p.rest)
 
-only_zero : (bs : List ℕ) (r : ℕ) → zero_only bs ≡ Value r → r ≡ 0
+only_zero : (bs : List ℕ) (r : ℕ) → zero_only bs ≡ Some r → r ≡ 0
 only_zero [] r q = same_value q refl
 only_zero (b ∷ bs) r q = never (cc)
 
-pub field_bound : (s : List ℕ) (r : ℕ) → field s ≡ Value r → r < 10 ^ length s
+pub field_bound : (s : List ℕ) (r : ℕ) → field s ≡ Some r → r < 10 ^ length s
 unfolding field
 field_bound [] r = λ q. never (cc)
 field_bound (b ∷ bs) r =
-    by_first (λ f. f ≡ Value r → r < 10 ^ suc (length bs)) b bs
+    by_first (λ f. f ≡ Some r → r < 10 ^ suc (length bs)) b bs
     (λ x q. lt_of_lt_of_le (field_bound bs r q) (pow-le-pow_right (omega arith) (omega arith)))
     (λ y q. rw (only_zero bs r q) (one-le-pow (suc (length bs)) 10 (omega arith)))
     (λ y q. let z : 0 < 10 ^ 0 = omega arith in rw zero-add at (digits_bound (b ∷ bs) 0 0 r z q))
@@ -108,7 +107,7 @@ number_read (suc w) v t h b =
           (number_read w (v / 10) ((48 + v % 10) ∷ t) p (omega arith)) ∙ next_read v t
     ]
 
-pub read_back : (w v : ℕ) → 0 < w → v < 10 ^ w → field (decimal w v) ≡ Value v
+pub read_back : (w v : ℕ) → 0 < w → v < 10 ^ w → field (decimal w v) ≡ Some v
 unfolding decimal digits field
 read_back zero v h b = absurd (omega arith)
 read_back (suc w) v h b =
@@ -142,7 +141,7 @@ moved m u b t p l h =
     let e : 48 + (10 * u + (b - 48)) % 10 ≡ b = omega arith in
     rw (digit_shown (10 * u + (b - 48)) p, d, e) (sym (append_snoc (leading_digits m u) b t))
 
-spelled_written : (s : List ℕ) (m u r : ℕ) → 0 < u → digits u s ≡ Value r → leading_digits m u ++ s ≡ decimal (m + length s) r
+spelled_written : (s : List ℕ) (m u r : ℕ) → 0 < u → digits u s ≡ Some r → leading_digits m u ++ s ≡ decimal (m + length s) r
 unfolding digits
 spelled_written [] m u r h q = rw (append-nil, add-zero, ← same_value refl q) (leading_decimal m u h)
 spelled_written (b ∷ bs) m u r h q =
@@ -150,7 +149,7 @@ spelled_written (b ∷ bs) m u r h q =
     let e : suc m + length bs ≡ m + suc (length bs) = omega arith in
     moved m u b bs (omega arith) p.low p.high ∙ spelled_written bs (suc m) (10 * u + (b - 48)) r (omega arith) p.rest ∙ ap (λ (n : ℕ). decimal n r) e
 
-digits_written : (b : ℕ) (bs : List ℕ) (r : ℕ) → (b ≡ 48 → ⊥) → digits 0 (b ∷ bs) ≡ Value r → b ∷ bs ≡ decimal (suc (length bs)) r
+digits_written : (b : ℕ) (bs : List ℕ) (r : ℕ) → (b ≡ 48 → ⊥) → digits 0 (b ∷ bs) ≡ Some r → b ∷ bs ≡ decimal (suc (length bs)) r
 unfolding leading_digits
 digits_written b bs r n q =
     let p = spelled 0 b bs r q in
@@ -158,20 +157,20 @@ digits_written b bs r n q =
     let h : 0 < 10 * 0 + (b - 48) = omega arith in
     moved 0 0 b bs h p.low p.high ∙ spelled_written bs 1 (10 * 0 + (b - 48)) r h p.rest ∙ ap (λ (n : ℕ). decimal n r) e
 
-zero_written : (bs : List ℕ) (r : ℕ) → zero_only bs ≡ Value r → 48 ∷ bs ≡ decimal (suc (length bs)) r
+zero_written : (bs : List ℕ) (r : ℕ) → zero_only bs ≡ Some r → 48 ∷ bs ≡ decimal (suc (length bs)) r
 unfolding decimal leading_digits
 zero_written [] r q = rw (← same_value refl q)
 zero_written (b ∷ bs) r q = never (cc)
 
-some_column : (s : List ℕ) (r : ℕ) → field s ≡ Value r → 0 < length s
+some_column : (s : List ℕ) (r : ℕ) → field s ≡ Some r → 0 < length s
 unfolding field
 some_column [] r q = never (cc)
 some_column (b ∷ bs) r q = omega arith
 
-pub written_back : (s : List ℕ) (r : ℕ) → field s ≡ Value r → s ≡ decimal (length s) r
+pub written_back : (s : List ℕ) (r : ℕ) → field s ≡ Some r → s ≡ decimal (length s) r
 unfolding field
 written_back [] r = λ q. never (cc)
 written_back (b ∷ bs) r =
-    by_first (λ f. f ≡ Value r → b ∷ bs ≡ decimal (suc (length bs)) r) b bs
+    by_first (λ f. f ≡ Some r → b ∷ bs ≡ decimal (suc (length bs)) r) b bs
     (λ x p. rw x (ap (λ (l : List ℕ). 32 ∷ l) (written_back bs r p) ∙ sym (space_decimal (length bs) r (some_column bs r p) (field_bound bs r p))))
     (λ y q. rw y (zero_written bs r q)) (digits_written b bs r)

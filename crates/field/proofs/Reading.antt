@@ -1,24 +1,26 @@
 -- A field read column by column: what the column at i says of the number that the columns from i on hold. Assumes nothing.
+use Rattle.std.specs.Prelude.{Some, None}
 use mathlib.Core.Path.{◌≡◌, ◌∙◌}
 use mathlib.Core.List.{List}
 use Prim.Native.Nat.{ℕ, ◌+◌, ◌-◌, ◌*◌, ◌^◌, ◌≤◌, ◌<◌}
 use native.Mathlib.Numerals.{add-one}
 use native.Mathlib.Nat.{pow-le-pow_right}
+use native.Mathlib.Decide.{dec_lt}
 use native.Mathlib.Omega.{arith}
 use lib.ListN.{length, get_or, drop, drop_of_length-le}
 use lib.Seq.{drop-cons}
 use Rattle.search.proofs.Picks.{if_eq, if_ne, if_lt, if_ge}
 use Rattle.field.specs.Field.{most_columns, field, digits, zero_only}
-use Rattle.field.specs.declared.Field.TheVariants.{Value, Bad}
 
 module _ (s : List ℕ) (i : ℕ) (h : i < length s) where
-  pub digits_low : (v : ℕ) → get_or s i 0 < 48 → digits v (drop i s) ≡ Bad
+  pub digits_not : (v : ℕ) → (48 ≤ get_or s i 0 → 57 < get_or s i 0) → digits v (drop i s) ≡ None
   unfolding digits
-  digits_low v l = rw (drop-cons s i 0) (if_lt _ l)
-
-  pub digits_high : (v : ℕ) → 48 ≤ get_or s i 0 → 57 < get_or s i 0 → digits v (drop i s) ≡ Bad
-  unfolding digits
-  digits_high v l u = rw (drop-cons s i 0) (if_ge _ l ∙ if_lt _ u)
+  digits_not v n =
+      rw (drop-cons s i 0)
+      (elim (dec_lt (get_or s i 0) 48) [
+        | yes l ↦ if_lt _ l
+        | no l ↦ let u : 57 < get_or s i 0 = n (omega arith) in if_ge _ (omega arith) ∙ if_lt _ u
+      ])
 
   pub digits_more : (v : ℕ) → 48 ≤ get_or s i 0 → get_or s i 0 ≤ 57 → digits v (drop i s) ≡ digits (10 * v + (get_or s i 0 - 48)) (drop (i + 1) s)
   unfolding digits
@@ -38,22 +40,22 @@ module _ (s : List ℕ) (i : ℕ) (h : i < length s) where
       let n : get_or s i 0 ≡ 32 → ⊥ = λ q. omega arith in
       rw (drop-cons s i 0, add-one) (if_ne _ n ∙ if_eq _ e)
 
-  pub zero_last : get_or s i 0 ≡ 48 → i + 1 ≡ length s → field (drop i s) ≡ Value 0
+  pub zero_last : get_or s i 0 ≡ 48 → i + 1 ≡ length s → field (drop i s) ≡ Some 0
   zero_last e l =
       let o : length s ≤ i + 1 = omega arith in
       field_zero e ∙ rw (drop_of_length-le s o)
 
-  pub zero_leads : get_or s i 0 ≡ 48 → (i + 1 ≡ length s → ⊥) → field (drop i s) ≡ Bad
+  pub zero_leads : get_or s i 0 ≡ 48 → (i + 1 ≡ length s → ⊥) → field (drop i s) ≡ None
   zero_leads e l =
       let o : i + 1 < length s = omega arith in
       field_zero e ∙ rw (drop-cons s (i + 1) 0)
 
 module _ (s : List ℕ) (i : ℕ) (h : length s ≤ i) where
-  pub digits_end : (v : ℕ) → digits v (drop i s) ≡ Value v
+  pub digits_end : (v : ℕ) → digits v (drop i s) ≡ Some v
   unfolding digits
   digits_end v = rw (drop_of_length-le s h)
 
-  pub field_end : field (drop i s) ≡ Bad
+  pub field_end : field (drop i s) ≡ None
   unfolding field
   field_end = rw (drop_of_length-le s h)
 

@@ -1,28 +1,26 @@
 -- A number field: a decimal number in columns, read and written, one definition for every width. Document 01, the sheet
 -- and the report: 'Numbers are decimal, right-justified, spaces before, at least one digit, no leading zero except 0
 -- itself.' Bytes are numbers: a space is 32, the digits are 48 to 57. Assumes nothing.
-use Rattle.std.specs.Prelude.{ℕ, zero, suc, ◌+◌, ◌-◌, ◌*◌, ◌/◌, ◌%◌, List, [], ◌∷◌, ◌++◌, ltb, eqb}
+use Rattle.std.specs.Prelude.{Option, Some, None, ℕ, zero, suc, ◌+◌, ◌-◌, ◌*◌, ◌/◌, ◌%◌, List, [], ◌∷◌, ◌++◌, ltb, eqb}
 use Rattle.search.specs.Pick.{pick}
-use Rattle.field.specs.declared.Field.{Field}
-use Rattle.field.specs.declared.Field.TheVariants.{Value, Bad}
 
 -- the most columns that a field is read off: what they hold fits 64 bits
 abbrev pub most_columns : ℕ
 most_columns = 18
 
--- the number that decimal digits spell after v; Bad where another byte stands among them
-unfoldable pub digits : ℕ → List ℕ → Field
-digits v [] = Value v
-digits v (b ∷ bs) = pick (ltb b 48) Bad (pick (ltb 57 b) Bad (digits (10 * v + (b - 48)) bs))
+-- the number that decimal digits spell after v; none where another byte stands among them
+unfoldable pub digits : ℕ → List ℕ → Option ℕ
+digits v [] = Some v
+digits v (b ∷ bs) = pick (ltb b 48) None (pick (ltb 57 b) None (digits (10 * v + (b - 48)) bs))
 
 -- what a leading zero is: 0 itself where nothing follows it
-abbrev pub zero_only : List ℕ → Field
-zero_only [] = Value 0
-zero_only (b ∷ bs) = Bad
+abbrev pub zero_only : List ℕ → Option ℕ
+zero_only [] = Some 0
+zero_only (b ∷ bs) = None
 
 -- the number in a field: spaces, then digits to its end
-unfoldable pub field : List ℕ → Field
-field [] = Bad
+unfoldable pub field : List ℕ → Option ℕ
+field [] = None
 field (b ∷ bs) = pick (eqb b 32) (field bs) (pick (eqb b 48) (zero_only bs) (digits 0 (b ∷ bs)))
 
 -- the last digit of what is left of a number; a space where nothing is left

@@ -4,57 +4,48 @@
 // A number that may be below 0.
 pub mod signed;
 
-ghost use Rattle.std.specs.Prelude.{◌≡◌, ◌+◌, ◌-◌, ◌*◌, ◌%◌, ◌≤◌, ◌<◌, length, drop};
+ghost use Rattle.std.specs.Prelude.{◌≡◌, ◌+◌, ◌-◌, ◌*◌, ◌%◌, ◌≤◌, ◌<◌, length, MatchOption};
 ghost use Rattle.field.specs.Field.{most_columns, digits, field, digit_or_space, decimal};
 
-// What a number field holds.
-#[derive(Clone, Copy)]
-pub enum Field {
-    Value(u64),
-    Bad,
-}
-
-// The number in the columns of s.
-pub fn read_field(s: &[u8]) -> Field
+// The number in the columns of s; none where they break the form of a field.
+pub fn read_field(s: &[u8]) -> Option<u64>
     requires { length s.now ≤ most_columns }
     ensures { result ≡ field s.now }
 {
-    let mut i = 0;
-    while i < s.len() {
-        let b = s[i];
+    for (i, &b) in s.iter().enumerate() {
         if b != b' ' {
             if b == b'0' {
                 if i + 1 == s.len() {
-                    return Field::Value(0);
+                    return Some(0);
                 }
-                return Field::Bad;
+                return None;
             }
-            return digits_from(s, i);
+            return digits_from(&s[i..]);
         }
-        i += 1;
     }
-    Field::Bad
+    None
 }
 
-// The number that s spells from a column to its end, digits alone.
-fn digits_from(s: &[u8], from: usize) -> Field
-    requires { (from ≤ length s.now) × (length s.now ≤ most_columns) }
-    ensures { result ≡ digits 0 (drop from s.now) }
+// The number that the columns of s spell, digits alone.
+fn digits_from(s: &[u8]) -> Option<u64>
+    requires { length s.now ≤ most_columns }
+    ensures { result ≡ digits 0 s.now }
 {
-    let mut v: u64 = 0;
-    let mut i = from;
-    while i < s.len() {
-        let b = s[i];
-        if b < b'0' {
-            return Field::Bad;
-        }
-        if b'9' < b {
-            return Field::Bad;
-        }
-        v = 10 * v + (cast::byte(b) - 48);
-        i += 1;
+    let mut v = 0;
+    for &b in s {
+        v = 10 * v + digit_of(b)?;
     }
-    Field::Value(v)
+    Some(v)
+}
+
+// The number of a digit.
+fn digit_of(b: u8) -> Option<u64>
+    ensures { MatchOption result (48 ≤ b → 57 < b) (λ d. (48 ≤ b) × ((b ≤ 57) × (d ≡ b - 48))) }
+{
+    match b {
+        b'0'..=b'9' => Some(u64::from(b - b'0')),
+        _ => None,
+    }
 }
 
 // The number v, right-justified in the columns of out.
@@ -62,12 +53,11 @@ pub fn write_field(out: &mut [u8], v: u64)
     requires { 0 < length out.old }
     ensures { out.new ≡ decimal (length out.old) v }
 {
-    let mut i = out.len() - 1;
+    let last = out.len() - 1;
     // 0 has a digit too, so the last column never holds a space
-    out[i] = digit(v);
+    out[last] = digit(v);
     let mut left = v / 10;
-    while 0 < i {
-        i -= 1;
+    for i in (0..last).rev() {
         out[i] = digit_or_space(left);
         left /= 10;
     }

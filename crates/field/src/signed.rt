@@ -24,12 +24,11 @@ fn minus_place(s: &[u8]) -> usize
     requires { 0 < length s.now }
     ensures { (result < length s.now) × (set s.now result 45 ≡ with_minus s.now) }
 {
-    let mut i = 0;
-    while i + 1 < s.len() {
+    let last = s.len() - 1;
+    for i in 0..last {
         if s[i + 1] != b' ' {
             return i;
         }
-        i += 1;
     }
-    i
+    last
 }

@@ -16,9 +16,6 @@ use Rattle.insurance.specs.Radicand.{radicand_i}
 use Rattle.insurance.proofs.Radicand.{largest_v, largest_radicand, in_steps, few_steps_i}
 use Rattle.figures.specs.RootSteps.{radicand_d}
 
-pub joint : (a i p r : ℕ) → p ≡ a * (a + i) → r ≡ i * i → p + r ≡ radicand a i
-joint a i p r e f = omega arith
-
 pub joint_small : (a i : ℕ) → a + i ≤ largest_v → radicand a i ≤ largest_radicand
 joint_small a i h = radicand_most a i largest_v h
 

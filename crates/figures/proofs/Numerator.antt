@@ -1,18 +1,15 @@
--- The numerator of K as the code makes it: two products, M being one of two differences. U reaches it, so that it fits two words, and its quotient
--- by 600,000 and then by V a word. Assumes nothing.
+-- The numerator of K as the code makes it: two products, M being one of two differences; its quotient by 600,000 and then by V. Assumes nothing.
 use mathlib.Core.Path.{◌≡◌, sym, ◌∙◌}
 use mathlib.Core.List.{List}
-use Prim.Native.Nat.{ℕ, ◌+◌, ◌-◌, ◌*◌, ◌/◌, ◌^◌, ◌≤◌, ◌<◌}
-use native.Mathlib.Nat.{mul-le-mul, mul-le-mul_left, lt_of_le_of_lt}
+use Prim.Native.Nat.{ℕ, ◌+◌, ◌-◌, ◌*◌, ◌/◌, ◌<◌}
 use native.Mathlib.Omega.{arith}
-use lib.Dec.{leb, lit<}
+use lib.Dec.{leb}
 use Rattle.search.specs.Least.{least}
-use Rattle.amount.specs.Amount.{limit}
 use Rattle.guideline.specs.Sizes.{fineness}
 use Rattle.guideline.specs.Block.{AcceptedBlock, U, LT, Vh, fine_d, K, fine_numerator, requirement}
 use Rattle.guideline.proofs.Bounds.{factored}
-use Rattle.guideline.proofs.Figures.{numerator_within, requirement_some, v_is, u_high, u_fits, fine_d_high, fine_d_third}
-use Rattle.division.proofs.Quotients.{up_most, up_twice}
+use Rattle.guideline.proofs.Figures.{requirement_some, v_is, u_high, u_fits, fine_d_high, fine_d_third}
+use Rattle.division.proofs.Quotients.{up_twice}
 use Rattle.figures.specs.Parts.{FigureBounds}
 
 -- what the numerator is over, but for V
@@ -28,21 +25,6 @@ module _ (u l d : ℕ) (s : FigureBounds u l d) where
       (p m : ℕ) → p ≡ fineness * v * (fineness * (48 * u + 6 * l)) → m ≡ (3 * d - fineness * v) * (10 * d - 7 * (fineness * v)) →
       p + m ≡ fine_numerator u l v d
   numerator_is p m e f = omega (arith, factored (fineness * v) d s.third)
-
-  -- U reaches it
-  u_reaches : fine_numerator u l v d ≤ over_v * (v * u)
-  u_reaches = omega (arith, numerator_within u l v (omega (arith, s.within)) (omega (arith, s.small)) d s.high s.third)
-
-  pub numerator_small : fine_numerator u l v d < 2 ^ 128
-  numerator_small =
-      let w : v * u ≤ 20 * limit * (10 * limit) = mul-le-mul {n₂ = 20 * limit} {m₂ = 10 * limit} (omega (arith, s.small)) s.small in
-      lt_of_le_of_lt {m = over_v * (20 * limit * (10 * limit))} (omega (arith, u_reaches)) (lit< tt)
-
-  -- V divides its quotient into a word
-  pub quotient_divides : 0 < u → (n c : ℕ) → n ≡ fine_numerator u l v d → c ≡ (n + (over_v - 1)) / over_v → (0 < v) × (v < 2 ^ 63) × (c ≤ v * (2 ^ 64 - 1))
-  quotient_divides h n c e f =
-      let w : v * u ≤ v * (2 ^ 64 - 1) = mul-le-mul_left v (omega (arith, s.small)) in
-      (omega (arith, s.within), omega (arith, s.small), omega (arith, up_most n over_v (omega arith) (v * u) (omega (arith, u_reaches))))
 
   -- the quotient as the two divisions have it
   pub requirement_is : 0 < u → (n c : ℕ) → n ≡ fine_numerator u l v d → c ≡ (n + (over_v - 1)) / over_v → least (λ q. leb c (v * q)) ≡ requirement u l v d

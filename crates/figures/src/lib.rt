@@ -12,7 +12,7 @@ ghost use Rattle.figures.specs.RootSteps.{steps_of};
 
 use guideline::{BLOCK_NUMBERS, FINENESS};
 use root::Root;
-use wide::words;
+use wide::Wide;
 
 // K's numerator is over this and V: 600,000, as U, LT, V and K are taken in hundredths beside D.
 const OVER_V: u64 = 60 * FINENESS * FINENESS;
@@ -46,8 +46,7 @@ pub fn figures_of(b: &[u64; BLOCK_NUMBERS]) -> Figures
     requires { AcceptedBlock b.now }
     ensures { figure_list result ≡ figures_of b.now }
 {
-    let worked = worked_out(b);
-    worked.figures
+    worked_out(b).figures
 }
 
 // The same with the steps, in the order of sections 11.2.1 to 11.2.4.
@@ -86,7 +85,7 @@ fn in_half_cents(x: u64) -> u64
     requires { x < 2 ^ 63 }
     ensures { result ≡ reported x }
 {
-    (x + (FINENESS - 1)) / FINENESS
+    x.div_ceil(FINENESS)
 }
 
 // ---- 11.2.2 Exigence pour risque diversifié (D): D = √( A² + AI + I² ), as its example has it.
@@ -96,7 +95,7 @@ fn diversified(a: u64, i: u64) -> Root
     requires { a + i ≤ fineness * (20 * limit) }
     ensures { (result.root ≡ least (λ d. leb (radicand a i) (d * d))) × (result.steps ≡ steps (radicand a i)) }
 {
-    root::root_and_steps(words::add(words::product(a, a + i), words::product(i, i)))
+    root::root_and_steps(Wide::product(a, a + i) + Wide::product(i, i))
 }
 
 // ---- 11.2.3 Exigence pour risque non diversifié (U): U = Σ i=1..7 IR_i + PC + A.
@@ -130,7 +129,7 @@ fn adjusted(u: u64, lt: u64, d: u64) -> u64
     }
     let v = 2 * u - lt;
     let fine_v = FINENESS * v;
-    let m = words::product(3 * d - fine_v, amount::excess(10 * d, 7 * fine_v));
-    let numerator = words::add(words::product(fine_v, FINENESS * (48 * u + 6 * lt)), m);
+    let m = Wide::product(3 * d - fine_v, amount::excess(10 * d, 7 * fine_v));
+    let numerator = Wide::product(fine_v, FINENESS * (48 * u + 6 * lt)) + m;
     division::divide_up(division::quotient_up(numerator, OVER_V), v)
 }

@@ -42,7 +42,7 @@ module _ (n b face : ℕ) where
   passes : AcceptedFluctuation n b face → fluctuation_call n b face ≡ accepted (factored_requirement (row_of n) b face ∷ [])
   passes v =
       passed_18 n b face v.first_row v.last_row
-      ∙ passed_7 n b face refl (omega (arith, all_within (b ∷ face ∷ []) (both_within v.requirement v.face_within)))
+      ∙ passed_7 n b face (omega (arith, all_within (b ∷ face ∷ []) (both_within v.requirement v.face_within)))
 
   pub accepts_fluctuation : AcceptsFluctuation n b face
   unfolding RulesFollowed

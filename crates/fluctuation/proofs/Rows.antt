@@ -14,8 +14,8 @@ use borrow.Author.Tests.{leb-true, ltb-true}
 use Rattle.fluctuation.specs.Rows.{Base, Row, rows, row_count, row_of, amount_of, base_of}
 use Rattle.fluctuation.specs.Result.{scale, reaches, factored_requirement}
 use Rattle.fluctuation.specs.Parts.{factor_for, Falls}
-use Rattle.fluctuation.specs.declared.Factor.{Factor}
-use Rattle.fluctuation.specs.declared.Factor.TheVariants.{One, Falling}
+use Rattle.std.proofs.Common.{Option, Some, None}
+use Rattle.fluctuation.specs.declared.Falling.{Falling}
 
 -- ---- what is tested of the list
 
@@ -67,11 +67,15 @@ sound n h k =
 -- ---- what a row picks
 
 module _ (w : Row) (b face : ℕ) where
-  pub picks_one : base_of w b face ≤ 100 * w.threshold → One ≡ factor_for w b face
+  -- the row's numbers and the base
+  abbrev pub own : Falling
+  own = record { 0 = w.first; 1 = w.second; 2 = base_of w b face }
+
+  pub picks_one : base_of w b face ≤ 100 * w.threshold → None ≡ factor_for w b face
   unfolding factor_for
   picks_one h = sym (if_ge _ h)
 
-  pub picks_falling : 100 * w.threshold < base_of w b face → Falling w.first w.second (base_of w b face) ≡ factor_for w b face
+  pub picks_falling : 100 * w.threshold < base_of w b face → Some own ≡ factor_for w b face
   unfolding factor_for
   picks_falling h = sym (if_lt _ h)
 
@@ -84,9 +88,9 @@ module _ (w : Row) (b face : ℕ) where
   above_threshold h = if_lt _ h
 
 -- a requirement times its factor, rounded up
-abbrev pub applied : ℕ → Factor → ℕ
-applied b One = b
-applied b (Falling first second base) = least (reaches first second base b)
+abbrev pub applied : ℕ → Option Falling → ℕ
+applied b None = b
+applied b (Some f) = least (reaches f.0 f.1 f.2 b)
 
 pub applied_is : (w : Row) (b face : ℕ) → applied b (factor_for w b face) ≡ factored_requirement w b face
 unfolding factor_for factored_requirement pick
@@ -94,15 +98,15 @@ applied_is w b face = go (ltb (100 * w.threshold) (base_of w b face))
   where
     go :
         (t : Bool) →
-        applied b (pick t (Falling w.first w.second (base_of w b face)) One)
+        applied b (pick t (Some (own w b face)) None)
         ≡ pick t (least (reaches w.first w.second (base_of w b face) b)) b
     go true = refl
     go false = refl
 
 -- a factor that is at most 1
-abbrev pub AtMostOne : ℕ → Factor → Type 0
-AtMostOne b One = Unit {0}
-AtMostOne b (Falling first second base) = Falls first second base b
+abbrev pub AtMostOne : ℕ → Option Falling → Type 0
+AtMostOne b None = Unit {0}
+AtMostOne b (Some f) = Falls f.0 f.1 f.2 b
 
 module _ (w : Row) (s : Sound w) (b face : ℕ) (b-small : b ≤ limit) (face-small : face ≤ limit) where
   base_small : base_of w b face ≤ limit

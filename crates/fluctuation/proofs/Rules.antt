@@ -1,8 +1,7 @@
 -- Rules 18 and 7 of the fluctuation call, by what its tests find. Assumes nothing.
-use mathlib.Core.Path.{◌≡◌, sym, ap, ◌∙◌}
+use mathlib.Core.Path.{◌≡◌, ◌∙◌}
 use mathlib.Core.List.{[], ◌∷◌}
 use Prim.Native.Nat.{ℕ, ◌≤◌, ◌<◌}
-use native.Mathlib.Omega.{arith}
 use Rattle.search.proofs.Picks.{if_lt, if_ge}
 use Rattle.refusal.specs.Outcome.Outcome.{accepted, refused}
 use Rattle.refusal.specs.declared.Place.TheVariants.{Position, Nowhere}
@@ -25,18 +24,13 @@ module _ (n b face : ℕ) where
   unfolding fluctuation_call
   passed_18 h k = if_ge _ h ∙ if_ge _ k
 
-  module _ {r : ℕ} (e : r ≡ first_above (b ∷ face ∷ [])) where
-    pub refused_7 : r < 2 → rule7 n b face ≡ refused 7 (Position r)
-    unfolding rule7
-    refused_7 h =
-        let i : first_above (b ∷ face ∷ []) < 2 = omega arith in
-        if_lt _ i ∙ ap (λ (x : ℕ). refused 7 (Position x)) (sym e)
+  pub refused_7 : {r : ℕ} → (r ≡ first_above (b ∷ face ∷ [])) × (r < 2) → rule7 n b face ≡ refused 7 (Position r)
+  unfolding rule7
+  refused_7 (e, h) = rw e (if_lt _ (rw e at h))
 
-    pub passed_7 : 2 ≤ r → rule7 n b face ≡ accepted (factored_requirement (row_of n) b face ∷ [])
-    unfolding rule7
-    passed_7 h =
-        let i : 2 ≤ first_above (b ∷ face ∷ []) = omega arith in
-        if_ge _ i
+  pub passed_7 : 2 ≤ first_above (b ∷ face ∷ []) → rule7 n b face ≡ accepted (factored_requirement (row_of n) b face ∷ [])
+  unfolding rule7
+  passed_7 h = if_ge _ h
 
 -- what rule 7 leaves
 pub within_limit : (b face : ℕ) → 2 ≤ first_above (b ∷ face ∷ []) → (b ≤ limit) × (face ≤ limit)

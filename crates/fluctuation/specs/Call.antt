@@ -1,20 +1,18 @@
 -- The fluctuation call, after document 02, #104: 'It refuses, as number 18 with no place, a row outside 1–7, before 7, at position 0 for B
 -- and 1 for the face'. Assumes nothing.
-use Rattle.std.specs.Prelude.{[], ◌∷◌, ℕ, ltb, length}
+use Rattle.std.specs.Prelude.{Result, [], ◌∷◌, ℕ, ltb, length}
 use Rattle.search.specs.Pick.{pick}
 use Rattle.amount.specs.Amount.{first_above}
-use Rattle.refusal.specs.Outcome.{Outcome}
+use Rattle.refusal.specs.Outcome.{Outcome, stated_by}
 use Rattle.refusal.specs.Outcome.Outcome.{accepted, refused}
 use Rattle.refusal.specs.declared.Place.TheVariants.{Position, Nowhere}
+use Rattle.refusal.specs.declared.Refusal.{Refusal}
 use Rattle.fluctuation.specs.Rows.{row_count, row_of}
 use Rattle.fluctuation.specs.Result.{factored_requirement}
-use Rattle.fluctuation.specs.declared.FluctuationAnswer.{FluctuationAnswer}
-use Rattle.fluctuation.specs.declared.FluctuationAnswer.TheVariants.{Accepted, Refused}
 
--- what the enum's cases say in document 02's numbers: the result, or the refusal's number and place
-abbrev pub stated : FluctuationAnswer → Outcome
-stated (Accepted r) = accepted (r ∷ [])
-stated (Refused n p) = refused n p
+-- what the result says in document 02's numbers: the factored requirement, or the refusal's number and place
+abbrev pub stated : Result ℕ Refusal → Outcome
+stated = stated_by (λ r. r ∷ [])
 
 -- rule 7, at position 0 or 1
 unfoldable pub rule7 : (row b face : ℕ) → Outcome

@@ -1,15 +1,15 @@
 -- What the fluctuation call's steps hand on to one another. Assumes nothing.
-use Rattle.std.specs.Prelude.{ℕ, ◌+◌, ◌-◌, ◌*◌, ◌≤◌, ◌<◌, ltb}
+use Rattle.std.specs.Prelude.{Option, Some, None, ℕ, ◌+◌, ◌-◌, ◌*◌, ◌≤◌, ◌<◌, ltb}
 use Rattle.search.specs.Pick.{pick}
 use Rattle.amount.specs.Amount.{limit}
 use Rattle.fluctuation.specs.Rows.{Row, base_of}
 use Rattle.fluctuation.specs.Result.{scale}
-use Rattle.fluctuation.specs.declared.Factor.{Factor}
-use Rattle.fluctuation.specs.declared.Factor.TheVariants.{One, Falling}
+use Rattle.fluctuation.specs.declared.Falling.{Falling}
 
--- the factor that a row picks: 1 up to the threshold, above it the row's numbers and the base
-unfoldable pub factor_for : Row → (b face : ℕ) → Factor
-factor_for w b face = pick (ltb (100 * w.threshold) (base_of w b face)) (Falling w.first w.second (base_of w b face)) One
+-- the factor that a row picks: up to the threshold none, so that it is 1, above it the row's numbers and the base
+unfoldable pub factor_for : Row → (b face : ℕ) → Option Falling
+factor_for w b face =
+    pick (ltb (100 * w.threshold) (base_of w b face)) (Some (record { 0 = w.first; 1 = w.second; 2 = base_of w b face })) None
 
 -- numbers and a base with which the factor is at most 1
 pub record Falls (first second base b : ℕ) : Type 0 where

@@ -95,7 +95,7 @@ pub fn factor_at(k: usize) -> i64
     requires { k < products }
     ensures { result ≡ factor k }
 {
-    FACTORS[k] as i64
+    i64::from(FACTORS[k])
 }
 
 // The factors of the eight volume classes of section 8.2.1, in ten-thousandths.

@@ -14,7 +14,6 @@ ghost use Rattle.insurance.specs.Radicand.{radicand_i};
 
 use guideline::{BLOCK_NUMBERS, FINENESS, RISKS};
 use root::Root;
-use wide::words;
 
 // 2,500: what 10,000 × Q is of the sum in quarters.
 const RADICAND_OF_SUM: u64 = FINENESS * FINENESS / 4;
@@ -29,7 +28,7 @@ pub fn insurance(b: &[u64; BLOCK_NUMBERS]) -> Root
     // 'Σ ρ_ij × (IR_i − 0,5 × LT_i) × (IR_j − 0,5 × LT_j)'
     let sum = correlation::correlated(&y);
     // the root, by document 02: 'the least whole number of them (the radicand of I is 10,000 × Q)'
-    let found = root::root_and_steps(words::times(sum, RADICAND_OF_SUM));
+    let found = root::root_and_steps(sum * RADICAND_OF_SUM);
     // 'Cependant, I ne peut être inférieur à ..', and '+ PC'
     Root {
         root: floor_then_pc(found.root, &y, b[14]),
@@ -69,27 +68,14 @@ fn floored(root: u64, y: &[u64; RISKS]) -> u64
     requires { fineness * largest_of y.now < 2 ^ 64 }
     ensures { result ≡ max root (fineness * largest_of y.now) }
 {
-    larger(root, FINENESS * largest_of(y))
+    root.max(FINENESS * largest_of(y))
 }
 
 // The largest of the seven y(i).
 fn largest_of(y: &[u64; RISKS]) -> u64
     ensures { result ≡ largest_of y.now }
 {
-    larger(
-        y[0],
-        larger(
-            y[1],
-            larger(y[2], larger(y[3], larger(y[4], larger(y[5], y[6])))),
-        ),
-    )
-}
-
-// The larger of two.
-fn larger(x: u64, y: u64) -> u64
-    ensures { result ≡ max x y }
-{
-    if x < y { y } else { x }
+    y.iter().copied().fold(0, u64::max)
 }
 
 // '+ PC', in hundredths of the half cent.

@@ -15,7 +15,8 @@ use Rattle.judgement.specs.Judgement.Judgement.{turned_away, sound}
 use Rattle.judgement.specs.Judgement.Findings.{refusal}
 use Rattle.judgement.proofs.Accepted.{numbered}
 use Rattle.judgement.proofs.Rules.{findings_refusal}
-use Rattle.printing.specs.declared.RoomAnswer.{RoomAnswer}
+use Rattle.std.specs.Prelude.{Result}
+use Rattle.refusal.specs.declared.Refusal.{Refusal}
 use Rattle.printing.specs.Lent.{Text, Done, stated, untouched, lent}
 use Rattle.printing.specs.Lent.Text.{no_text, bytes}
 use Rattle.printing.specs.Printing.{printout, Printed, Shown}
@@ -70,7 +71,7 @@ module _ (f : List Entry → List ℕ) where
       unfolding judged_call
       never_14 = laws.never_14 _ r (right_numbers s) room_for
 
-      pub printed_text : (a : RoomAnswer) {r' r'' : List ℕ} {g : ℕ} → ◌≡◌ {A = Done} (record { outcome = stated a; room = r' }) (judged_call f s r)
+      pub printed_text : (a : Result ℕ Refusal) {r' r'' : List ℕ} {g : ℕ} → ◌≡◌ {A = Done} (record { outcome = stated a; room = r' }) (judged_call f s r)
           → Shown a g r' r'' → Printed (printout (text_of f (judgement s))) g r r''
       unfolding judged_call
       printed_text = laws.printed_answer _ r room_for

@@ -16,7 +16,7 @@ use Rattle.search.proofs.Picks.{if_true, if_false, by_test, never}
 use Rattle.search.proofs.Totals.{sum_most}
 use Rattle.amount.specs.Amount.{limit}
 use Rattle.search.proofs.Anys.{none_before, none_to}
-use Rattle.refusal.specs.Outcome.{printed, Judging, judging}
+use Rattle.refusal.specs.Outcome.{rule_number, printed, Judging, judging}
 use Rattle.refusal.specs.declared.Place.{Place}
 use Rattle.refusal.specs.declared.Place.TheVariants.{Line, Nowhere}
 use Rattle.guideline.specs.Sizes.{blocks, adjustable_products, largest_scalar}
@@ -153,7 +153,7 @@ module _ (s : List ℕ) (P : Judgement → Type 0) (refused : (n : ℕ) (p : Pla
   -- what holds of each refusal by a rule and of each sheet that every rule lets pass holds of the judgement
   pub by_rules : P (judgement s)
   unfolding judgement
-  by_rules = by_length s (λ l. P (after_length l turned_away (rule_lines (reading s)))) refused (λ h m. after_lines h m (reading s) refl)
+  by_rules = by_length s (λ l. P (after_length l turned_away (rule_lines (reading s)))) (λ r. refused (rule_number r.0) r.1) (λ h m. after_lines h m (reading s) refl)
 
 module _ (s : List ℕ) where
   unfoldable Gives : Judgement → Type 0

@@ -1,28 +1,29 @@
 -- The rules of a judgement by what the tests find, in the order in which they are tested; and what a judgement tells. Assumes nothing.
+use Rattle.std.specs.Prelude.{Result, Ok, Err}
 use mathlib.Core.Path.{◌≡◌, refl, sym, ap, ◌∙◌, subst}
 use mathlib.Core.Bool.{true, false}
 use mathlib.Core.List.{List}
 use Prim.Native.Nat.{ℕ, ◌≤◌, ◌<◌}
 use Rattle.search.specs.First.{any_to}
 use Rattle.search.proofs.Picks.{if_true, if_false, if_lt, if_ge, never}
+use Rattle.refusal.specs.Outcome.{rule_number}
+use Rattle.refusal.specs.declared.Refusal.{Refusal}
 use Rattle.refusal.specs.declared.Place.{Place}
 use Rattle.refusal.specs.declared.Place.TheVariants as place
 use Rattle.guideline.specs.Sizes.{non_participating, blocks}
 use Rattle.guideline.specs.Operational.{RO}
 use Rattle.guideline.specs.Buffer.{count, sum_k, free, available, buffer}
 use Rattle.sheet_length.specs.Measured.{measured}
-use Rattle.sheet_length.specs.declared.Length.TheVariants as length
 use Rattle.codes.specs.Codes.{scalar_class}
 use Rattle.codes.specs.declared.Code.TheVariants.{Gen}
 use Rattle.sheet_line.specs.declared.Entry.{Entry}
 use Rattle.order.specs.Entries.{has_line}
 use Rattle.order.specs.Reading.{Reading, reading, entries_of, outcome_of}
 use Rattle.order.specs.Reading.Reading.{complete, stopped}
-use Rattle.ledger.specs.Tables.{Holds}
+use Rattle.ledger.specs.Lines.{Holds}
+use Rattle.ledger.specs.declared.Ledger.{Ledger}
 use Rattle.sheet_reader.specs.Filling as reader
 use Rattle.sheet_reader.specs.Filling.{Filled}
-use Rattle.sheet_reader.specs.declared.Answer.{Answer}
-use Rattle.sheet_reader.specs.declared.Answer.TheVariants as answer
 use Rattle.order.proofs.Lines.{all_read}
 use Rattle.sheet_blocks.specs.Blocks.{rows_to, dividend_barred}
 use Rattle.judgement.specs.Sheet.{sheet_of}
@@ -37,34 +38,34 @@ use Rattle.judgement.proofs.Accepted.{sound_passed}
 
 module _ (s : List ℕ) where
   -- what a sheet's length turns away
-  pub length_refused : (n : ℕ) (p : Place) → measured s ≡ length.Refused n p → refusal n p ≡ findings (judgement s)
+  pub length_refused : (r : Refusal) → measured s ≡ Err r → refusal (rule_number r.0) r.1 ≡ findings (judgement s)
   unfolding judgement findings
-  length_refused n p e = rw e
+  length_refused r e = rw e
 
-  module _ (w : measured s ≡ length.Whole) where
+  module _ {u : Unit {0}} (w : measured s ≡ Ok u) where
     pub lined : judgement s ≡ rule_lines (reading s)
     unfolding judgement
     lined = rw w
 
-    module _ (a : Answer) (f g m : List ℕ) (F : Filled (reading s) a f g m) where
-      pub bad_line : (n : ℕ) (p : Place) → a ≡ answer.Refused n p → refusal n p ≡ findings (judgement s)
+    module _ (a : Result ℕ Refusal) (l : Ledger) (F : Filled (reading s) a l) where
+      pub bad_line : (r : Refusal) → a ≡ Err r → refusal (rule_number r.0) r.1 ≡ findings (judgement s)
       unfolding rule_lines findings
-      bad_line n p e = go (reading s) (sym F.answer ∙ ap reader.stated e) ∙ sym (ap findings lined)
+      bad_line r e = go (reading s) (sym F.answer ∙ ap reader.stated e) ∙ sym (ap findings lined)
         where
-          go : (o : Reading) → outcome_of o ≡ reader.stated (answer.Refused n p) → refusal n p ≡ findings (rule_lines o)
+          go : (o : Reading) → outcome_of o ≡ reader.stated (Err r) → refusal (rule_number r.0) r.1 ≡ findings (rule_lines o)
           go (complete es) c = never (cc)
           go (stopped es k i) c = cc
 
       -- all lines are good
-      module _ (k : ℕ) (e : a ≡ answer.Accepted k) where
+      module _ (k : ℕ) (e : a ≡ Ok k) where
         read : reading s ≡ complete (entries_of (reading s))
         read = go (reading s) (sym F.answer ∙ ap reader.stated e)
           where
-            go : (o : Reading) → outcome_of o ≡ reader.stated (answer.Accepted k) → o ≡ complete (entries_of o)
+            go : (o : Reading) → outcome_of o ≡ reader.stated (Ok k) → o ≡ complete (entries_of o)
             go (complete es) c = refl
             go (stopped es n i) c = never (cc)
 
-        pub holds : Holds (entries_of (reading s)) f g m
+        pub holds : Holds (entries_of (reading s)) l
         holds = record { tables = F.tables; lines = all_read s }
 
         pub good_lines : findings (rule12 (entries_of (reading s))) ≡ findings (judgement s)
@@ -126,14 +127,14 @@ unfolding findings
 findings_figures (turned_away k q) e = never (cc)
 findings_figures (sound es) e = (es, refl, record { count_is = cc; rows_are = cc; sum_is = cc; ro_is = cc; buffer_is = cc })
 
--- ---- the tables afterwards
+-- ---- the ledger afterwards
 
 -- a refusal promises nothing of them
-pub no_lines : (j : Judgement) {n : ℕ} {p : Place} (f g m : List ℕ) → refusal n p ≡ findings j → (refusal n p ≡ findings j) × LinesOf j f g m
-no_lines j f g m e = (e, λ es q. let t = findings_refusal j e in never (cc))
+pub no_lines : (j : Judgement) {n : ℕ} {p : Place} (l : Ledger) → refusal n p ≡ findings j → (refusal n p ≡ findings j) × LinesOf j l
+no_lines j l e = (e, λ es q. let t = findings_refusal j e in never (cc))
 
 -- those of good lines hold them
-pub lines_held : (s f g m : List ℕ) → Holds (entries_of (reading s)) f g m → LinesOf (judgement s) f g m
-lines_held s f g m H es q =
+pub lines_held : (s : List ℕ) (l : Ledger) → Holds (entries_of (reading s)) l → LinesOf (judgement s) l
+lines_held s l H es q =
     let e : entries_of (reading s) ≡ es = ap entries_of (sound_passed s es q).read in
-    subst (λ (x : List Entry). Holds x f g m) e H
+    subst (λ (x : List Entry). Holds x l) e H

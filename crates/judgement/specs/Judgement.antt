@@ -1,9 +1,11 @@
 -- A sheet judged by every rule but 14, after document 01, 'What is turned away': 'Order: 1, 2; then the first bad line, in it 3, 4, 5, 6, 8, 9,
 -- 10, 11; then 12, 13', and document 02's 3 of a whole line before 2, 19 in a line, 'tested after 11', 16, 'after 12 and before 13', and 17, 'after
 -- 16 and before 13'. Each rule ends in the next one. Assumes nothing.
-use Rattle.std.specs.Prelude.{List, ℕ, ◌*◌, ltb, take}
+use Rattle.std.specs.Prelude.{Result, Ok, Err, List, ℕ, ◌*◌, ltb, take}
 use Rattle.search.specs.Pick.{pick}
 use Rattle.search.specs.First.{any_to}
+use Rattle.refusal.specs.Outcome.{rule_number}
+use Rattle.refusal.specs.declared.Refusal.{Refusal}
 use Rattle.refusal.specs.declared.Place.{Place}
 use Rattle.refusal.specs.declared.Place.TheVariants as place
 use Rattle.guideline.specs.Sizes.{non_participating, blocks, row_numbers}
@@ -19,8 +21,7 @@ use Rattle.order.specs.Reading.Reading.{complete, stopped}
 use Rattle.credits.specs.Credits.{credit_above}
 use Rattle.sheet_blocks.specs.Blocks.{rows_to, dividend_barred}
 use Rattle.judgement.specs.Sheet.{sheet_of}
-use Rattle.judgement.specs.declared.Verdict.{Verdict}
-use Rattle.judgement.specs.declared.Verdict.TheVariants.{Sound, TurnedAway}
+use Rattle.judgement.specs.declared.Totals.{Totals}
 
 -- what a sheet is judged to be
 pub data Judgement : Type 0 where
@@ -69,7 +70,7 @@ findings (sound es) =
     let s = sheet_of es in
     figures (count s) (rows_to es blocks) (sum_k s.blocks) (RO s.volumes s.general) (buffer s)
 
--- what the enum's cases say in document 01's numbers, with the table of figures
-abbrev pub stated : Verdict → List ℕ → Findings
-stated (TurnedAway n p) rows = refusal n p
-stated (Sound t) rows = figures t.count (take (row_numbers * t.count) rows) t.sum t.ro t.buffer
+-- what the answer says in document 01's numbers, with the table of figures
+abbrev pub stated : Result Totals Refusal → List ℕ → Findings
+stated (Err r) rows = refusal (rule_number r.0) r.1
+stated (Ok t) rows = figures t.count (take (row_numbers * t.count) rows) t.sum t.ro t.buffer

@@ -1,6 +1,7 @@
 -- A layout that is kept: its numbers stand in their columns, an amount is within the limit of 14 columns, and the line is what three letters and
 -- the numbers print as; what is printed keeps the layout. Assumes nothing.
-use mathlib.Core.Path.{◌≡◌, refl, ap, ◌∙◌}
+use Rattle.std.specs.Prelude.{Option, Some, None}
+use mathlib.Core.Path.{◌≡◌, refl, sym, ap, ◌∙◌}
 use mathlib.Core.List.{List, [], ◌∷◌, ◌++◌}
 use mathlib.Core.Bool.{true}
 use Prim.Native.Nat.{ℕ, ◌+◌, ◌^◌, ◌≤◌, ◌<◌}
@@ -13,13 +14,10 @@ use Rattle.search.specs.Pick.{pick}
 use Rattle.search.proofs.Picks.{if_true, by_test, never, both}
 use Rattle.search.proofs.Values.{values, is_values}
 use Rattle.field.specs.Field.{field, leading_digits, decimal}
-use Rattle.field.specs.declared.Field.{Field}
-use Rattle.field.specs.declared.Field.TheVariants.{Value, Bad}
 use Rattle.field.proofs.Writing.{length_decimal}
 use Rattle.field.proofs.Inverse.{field_bound, read_back, written_back}
 use Rattle.layout.specs.Columns.{sheet_line_bytes, byte_at, columns, spaced, separated_of, fields_of, layout_of, lettered}
 use Rattle.layout.specs.declared.Numbers.{Numbers}
-use Rattle.layout.specs.declared.Layout.TheVariants.{Kept}
 
 -- ---- what is printed
 
@@ -35,7 +33,7 @@ module _ (w : List ℕ) (h : length w ≡ 3) (n : Numbers) where
   printed_columns = rw (is_values 0 3 w h) (refl, refl, refl, refl, refl)
 
   -- the layout is kept, whatever the letters are
-  pub printed_layout : n.block < 100 → n.class < 100 → n.first < 10 ^ 14 → n.second < 10 ^ 14 → layout_of (lettered w n) ≡ Kept n
+  pub printed_layout : n.block < 100 → n.class < 100 → n.first < 10 ^ 14 → n.second < 10 ^ 14 → layout_of (lettered w n) ≡ Some n
   unfolding layout_of
   printed_layout hb hc hf hg =
       let c = printed_columns in
@@ -47,18 +45,24 @@ module _ (w : List ℕ) (h : length w ≡ 3) (n : Numbers) where
 
 -- ---- what is read
 
-record Read (b c f g : Field) (n : Numbers) : Type 0 where
-  block : b ≡ Value n.block
-  class : c ≡ Value n.class
-  first : f ≡ Value n.first
-  second : g ≡ Value n.second
+-- where the separators are right, what the four fields give is the layout
+pub fields_laid : (s : List ℕ) → separated_of s ≡ true → {r : Option Numbers}
+    → r ≡ fields_of (field (columns 5 6 s)) (field (columns 8 9 s)) (field (columns 11 24 s)) (field (columns 26 39 s)) → r ≡ layout_of s
+unfolding layout_of
+fields_laid s t q = q ∙ sym (if_true _ t)
 
-fields_read : (b c f g : Field) (n : Numbers) → fields_of b c f g ≡ Kept n → Read b c f g n
-fields_read (Value x) (Value y) (Value z) (Value w) n q = record { block = cc; class = cc; first = cc; second = cc }
-fields_read (Value x) (Value y) (Value z) Bad n q = never (cc)
-fields_read (Value x) (Value y) Bad g n q = never (cc)
-fields_read (Value x) Bad f g n q = never (cc)
-fields_read Bad c f g n q = never (cc)
+record Read (b c f g : Option ℕ) (n : Numbers) : Type 0 where
+  block : b ≡ Some n.block
+  class : c ≡ Some n.class
+  first : f ≡ Some n.first
+  second : g ≡ Some n.second
+
+fields_read : (b c f g : Option ℕ) (n : Numbers) → fields_of b c f g ≡ Some n → Read b c f g n
+fields_read (Some x) (Some y) (Some z) (Some w) n q = record { block = cc; class = cc; first = cc; second = cc }
+fields_read (Some x) (Some y) (Some z) None n q = never (cc)
+fields_read (Some x) (Some y) None g n q = never (cc)
+fields_read (Some x) None f g n q = never (cc)
+fields_read None c f g n q = never (cc)
 
 -- a line by its columns
 abbrev by_columns : List ℕ → List ℕ
@@ -86,30 +90,30 @@ module _ (s : List ℕ) (h : length s ≡ sheet_line_bytes) where
   long : (a n : ℕ) → a + n ≤ sheet_line_bytes → length (take n (drop a s)) ≡ n
   long a n f = length-take-le n (drop a s) (rw length-drop (omega arith))
 
-  number_bound : (a n r : ℕ) → a + n ≤ sheet_line_bytes → field (take n (drop a s)) ≡ Value r → r < 10 ^ n
+  number_bound : (a n r : ℕ) → a + n ≤ sheet_line_bytes → field (take n (drop a s)) ≡ Some r → r < 10 ^ n
   number_bound a n r f q = rw (long a n f) at (field_bound _ r q)
 
-  number_printed : (a n r : ℕ) → a + n ≤ sheet_line_bytes → field (take n (drop a s)) ≡ Value r → take n (drop a s) ≡ decimal n r
+  number_printed : (a n r : ℕ) → a + n ≤ sheet_line_bytes → field (take n (drop a s)) ≡ Some r → take n (drop a s) ≡ decimal n r
   number_printed a n r f q = written_back _ r q ∙ ap (λ (m : ℕ). decimal m r) (long a n f)
 
   module _ (n : Numbers) where
     abbrev Kept-read : Type 0
     Kept-read = (separated_of s ≡ true) × Read (field (columns 5 6 s)) (field (columns 8 9 s)) (field (columns 11 24 s)) (field (columns 26 39 s)) n
 
-    kept_read : layout_of s ≡ Kept n → Kept-read
+    kept_read : layout_of s ≡ Some n → Kept-read
     unfolding layout_of
     kept_read =
-        by_test (λ l. l ≡ Kept n → Kept-read) _ _ _
+        by_test (λ l. l ≡ Some n → Kept-read) _ _ _
         (λ t q. (t, fields_read (field (columns 5 6 s)) (field (columns 8 9 s)) (field (columns 11 24 s)) (field (columns 26 39 s)) n q))
         (λ t q. never (cc))
 
     -- an amount has 14 columns
-    pub kept_amounts : layout_of s ≡ Kept n → (n.first < 10 ^ 14) × (n.second < 10 ^ 14)
+    pub kept_amounts : layout_of s ≡ Some n → (n.first < 10 ^ 14) × (n.second < 10 ^ 14)
     kept_amounts q =
         let m = (kept_read q).1 in
         (number_bound 10 14 _ (omega arith) m.first, number_bound 25 14 _ (omega arith) m.second)
 
-    pub kept_printed : layout_of s ≡ Kept n → s ≡ lettered (columns 1 3 s) n
+    pub kept_printed : layout_of s ≡ Some n → s ≡ lettered (columns 1 3 s) n
     unfolding lettered
     kept_printed q =
         let r = kept_read q in

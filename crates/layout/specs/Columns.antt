@@ -1,14 +1,10 @@
 -- The layout of a sheet's line: 'A line has 40 bytes: code in columns 1–3, block in 5–6, class in 8–9, first amount in 11–24, second in
 -- 26–39, a line feed last, spaces between.' How columns 4 to 40 are read, and how they are printed behind three letters. Bytes are numbers:
 -- a space is 32, a line feed 10. Assumes nothing.
-use Rattle.std.specs.Prelude.{ℕ, ◌+◌, ◌-◌, List, [], ◌∷◌, ◌++◌, Bool, false, eqb, get_or, take, drop}
+use Rattle.std.specs.Prelude.{Option, Some, None, ℕ, ◌+◌, ◌-◌, List, [], ◌∷◌, ◌++◌, Bool, false, eqb, get_or, take, drop}
 use Rattle.search.specs.Pick.{pick}
 use Rattle.field.specs.Field.{field, decimal}
-use Rattle.field.specs.declared.Field.{Field}
-use Rattle.field.specs.declared.Field.TheVariants.{Value, Bad}
 use Rattle.layout.specs.declared.Numbers.{Numbers}
-use Rattle.layout.specs.declared.Layout.{Layout}
-use Rattle.layout.specs.declared.Layout.TheVariants.{Kept, Broken}
 
 -- the bytes of a line, its line feed with them
 abbrev pub sheet_line_bytes : ℕ
@@ -32,19 +28,19 @@ abbrev pub separated_of : List ℕ → Bool
 separated_of s = spaced (4 ∷ 7 ∷ 10 ∷ 25 ∷ []) s
 
 -- the numbers of the four fields, where each field holds one
-abbrev pub fields_of : Field → Field → Field → Field → Layout
-fields_of (Value b) (Value c) (Value f) (Value g) = Kept (record { block = b; class = c; first = f; second = g })
-fields_of (Value b) (Value c) (Value f) Bad = Broken
-fields_of (Value b) (Value c) Bad g = Broken
-fields_of (Value b) Bad f g = Broken
-fields_of Bad c f g = Broken
+abbrev pub fields_of : Option ℕ → Option ℕ → Option ℕ → Option ℕ → Option Numbers
+fields_of (Some b) (Some c) (Some f) (Some g) = Some (record { block = b; class = c; first = f; second = g })
+fields_of (Some b) (Some c) (Some f) None = None
+fields_of (Some b) (Some c) None g = None
+fields_of (Some b) None f g = None
+fields_of None c f g = None
 
--- columns 4 to 40: the four numbers, or a layout that is broken
-unfoldable pub layout_of : List ℕ → Layout
+-- columns 4 to 40: the four numbers, or none where the layout is broken
+unfoldable pub layout_of : List ℕ → Option Numbers
 layout_of s =
     pick (separated_of s)
     (fields_of (field (columns 5 6 s)) (field (columns 8 9 s)) (field (columns 11 24 s)) (field (columns 26 39 s)))
-    Broken
+    None
 
 -- a line with these letters in columns 1 to 3 and four numbers
 unfoldable pub lettered : List ℕ → Numbers → List ℕ

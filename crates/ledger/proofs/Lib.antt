@@ -2,3 +2,4 @@
 pub mod Numbers
 pub mod Bounds
 pub mod Tables
+pub mod Ranges

@@ -1,30 +1,66 @@
 -- What is read off the tables that hold a sheet's lines is what the lines say. Assumes nothing.
-use mathlib.Core.Path.{◌≡◌, refl}
-use mathlib.Core.List.{List}
+use Rattle.std.specs.Prelude.{Result, Ok, Err}
+use mathlib.Core.Path.{◌≡◌, refl, sym, ◌∙◌}
+use mathlib.Core.List.{List, [], ◌∷◌}
+use Rattle.std.proofs.Math.Logic.{∥∥₁_elim}
 use Prim.Native.Nat.{ℕ, ◌≤◌}
 use native.Mathlib.Omega.{arith}
-use lib.ListN.{replicate}
+use lib.ListN.{replicate, set}
 use Rattle.guideline.specs.Sizes.{blocks}
 use Rattle.codes.specs.Codes.{general_classes, scalar_class, Key}
 use Rattle.codes.specs.declared.Code.{Code}
 use Rattle.codes.specs.declared.Code.TheVariants.{Vol, Acq, Gen}
+use Rattle.sheet_line.specs.Rules.{AcceptedLine}
 use Rattle.sheet_line.specs.declared.Entry.{Entry}
+use Rattle.refusal.specs.declared.Rule.{Rule}
 use Rattle.order.specs.Entries.{lookup, first_of, second_of, exists, has_line}
 use Rattle.ledger.specs.Numbers.{block_by, joined_by, block_of, volumes_of, general_amount}
-use Rattle.order.specs.Places.{places, table, tabled}
-use Rattle.order.specs.Marks.{has_mark, block_marked}
+use Rattle.order.specs.Places.{places, index_for, table, tabled}
+use Rattle.order.specs.Marks.{Admits, has_mark, block_marked}
+use Rattle.order.proofs.Admission.{good_admitted}
 use Rattle.ledger.proofs.Bounds.{first_most, second_most}
 use Rattle.order.proofs.Indexes.{lookup_table}
 use Rattle.order.proofs.Marks.{mark_table, exists_table}
 use Rattle.ledger.proofs.Numbers.{block_table, volumes_table, general_table}
-use Rattle.ledger.specs.Tables.{Empty, Holds, JoinedFits}
+use Rattle.ledger.specs.Tables.{TablesOf, Held, JoinedFits}
+use Rattle.ledger.specs.Lines.{Holds, Sound}
+use Rattle.ledger.specs.declared.Ledger.{Ledger}
 
 -- tables of zeros hold no line
-pub none_held : Empty (replicate places 0) (replicate places 0) (replicate places 0)
+pub none_held : TablesOf [] (replicate places 0) (replicate places 0) (replicate places 0)
 unfolding table
 none_held = record { first = refl; second = refl; mark = refl }
 
-module _ {es : List Entry} {f s m : List ℕ} (H : Holds es f s m) where
+-- what holds whichever lines a ledger holds holds of the ledger
+pub of_lines : (l : Ledger) {P : Type 0} → IsProp P → ((es : List Entry) → Holds es l → P) → P
+of_lines l c f = ∥∥₁_elim l.held c (λ w. f w.0 w.1)
+
+-- ---- a line more
+
+-- an admitted line is the one that was read
+pub admitted_sound : {line r : Result Entry Rule} {last : ℕ} {m m' : List ℕ} → Admits line last m r m' → Sound line → {e : Entry} → r ≡ Ok e → AcceptedLine e
+admitted_sound {line} {r} {last} A p {e} q =
+    let w : line ≡ Ok e = (good_admitted _ last line e (sym A.line ∙ q)).read in
+    rw w at p
+
+module _ {es : List Entry} {f s m m' : List ℕ} {line r : Result Entry Rule} {last : ℕ} (H : Held es f s m) (A : Admits line last m r m') where
+  pub more_held : {e : Entry} → r ≡ Ok e → AcceptedLine e → {at : ℕ} → at ≡ index_for e → Held (e ∷ es) (set f at e.first) (set s at e.second) m'
+  unfolding table
+  more_held {e} q a p =
+      let t = H.tables in
+      record {
+        tables = record { first = rw (p, t.first); second = rw (p, t.second); mark = A.marks ∙ rw (q, t.mark) };
+        lines = (a, H.lines);
+      }
+
+  pub same_held : {n : Rule} → r ≡ Err n → Held es f s m'
+  same_held q =
+      let t = H.tables in
+      record { tables = record { first = t.first; second = t.second; mark = A.marks ∙ rw (q, t.mark) }; lines = H.lines }
+
+-- ---- what is read off the tables
+
+module _ {es : List Entry} {f s m : List ℕ} (H : Held es f s m) where
   pub exists_is : (b : ℕ) → 1 ≤ b → b ≤ blocks → block_marked m b ≡ exists es b
   exists_is b l h = rw H.tables.mark (exists_table es b H.lines (l, h))
 

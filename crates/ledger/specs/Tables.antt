@@ -1,5 +1,5 @@
 -- The tables that hold a sheet's entries: first amounts, second amounts and marks have a table each. Assumes nothing.
-use Rattle.std.specs.Prelude.{◌≡◌, ℕ, ◌+◌, ◌^◌, ◌<◌, List, []}
+use Rattle.std.specs.Prelude.{◌≡◌, ℕ, ◌+◌, ◌^◌, ◌<◌, List}
 use Rattle.search.specs.Each.{Each}
 use Rattle.codes.specs.Codes.{Key}
 use Rattle.sheet_line.specs.Rules.{AcceptedLine}
@@ -14,22 +14,14 @@ pub record TablesOf (es : List Entry) (firsts seconds marks : List ℕ) : Type 0
   pub second : seconds ≡ table second_of es
   pub mark : marks ≡ table mark_of es
 
--- tables that hold no entry yet
-abbrev pub Empty : List ℕ → List ℕ → List ℕ → Type 0
-Empty firsts seconds marks = TablesOf [] firsts seconds marks
-
 -- the tables hold these lines, which no rule of a line turns away
-pub record Holds (es : List Entry) (firsts seconds marks : List ℕ) : Type 0 where
+pub record Held (es : List Entry) (firsts seconds marks : List ℕ) : Type 0 where
   pub tables : TablesOf es firsts seconds marks
   pub lines : Each AcceptedLine es
 
 -- the tables hold some lines
-abbrev pub Ledger : List ℕ → List ℕ → List ℕ → Type 0
-Ledger firsts seconds marks = (es : List Entry) × Holds es firsts seconds marks
-
--- whichever lines the tables hold
-abbrev pub OfLines : List ℕ → List ℕ → List ℕ → (List Entry → Type 0) → Type 0
-OfLines firsts seconds marks P = (es : List Entry) → Holds es firsts seconds marks → P es
+abbrev pub HoldSome : List ℕ → List ℕ → List ℕ → Type 0
+HoldSome firsts seconds marks = (es : List Entry) × Held es firsts seconds marks
 
 -- each prior amount fits a word with the acquired one
 pub record JoinedFits (firsts seconds : List ℕ) : Type 0 where

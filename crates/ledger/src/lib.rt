@@ -1,4 +1,4 @@
-// The numbers that are taken off the tables of a sheet's lines.
+// The tables that hold the lines of a sheet, and the numbers that are taken off them: off any tables, or off a ledger's.
 //
 // First amounts, second amounts and marks have a table each, with a place for each code, block and class.
 #![tactic(auto)]
@@ -8,11 +8,136 @@ ghost use Rattle.codes.specs.Codes.{general_classes, Key};
 ghost use Rattle.guideline.specs.Sizes.{blocks};
 ghost use Rattle.order.specs.Places.{tabled};
 ghost use Rattle.ledger.specs.Numbers.{block_by, joined_by};
-ghost use Rattle.ledger.specs.Tables.{JoinedFits};
+ghost use Rattle.ledger.specs.Tables.{HoldSome, JoinedFits};
 
 use codes::{Code, RISK_CLASSES};
 use guideline::{BLOCK_NUMBERS, VOLUME_CLASSES, VOLUME_NUMBERS, VOLUME_PAIRS};
 use order::PLACES;
+use refusal::Rule;
+use sheet_line::Entry;
+
+// The lines of a sheet in three tables. The tables of every ledger hold some lines, which no rule of a line turns away.
+#[derive(Drop)]
+pub struct Ledger {
+    firsts: [u64; PLACES],
+    seconds: [u64; PLACES],
+    marks: [u8; PLACES],
+    pub ghost held: { ∥ HoldSome firsts seconds marks ∥₁ },
+}
+
+// The two amounts of a line.
+#[derive(Clone, Copy)]
+pub struct Amounts {
+    pub first: u64,
+    pub second: u64,
+}
+
+impl Ledger {
+    ghost use Rattle.std.specs.Prelude.{◌≡◌, ◌≤◌};
+    ghost use Rattle.codes.specs.Codes.{general_classes, scalar_class, Key};
+    ghost use Rattle.guideline.specs.Sizes.{blocks};
+    ghost use Rattle.order.specs.Places.{tabled};
+    ghost use Rattle.order.specs.Marks.{has_mark, block_marked};
+    ghost use Rattle.ledger.specs.Numbers.{block_by, joined_by};
+    ghost use Rattle.ledger.specs.Lines.{Empty, Sound, Entered};
+
+    // A ledger without a line.
+    pub fn new() -> Ledger
+        ensures { Empty result }
+    {
+        Ledger {
+            firsts: [0; PLACES],
+            seconds: [0; PLACES],
+            marks: [0; PLACES],
+        }
+    }
+
+    // Admits a line after those before it, and enters one that no rule turns away.
+    pub fn admit(&mut self, line: Result<Entry, Rule>, last: u64) -> Result<Entry, Rule>
+        requires { Sound line }
+        ensures { Entered line last self.old result self.new }
+    {
+        let admitted = order::admit(line, last, &mut self.marks);
+        if let Ok(e) = admitted {
+            let at = order::index_for(e);
+            self.firsts[at] = e.first;
+            self.seconds[at] = e.second;
+        }
+        admitted
+    }
+
+    // The first amounts, each at the place of its line.
+    pub fn firsts(&self) -> &[u64; PLACES]
+        ensures { result.now ≡ self.now.firsts }
+    {
+        &self.firsts
+    }
+
+    // The second amounts, each at the place of its line.
+    pub fn seconds(&self) -> &[u64; PLACES]
+        ensures { result.now ≡ self.now.seconds }
+    {
+        &self.seconds
+    }
+
+    // The numbers of a block, as block_numbers takes them off tables.
+    pub fn block_numbers(&self, block: usize) -> [u64; BLOCK_NUMBERS]
+        requires { (1 ≤ block) × (block ≤ blocks) }
+        ensures { result ≡ block_by (tabled self.now.firsts) (tabled self.now.seconds) block }
+    {
+        block_numbers(&self.firsts, &self.seconds, block)
+    }
+
+    // The volumes of all territories, as volume_numbers takes them off tables. Two priors of lines fit a word.
+    pub fn volume_numbers(&self) -> [u64; VOLUME_NUMBERS]
+        ensures { result ≡ joined_by (tabled self.now.firsts) (tabled self.now.seconds) }
+    {
+        volume_numbers(&self.firsts, &self.seconds)
+    }
+
+    // The amount of a GEN line.
+    pub fn general_amount(&self, class: usize) -> u64
+        requires { (1 ≤ class) × (class ≤ general_classes) }
+        ensures { result ≡ tabled self.now.firsts Code.Gen 0 class }
+    {
+        general_amount(&self.firsts, class)
+    }
+
+    // The amounts of a code, block and class, zeros where there is no such line.
+    pub fn amounts(&self, code: Code, block: usize, class: usize) -> Amounts
+        requires { Key code block class }
+        ensures first { result.first ≡ tabled self.now.firsts code block class }
+        ensures second { result.second ≡ tabled self.now.seconds code block class }
+    {
+        Amounts {
+            first: amount_of(&self.firsts, code, block, class),
+            second: amount_of(&self.seconds, code, block, class),
+        }
+    }
+
+    // Whether there is a line of a code, block and class.
+    pub fn has_line(&self, code: Code, block: usize, class: usize) -> bool
+        requires { Key code block class }
+        ensures { result ≡ has_mark self.now.marks code block class }
+    {
+        order::has_mark(&self.marks, code, block, class)
+    }
+
+    // Whether a block has an RSK or OTH line.
+    pub fn block_exists(&self, block: usize) -> bool
+        requires { (1 ≤ block) × (block ≤ blocks) }
+        ensures { result ≡ block_marked self.now.marks block }
+    {
+        order::block_exists(&self.marks, block)
+    }
+
+    // Whether the sheet has the scalar's line.
+    pub fn has_scalar(&self) -> bool
+        ensures { result ≡ has_mark self.now.marks Code.Gen 0 scalar_class }
+    {
+        order::has_scalar(&self.marks)
+    }
+}
 
 // The numbers of a block, in the order of the block call: seven pairs IR, LT, then PC, credit, market.
 pub fn block_numbers(
@@ -24,12 +149,10 @@ pub fn block_numbers(
     ensures { result ≡ block_by (tabled firsts.now) (tabled seconds.now) block }
 {
     let mut numbers = [0u64; BLOCK_NUMBERS];
-    let mut i = 0;
-    while i < RISK_CLASSES {
+    for i in 0..RISK_CLASSES {
         let at = order::index_of(Code::Rsk, block, i + 1);
         numbers[2 * i] = firsts[at];
         numbers[2 * i + 1] = seconds[at];
-        i += 1;
     }
     numbers[14] = firsts[order::index_of(Code::Oth, block, 1)];
     numbers[15] = firsts[order::index_of(Code::Oth, block, 2)];
@@ -43,15 +166,13 @@ pub fn volume_numbers(firsts: &[u64; PLACES], seconds: &[u64; PLACES]) -> [u64; 
     ensures { result ≡ joined_by (tabled firsts.now) (tabled seconds.now) }
 {
     let mut numbers = [0u64; VOLUME_NUMBERS];
-    let mut i = 0;
-    while i < VOLUME_PAIRS {
+    for i in 0..VOLUME_PAIRS {
         let territory = i / VOLUME_CLASSES + 1;
         let class = i % VOLUME_CLASSES + 1;
         let at = order::index_of(Code::Vol, territory, class);
         let acquired = firsts[order::index_of(Code::Acq, territory, class)];
         numbers[2 * i] = firsts[at];
         numbers[2 * i + 1] = seconds[at] + acquired;
-        i += 1;
     }
     numbers
 }

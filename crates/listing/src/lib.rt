@@ -6,8 +6,8 @@ ghost use Rattle.codes.specs.Codes.{letters_of};
 ghost use Rattle.needs.specs.Listing.{label_bytes, label_of, listed_bytes, listed_line};
 
 use codes::Code;
-use field::write_field;
 use needs::Label;
+use report_line::write_key;
 
 // Writes a line of the listing into its own stretch: the two labels, then what stands behind each.
 pub fn write_listed(out: &mut [u8], line: Label, companion: Label)
@@ -20,20 +20,13 @@ pub fn write_listed(out: &mut [u8], line: Label, companion: Label)
     out[19] = b'\n';
 }
 
-// Writes code, block and class in the sheet's columns.
+// Writes code, block and class in the sheet's columns, which are those of a report line.
 fn write_label(out: &mut [u8], l: Label)
     requires { length out.old ≡ label_bytes }
     ensures { out.new ≡ label_of l }
 {
-    let code = l.code;
-    let letters = letters_of(code);
-    write_field(&mut out[4..6], cast::word(l.block));
-    write_field(&mut out[7..9], cast::word(l.class));
-    out[0] = letters[0];
-    out[1] = letters[1];
-    out[2] = letters[2];
-    out[3] = b' ';
-    out[6] = b' ';
+    let code = letters_of(l.code);
+    write_key(out, code, cast::word(l.block), cast::word(l.class));
 }
 
 // The letters of a code.

@@ -73,10 +73,6 @@ aggregated_found s t n r e f = f ∙ (λ i. least (λ x. same (x * x) i))
     same : (m : ℕ) → leb n m ≡ leb (twice_radicand s t) (2 * m)
     same m = leb_same n m (twice_radicand s t) (2 * m) (λ h. omega arith) (λ h. omega arith)
 
--- no product of amounts passes the root's room
-pub radicand_small : (s t : ℕ) → s ≤ limit → t ≤ limit → 2 * twice_radicand s t ≤ 8 * (limit * limit)
-radicand_small s t a b = omega (arith, made_up s t, mul-le-mul a a, mul-le-mul b b)
-
 pub none_with_0 : (t : ℕ) → t ≤ limit → credit 0 t ≡ 0
 none_with_0 t b =
     let l = aggregated_least 0 t (omega arith) b in

@@ -7,7 +7,7 @@ ghost use Rattle.guideline.specs.Block.{ir, lt};
 ghost use Rattle.mortality.specs.Credit.{aggregated, credit, lowered};
 
 use guideline::BLOCK_NUMBERS;
-use wide::words;
+use wide::Wide;
 
 // The credit for S and T, the level and trend sums of the survival and of the death products. It can pass the largest amount.
 pub fn credit(s: u64, t: u64) -> u64
@@ -29,12 +29,9 @@ fn aggregated(s: u64, t: u64) -> u64
     requires { (s ≤ limit) × (t ≤ limit) }
     ensures { result ≡ aggregated s t }
 {
-    let apart = amount::excess(s, t) + amount::excess(t, s);
-    let fourfold = words::add(
-        words::product(2 * apart, 2 * apart),
-        words::product(2 * s, t),
-    );
-    root::root_up(words::quarter_up(fourfold))
+    let apart = s.abs_diff(t);
+    let fourfold = Wide::product(2 * apart, 2 * apart) + Wide::product(2 * s, t);
+    root::root_up(fourfold.quarter_up())
 }
 
 // A block's 17 numbers after its credit, which lowers both IR(1) and LT(1).

@@ -31,7 +31,8 @@ use Rattle.block.specs.Call.{first_lt_above, rule8, rule9, block_call}
 use Rattle.block.proofs.Rules.{passed_7}
 use Rattle.block.proofs.Accepted.{accepts_block}
 use Rattle.report_line.specs.Line.{report_line_bytes}
-use Rattle.printing.specs.declared.RoomAnswer.{RoomAnswer}
+use Rattle.std.specs.Prelude.{Result}
+use Rattle.refusal.specs.declared.Refusal.{Refusal}
 use Rattle.printing.specs.Lent.{Text, Done, stated, untouched}
 use Rattle.printing.specs.Lent.Text.{no_text, bytes}
 use Rattle.printing.specs.Printing.{printout, Printed, Shown}
@@ -125,7 +126,7 @@ unfolding Refusing rule8 rule9
 refusing s =
     let b = block_of s in
     let long = length_numbers s block_numbers in
-    subst⁻¹ Refusing (passed_7 b long refl (omega (arith, all_within b (numbers_within s block_numbers))))
+    subst⁻¹ Refusing (passed_7 b (omega (arith, long, all_within b (numbers_within s block_numbers))))
     (by_test Refusing _ _ _
     (λ e. by_test Refusing _ _ _ (λ l. (λ q. omega arith, judging 9 refl refl refl, omega (arith, ltb-true (first_lt_above b) risks l))) (λ l. tt))
     (λ e. (λ q. omega arith, judging 8 refl refl refl, omega arith)))
@@ -203,7 +204,7 @@ module _ (s r : List ℕ) where
 
 -- what is printed is the lines, or the line of the refusal: the room that the call leaves is as long as it was
 pub printed_movements :
-    (s r : List ℕ) (a : RoomAnswer) {r' r'' : List ℕ} {g : ℕ} → length r' ≡ report_line_bytes * risks →
+    (s r : List ℕ) (a : Result ℕ Refusal) {r' r'' : List ℕ} {g : ℕ} → length r' ≡ report_line_bytes * risks →
     ◌≡◌ {A = Done} (record { outcome = stated a; room = r' }) (movement_call s r) → Shown a g r' r'' → Printed (printout (movements s)) g r r''
 unfolding movement_call
 printed_movements s r a long e =

@@ -11,38 +11,31 @@ ghost use Rattle.printing.specs.Printing.{printout, Printed};
 ghost use Rattle.movement.specs.Call.{movements, movement_call};
 ghost use Rattle.movement.specs.Swing.{Swing};
 
-use block::BlockAnswer;
 use guideline::{BLOCK_NUMBERS, RISKS};
 use movement_input::{INPUT_BYTES, INPUT_LINES};
-use printing::RoomAnswer;
-use refusal::Place;
+use refusal::{Place, Refusal, Rule};
 use report_line::REPORT_LINE_BYTES;
 
 // A line for each risk.
 pub const MOVEMENT_BYTES: usize = REPORT_LINE_BYTES * RISKS;
 
 // An input of any bytes, and lent room for the lines: nothing is written into it before every rule passes.
-pub fn movement_call(input: &[u8], room: &mut [u8; MOVEMENT_BYTES]) -> RoomAnswer
+pub fn movement_call(input: &[u8], room: &mut [u8; MOVEMENT_BYTES]) -> Result<usize, Refusal>
     ensures answer { ◌≡◌ {A = Done} (record { outcome = stated result; room = room.new }) (movement_call input.now room.old) }
     ensures swing { Swing input.now (stated result) room.new }
 {
     if input.len() != INPUT_BYTES {
-        return RoomAnswer::Refused(2, Place::Nowhere);
+        return Err(Refusal(Rule::NotWholeLines, Place::Nowhere));
     }
     let kept = movement_input::lines_kept(input);
     if kept < INPUT_LINES {
-        return RoomAnswer::Refused(3, Place::Line(kept + 1));
+        return Err(Refusal(Rule::BrokenLayout, Place::Line(kept + 1)));
     }
     let block = movement_input::block_of(input);
-    let answer = block::block_call(&block);
-    match answer {
-        BlockAnswer::Refused(rule, place) => RoomAnswer::Refused(rule, place),
-        BlockAnswer::Accepted(figures, _) => {
-            let raise = movement_input::number_at(input, BLOCK_NUMBERS);
-            moves::write_movements(&block, figures.k, raise, room);
-            RoomAnswer::Accepted(MOVEMENT_BYTES)
-        }
-    }
+    let worked = block::block_call(&block)?;
+    let raise = movement_input::number_at(input, BLOCK_NUMBERS);
+    moves::write_movements(&block, worked.figures.k, raise, room);
+    Ok(MOVEMENT_BYTES)
 }
 
 // What tsav-movement prints of an input of any bytes, from the room's start on: the lines of the risks, or the line of the refusal. It gives how

@@ -7,7 +7,7 @@ ghost use Rattle.movement.specs.Call.{signed_line, MOV, risk_line, risk_lines, U
 
 use amount::LARGEST_AMOUNT;
 use guideline::{BLOCK_NUMBERS, RISKS};
-use refusal::Place;
+use refusal::{Place, Refusal, Rule};
 use report_line::REPORT_LINE_BYTES;
 
 // A line for each risk, of a block whose reported K is k, each into its own stretch of the room.
@@ -15,11 +15,9 @@ pub(crate) fn write_movements(block: &[u64; BLOCK_NUMBERS], k: u64, raise: u64, 
     requires { Unmoved block.now k × (length room.old ≡ report_line_bytes * risks) }
     ensures { room.new ≡ risk_lines block.now raise risks }
 {
-    let mut i = 0;
-    while i < RISKS {
+    for i in 0..RISKS {
         let at = REPORT_LINE_BYTES * i;
         write_movement(block, k, raise, i, &mut room[at..at + REPORT_LINE_BYTES]);
-        i += 1;
     }
 }
 
@@ -30,7 +28,7 @@ fn write_movement(block: &[u64; BLOCK_NUMBERS], k: u64, raise: u64, i: usize, ou
 {
     let component = block[2 * i];
     if LARGEST_AMOUNT - component < raise {
-        printing::write_refusal(out, 22, Place::Risk(i + 1));
+        printing::write_refusal(out, Refusal(Rule::RaiseAboveLimit, Place::Risk(i + 1)));
         return;
     }
     let mut raised = *block;

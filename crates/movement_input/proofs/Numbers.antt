@@ -1,6 +1,7 @@
 -- The input's lines and their numbers, as they are read one after the other. Assumes nothing.
+use Rattle.std.specs.Prelude.{Option, Some, None, is_some}
 use mathlib.Core.Path.{◌≡◌, refl, sym, ap, ◌∙◌, subst}
-use mathlib.Core.Bool.{true, false}
+use mathlib.Core.Bool.{Bool, true, false, not}
 use mathlib.Core.List.{List, [], ◌∷◌, ◌++◌}
 use Prim.Native.Nat.{ℕ, zero, suc, ◌+◌, ◌-◌, ◌*◌, ◌^◌, ◌≤◌, ◌<◌}
 use native.Mathlib.Nat.{add-sub_cancel_left, pow-le-pow_right}
@@ -9,13 +10,11 @@ use native.Mathlib.Numerals.{add-one}
 use native.Mathlib.Omega.{arith}
 use lib.ListN.{length, get_or, set, take, drop, length-append, length-take, get_or-append}
 use lib.Seq.{get_or-append-add}
-use Rattle.search.proofs.Picks.{if_eq, if_ne, by_test}
+use Rattle.search.proofs.Picks.{if_eq, if_ne, by_test, never}
 use Rattle.search.proofs.Stretches.{Wrote, next, all_written}
 use Rattle.amount.specs.Amount.{limit}
 use Rattle.guideline.specs.Sizes.{block_numbers}
 use Rattle.field.specs.Field.{field}
-use Rattle.field.specs.declared.Field.{Field}
-use Rattle.field.specs.declared.Field.TheVariants.{Value, Bad}
 use Rattle.field.proofs.Inverse.{field_bound}
 use Rattle.movement_input.specs.Reading.{amount_columns, input_line_bytes, amount_of, amount_at, is_bad, number_in, number_at, numbers_to, block_of}
 
@@ -27,7 +26,7 @@ module _ (l : List ℕ) where
   unfolding amount_of
   ended h = sym (if_eq _ h)
 
-  pub not_ended : (get_or l amount_columns 0 ≡ 10 → ⊥) → Bad ≡ amount_of l
+  pub not_ended : (get_or l amount_columns 0 ≡ 10 → ⊥) → None ≡ amount_of l
   unfolding amount_of
   not_ended h = sym (if_ne _ h)
 
@@ -35,18 +34,12 @@ module _ (l : List ℕ) where
 pub lent_line : (s : List ℕ) (i : ℕ) → amount_of (take (input_line_bytes * i + input_line_bytes - input_line_bytes * i) (drop (input_line_bytes * i) s)) ≡ amount_at s i
 lent_line s i = rw (add-sub_cancel_left (input_line_bytes * i) input_line_bytes)
 
-module _ (s : List ℕ) (i : ℕ) {a : Field} (e : a ≡ amount_at s i) where
-  pub bad_line : a ≡ Bad → is_bad (amount_at s i) ≡ true
-  bad_line q = rw (← e, q)
-
-  pub good_line : {n : ℕ} → a ≡ Value n → is_bad (amount_at s i) ≡ false
-  good_line q = rw (← e, q)
-
-  pub bad_number : a ≡ Bad → 0 ≡ number_at s i
-  bad_number q = rw (← e, q)
-
-  pub good_number : {n : ℕ} → a ≡ Value n → n ≡ number_at s i
-  good_number q = rw (← e, q)
+-- whether a line is broken, as the code tests it
+pub broken_told : (a : Option ℕ) (r : Bool) → is_some a ≡ not r → is_bad a ≡ r
+broken_told None true e = refl
+broken_told None false e = never (cc)
+broken_told (Some n) true e = never (cc)
+broken_told (Some n) false e = refl
 
 -- ---- the first numbers
 
@@ -58,11 +51,11 @@ length_numbers s (suc n) = rw (length-append, length_numbers s n, add-one)
 -- 14 columns hold no amount above the limit
 amount_within : (l : List ℕ) → number_in (amount_of l) ≤ limit
 unfolding amount_of
-amount_within l = by_test (λ (a : Field). number_in a ≤ limit) _ _ _ (λ e. go (field (take amount_columns l)) refl) (λ e. omega arith)
+amount_within l = by_test (λ (a : Option ℕ). number_in a ≤ limit) _ _ _ (λ e. go (field (take amount_columns l)) refl) (λ e. omega arith)
   where
-    go : (a : Field) → field (take amount_columns l) ≡ a → number_in a ≤ limit
-    go Bad e = omega arith
-    go (Value n) e =
+    go : (a : Option ℕ) → field (take amount_columns l) ≡ a → number_in a ≤ limit
+    go None e = omega arith
+    go (Some n) e =
         let few : length (take amount_columns l) ≤ amount_columns = omega (arith, length-take amount_columns l) in
         let room : 10 ^ length (take amount_columns l) ≤ 10 ^ amount_columns = pow-le-pow_right (omega arith) few in
         omega (arith, field_bound (take amount_columns l) n e)

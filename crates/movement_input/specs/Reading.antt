@@ -1,12 +1,10 @@
 -- The input of the movement call, document 02, #111: 'reads 18 lines, each an amount in 14 columns and a line feed, the block call's 17 numbers and
 -- then t'. Bytes are numbers: a line feed is 10. Assumes nothing.
-use Rattle.std.specs.Prelude.{Bool, true, false, List, [], ◌∷◌, ◌++◌, ℕ, zero, suc, ◌+◌, ◌*◌, eqb, get_or, take, drop}
+use Rattle.std.specs.Prelude.{Option, Some, None, Bool, true, false, List, [], ◌∷◌, ◌++◌, ℕ, zero, suc, ◌+◌, ◌*◌, eqb, get_or, take, drop}
 use Rattle.search.specs.Pick.{pick}
 use Rattle.search.specs.First.{first}
 use Rattle.guideline.specs.Sizes.{block_numbers}
 use Rattle.field.specs.Field.{field}
-use Rattle.field.specs.declared.Field.{Field}
-use Rattle.field.specs.declared.Field.TheVariants.{Value, Bad}
 
 -- 'an amount in 14 columns'
 abbrev pub amount_columns : ℕ
@@ -26,18 +24,18 @@ input_bytes = input_line_bytes * input_lines
 
 -- ---- a line
 
--- what a line of 15 bytes holds: Bad where it is broken
-unfoldable pub amount_of : List ℕ → Field
-amount_of l = pick (eqb (get_or l amount_columns 0) 10) (field (take amount_columns l)) Bad
+-- what a line of 15 bytes holds: none where it is broken
+unfoldable pub amount_of : List ℕ → Option ℕ
+amount_of l = pick (eqb (get_or l amount_columns 0) 10) (field (take amount_columns l)) None
 
 -- what the line behind i others holds
-abbrev pub amount_at : List ℕ → ℕ → Field
+abbrev pub amount_at : List ℕ → ℕ → Option ℕ
 amount_at s i = amount_of (take input_line_bytes (drop (input_line_bytes * i) s))
 
 -- whether a line is broken
-abbrev pub is_bad : Field → Bool
-is_bad Bad = true
-is_bad (Value n) = false
+abbrev pub is_bad : Option ℕ → Bool
+is_bad None = true
+is_bad (Some n) = false
 
 -- how many lines stand before the first that is broken; all of them where none is
 unfoldable pub lines_kept : List ℕ → ℕ
@@ -46,9 +44,9 @@ lines_kept s = first (λ i. is_bad (amount_at s i)) input_lines
 -- ---- the numbers
 
 -- the number that a line holds; 0 where it is broken
-abbrev pub number_in : Field → ℕ
-number_in (Value n) = n
-number_in Bad = 0
+abbrev pub number_in : Option ℕ → ℕ
+number_in (Some n) = n
+number_in None = 0
 
 -- the number of the line behind i others
 abbrev pub number_at : List ℕ → ℕ → ℕ

@@ -4,7 +4,6 @@
 ghost use Rattle.std.specs.Prelude.{◌≡◌, ◌<◌, length};
 ghost use Rattle.movement_input.specs.Reading.{input_line_bytes, input_lines, input_bytes, amount_of, amount_at, lines_kept, number_at, block_of};
 
-use field::Field;
 use guideline::BLOCK_NUMBERS;
 
 // The columns of an amount.
@@ -24,16 +23,12 @@ pub fn lines_kept(input: &[u8]) -> usize
     requires { length input.now ≡ input_bytes }
     ensures { result ≡ lines_kept input.now }
 {
-    let mut i = 0;
-    while i < INPUT_LINES {
-        let amount = amount_at(input, i);
-        match amount {
-            Field::Bad => return i,
-            Field::Value(_) => {}
+    for i in 0..INPUT_LINES {
+        if amount_at(input, i).is_none() {
+            return i;
         }
-        i += 1;
     }
-    i
+    INPUT_LINES
 }
 
 // The block's numbers; what a line holds that is broken counts for nothing.
@@ -42,10 +37,8 @@ pub fn block_of(input: &[u8]) -> [u64; BLOCK_NUMBERS]
     ensures { result ≡ block_of input.now }
 {
     let mut numbers = [0u64; BLOCK_NUMBERS];
-    let mut i = 0;
-    while i < BLOCK_NUMBERS {
+    for i in 0..BLOCK_NUMBERS {
         numbers[i] = number_at(input, i);
-        i += 1;
     }
     numbers
 }
@@ -55,15 +48,11 @@ pub fn number_at(input: &[u8], i: usize) -> u64
     requires { (length input.now ≡ input_bytes) × (i < input_lines) }
     ensures { result ≡ number_at input.now i }
 {
-    let amount = amount_at(input, i);
-    match amount {
-        Field::Value(n) => n,
-        Field::Bad => 0,
-    }
+    amount_at(input, i).unwrap_or(0)
 }
 
-// What that line holds.
-fn amount_at(input: &[u8], i: usize) -> Field
+// What that line holds; nothing where it is broken.
+fn amount_at(input: &[u8], i: usize) -> Option<u64>
     requires { (length input.now ≡ input_bytes) × (i < input_lines) }
     ensures { result ≡ amount_at input.now i }
 {
@@ -71,13 +60,13 @@ fn amount_at(input: &[u8], i: usize) -> Field
     read_amount(&input[from..from + INPUT_LINE_BYTES])
 }
 
-// A line's amount.
-fn read_amount(line: &[u8]) -> Field
+// A line's amount; none where the line is broken.
+fn read_amount(line: &[u8]) -> Option<u64>
     requires { length line.now ≡ input_line_bytes }
     ensures { result ≡ amount_of line.now }
 {
     if line[AMOUNT_COLUMNS] != b'\n' {
-        return Field::Bad;
+        return None;
     }
     field::read_field(&line[0..AMOUNT_COLUMNS])
 }

@@ -16,7 +16,6 @@ use Rattle.search.proofs.Picks.{if_true, if_false, if_lt, if_ge, by_test, never}
 use Rattle.codes.specs.Codes.{letters_of, is_code, code_among, code_of}
 use Rattle.codes.specs.declared.Code.{Code}
 use Rattle.codes.specs.declared.Code.TheVariants.{Rsk, Oth, Mor, Vol, Acq, Gen, Crd}
-use Rattle.codes.specs.declared.Coded.TheVariants.{Known}
 use Rattle.report_line.specs.Line.{Row}
 use Rattle.guideline.specs.Sizes.{number_columns}
 use Rattle.report_line.proofs.ReadBack.{Printable, key_parts}
@@ -32,14 +31,13 @@ use Rattle.needs.specs.Needs.{label_for, need_of, unmet}
 use Rattle.needs.specs.Listing.{label_bytes, listed_bytes, label_of, listed_line, listed_for, line_for, listing}
 use Rattle.needs.specs.Listed.{IsLine, listed_lines, listed_at, ListedExactly}
 use Rattle.needs.specs.declared.Label.{Label}
-use Rattle.needs.specs.declared.Need.{Need}
-use Rattle.needs.specs.declared.Need.TheVariants.{Nothing, Companion}
+use Rattle.std.specs.Prelude.{Option, Some, None}
 use Rattle.needs.proofs.Labels.{length_label}
 use Rattle.needs.proofs.Gathered.{one_if, is_one, unmet_long}
 
 -- ---- a line's bytes tell its code, block and class
 
-coded : (k : Code) → code_of (letters_of k) ≡ Known k
+coded : (k : Code) → code_of (letters_of k) ≡ Some k
 unfolding code_among is_code pick
 coded Rsk = refl
 coded Oth = refl
@@ -65,10 +63,10 @@ label_tells d e a b q =
     let l : letters_of d.code ≡ letters_of e.code = cc (x.0, y.0, q) in
     record { code = cc (coded d.code, coded e.code, l); block = cc (x.1, y.1, q); class = cc (x.2, y.2, q) }
 
-front_label : (l : Label) (n : Need) → length (listed_for l n) ≡ listed_bytes → take label_bytes (listed_for l n) ≡ label_of l
+front_label : (l : Label) (n : Option Label) → length (listed_for l n) ≡ listed_bytes → take label_bytes (listed_for l n) ≡ label_of l
 unfolding listed_line
-front_label l Nothing h = absurd (omega arith)
-front_label l (Companion m) h = simp append_assoc (take_at (label_of l) _ label_bytes (length_label l))
+front_label l None h = absurd (omega arith)
+front_label l (Some m) h = simp append_assoc (take_at (label_of l) _ label_bytes (length_label l))
 
 line_tells : (d e : Entry) → AcceptedLine d → AcceptedLine e → length (line_for d) ≡ listed_bytes → line_for d ≡ line_for e → SameKey d.code d.block d.class e
 line_tells d e a b h q =

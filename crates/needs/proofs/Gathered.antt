@@ -27,8 +27,7 @@ use Rattle.needs.specs.Needs.{label, label_for, need_of, met, all_zero, unmet_wi
 use Rattle.needs.specs.Listing.{listed_bytes, listed_for, line_for, listing}
 use Rattle.needs.specs.Needing.{most_listed, longest_listing, needing, line_at, listed_to}
 use Rattle.needs.specs.declared.Label.{Label}
-use Rattle.needs.specs.declared.Need.{Need}
-use Rattle.needs.specs.declared.Need.TheVariants.{Nothing, Companion}
+use Rattle.std.specs.Prelude.{Option, Some, None}
 use Rattle.needs.proofs.Labels.{length_listed}
 use Rattle.needs.proofs.Numbered.{key_at, rises, number_below, Placed, placed}
 
@@ -62,18 +61,18 @@ is_one true = refl
 is_one false = refl
 
 -- a line whose need is unmet has a companion
-pub has_companion : (first : Code → ℕ → ℕ → ℕ) (a b : ℕ) (l : Label) → unmet_with first a b l ≡ true → (m : Label) × (need_of l ≡ Companion m)
+pub has_companion : (first : Code → ℕ → ℕ → ℕ) (a b : ℕ) (l : Label) → unmet_with first a b l ≡ true → (m : Label) × (need_of l ≡ Some m)
 unfolding unmet_with
 has_companion first a b l =
-    by_test (λ t. t ≡ true → (m : Label) × (need_of l ≡ Companion m)) (all_zero a b) false _ (λ t q. never (cc)) (λ t q. go (need_of l) refl q)
+    by_test (λ t. t ≡ true → (m : Label) × (need_of l ≡ Some m)) (all_zero a b) false _ (λ t q. never (cc)) (λ t q. go (need_of l) refl q)
   where
-    go : (n : Need) → need_of l ≡ n → not (met first n) ≡ true → (m : Label) × (need_of l ≡ Companion m)
-    go Nothing e q = never (cc)
-    go (Companion m) e q = (m, e)
+    go : (n : Option Label) → need_of l ≡ n → not (met first n) ≡ true → (m : Label) × (need_of l ≡ Some m)
+    go None e q = never (cc)
+    go (Some m) e q = (m, e)
 
 -- so its line is one of the listing's
 pub unmet_long : (first : Code → ℕ → ℕ → ℕ) (a b : ℕ) (l : Label) → unmet_with first a b l ≡ true → length (listed_for l (need_of l)) ≡ listed_bytes
-unmet_long first a b l t = let m = has_companion first a b l t in ap (λ (n : Need). length (listed_for l n)) m.1 ∙ length_listed l m.0
+unmet_long first a b l t = let m = has_companion first a b l t in ap (λ (n : Option Label). length (listed_for l n)) m.1 ∙ length_listed l m.0
 
 module _ (es : List Entry) where
   -- whether the line with a code, block and class has an unmet need, by some of the lines
@@ -202,9 +201,9 @@ listing_gathered es a p =
     ∙ same_gathered line_at _ _ most_listed (λ i h. let l = needing (suc i) in ap (λ (x : ℕ). ltb 0 x) (looked_up es es l.code l.block l.class) ∙ is_one _)
 
 -- a line for each is the most
-line_most : (l : Label) (n : Need) → length (listed_for l n) ≤ listed_bytes
-line_most l Nothing = omega arith
-line_most l (Companion m) = omega (arith, length_listed l m)
+line_most : (l : Label) (n : Option Label) → length (listed_for l n) ≤ listed_bytes
+line_most l None = omega arith
+line_most l (Some m) = omega (arith, length_listed l m)
 
 pub longest : (es : List Entry) → Each AcceptedLine es → Ascending es → length (listing es) ≤ longest_listing
 longest es a p = rw (listing_gathered es a p) (most_ascending _ line_at listed_bytes (λ n. line_most (needing n) (need_of (needing n))) most_listed)

@@ -19,7 +19,7 @@ use Rattle.order.proofs.Keys.{dividend_key}
 use Rattle.needs.specs.Needs.{label, segregated_class, volume_need, credit_need, need_of}
 use Rattle.needs.specs.Needing.{last_mor, last_vol, last_acq, most_listed, needing}
 use Rattle.needs.specs.declared.Label.{Label}
-use Rattle.needs.specs.declared.Need.TheVariants.{Companion}
+use Rattle.std.specs.Prelude.{Some}
 
 -- ---- their keys rise
 
@@ -74,9 +74,9 @@ keyed n l h =
 abbrev pub Placed : Label → Type 0
 Placed l = (n : ℕ) × (n < most_listed) × (needing (suc n) ≡ l)
 
-segregated : (c : ℕ) {m : Label} → volume_need c ≡ Companion m → c ≡ segregated_class
+segregated : (c : ℕ) {m : Label} → volume_need c ≡ Some m → c ≡ segregated_class
 unfolding volume_need
-segregated c {m} = by_test (λ x. x ≡ Companion m → c ≡ segregated_class) _ _ _ (λ t q. eqb-true _ _ t) (λ f q. never (cc))
+segregated c {m} = by_test (λ x. x ≡ Some m → c ≡ segregated_class) _ _ _ (λ t q. eqb-true _ _ t) (λ f q. never (cc))
 
 module _ (n : ℕ) where
   is_mor : n ≤ last_mor → needing n ≡ label Mor n 1
@@ -104,7 +104,7 @@ module _ (n : ℕ) where
 numbers : (k : Code) {b b' c c' : ℕ} → b ≡ b' → c ≡ c' → label k b c ≡ label k b' c'
 numbers k p q = λ i. label k (p i) (q i)
 
-pub placed : (k : Code) (b c : ℕ) {m : Label} → Key k b c → need_of (label k b c) ≡ Companion m → Placed (label k b c)
+pub placed : (k : Code) (b c : ℕ) {m : Label} → Key k b c → need_of (label k b c) ≡ Some m → Placed (label k b c)
 unfolding credit_need pick
 placed Rsk b c v q = never (cc)
 placed Oth b c v q = never (cc)

@@ -1,6 +1,6 @@
 -- The listing of the lines whose needs are unmet. Document 02, #113: 'The listing follows the sheet's order, 20 bytes a line: code, block and class in
 -- the sheet's columns, the companion's in 11–13, 15–16, 18–19 (class 0 for a CRD line), a line feed.' Assumes nothing.
-use Rattle.std.specs.Prelude.{List, [], ◌∷◌, ◌++◌, ℕ, ◌+◌, ◌*◌}
+use Rattle.std.specs.Prelude.{Option, Some, None, List, [], ◌∷◌, ◌++◌, ℕ, ◌+◌, ◌*◌}
 use Rattle.search.specs.Pick.{pick}
 use Rattle.codes.specs.Codes.{letters_of}
 use Rattle.report_line.specs.Line.{key}
@@ -8,8 +8,6 @@ use Rattle.sheet_line.specs.declared.Entry.{Entry}
 use Rattle.order.specs.Reading.{print_by}
 use Rattle.needs.specs.Needs.{label_for, need_of, unmet}
 use Rattle.needs.specs.declared.Label.{Label}
-use Rattle.needs.specs.declared.Need.{Need}
-use Rattle.needs.specs.declared.Need.TheVariants.{Nothing, Companion}
 
 -- the bytes of code, block and class
 abbrev pub label_bytes : ℕ
@@ -28,9 +26,9 @@ unfoldable pub listed_line : Label → Label → List ℕ
 listed_line l m = label_of l ++ (32 ∷ []) ++ label_of m ++ (10 ∷ [])
 
 -- the line that the listing has for a need; for none there is nothing to list
-abbrev pub listed_for : Label → Need → List ℕ
-listed_for l Nothing = []
-listed_for l (Companion m) = listed_line l m
+abbrev pub listed_for : Label → Option Label → List ℕ
+listed_for l None = []
+listed_for l (Some m) = listed_line l m
 
 -- the line that the listing has for a line of the sheet
 abbrev pub line_for : Entry → List ℕ

@@ -1,7 +1,7 @@
 -- What a line needs. Document 02, #113: 'VOL class 5 needs GEN 2; MOR needs RSK class 1 of its block; ACQ needs VOL of its block and class; CRD of a
 -- block needs an RSK line of it. A line with amounts all zero needs nothing.' A need is unmet where the line's 'companion is absent or has first
 -- amount 0': an absent line's amounts are zeros, so that both are one test. Assumes nothing.
-use Rattle.std.specs.Prelude.{Bool, true, false, not, List, ℕ, ltb, eqb}
+use Rattle.std.specs.Prelude.{Bool, true, false, not, List, ℕ, Option, Some, None, ltb, eqb}
 use Rattle.search.specs.Pick.{pick}
 use Rattle.search.specs.First.{any_to}
 use Rattle.codes.specs.Codes.{risk_classes, guarantee_class}
@@ -10,8 +10,6 @@ use Rattle.codes.specs.declared.Code.TheVariants.{Rsk, Oth, Mor, Vol, Acq, Gen, 
 use Rattle.sheet_line.specs.declared.Entry.{Entry}
 use Rattle.order.specs.Entries.{lookup, first_of}
 use Rattle.needs.specs.declared.Label.{Label}
-use Rattle.needs.specs.declared.Need.{Need}
-use Rattle.needs.specs.declared.Need.TheVariants.{Nothing, Companion}
 
 -- the line of a code, block and class
 abbrev pub label : Code → ℕ → ℕ → Label
@@ -30,24 +28,24 @@ abbrev pub segregated_class : ℕ
 segregated_class = 5
 
 -- 'VOL class 5 needs GEN 2', which is of block 0
-unfoldable pub volume_need : ℕ → Need
-volume_need c = pick (eqb c segregated_class) (Companion (label Gen 0 guarantee_class)) Nothing
+unfoldable pub volume_need : ℕ → Option Label
+volume_need c = pick (eqb c segregated_class) (Some (label Gen 0 guarantee_class)) None
 
 -- 'CRD of a block needs an RSK line of it', of whichever class: class 0 stands for that, as in the listing. CRD of block 0 belongs to no block
-unfoldable pub credit_need : ℕ → Need
-credit_need b = pick (eqb b 0) Nothing (Companion (label Rsk b 0))
+unfoldable pub credit_need : ℕ → Option Label
+credit_need b = pick (eqb b 0) None (Some (label Rsk b 0))
 
 -- what the line of a code, block and class needs, where its amounts aren't all zero
-abbrev pub need_for : Code → ℕ → ℕ → Need
-need_for Rsk b c = Nothing
-need_for Oth b c = Nothing
-need_for Mor b c = Companion (label Rsk b mortality_class)
+abbrev pub need_for : Code → ℕ → ℕ → Option Label
+need_for Rsk b c = None
+need_for Oth b c = None
+need_for Mor b c = Some (label Rsk b mortality_class)
 need_for Vol b c = volume_need c
-need_for Acq b c = Companion (label Vol b c)
-need_for Gen b c = Nothing
+need_for Acq b c = Some (label Vol b c)
+need_for Gen b c = None
 need_for Crd b c = credit_need b
 
-abbrev pub need_of : Label → Need
+abbrev pub need_of : Label → Option Label
 need_of l = need_for l.code l.block l.class
 
 -- ---- met and unmet, by the first amounts of lines
@@ -61,9 +59,9 @@ unfoldable pub counts : (Code → ℕ → ℕ → ℕ) → Label → Bool
 counts first m = pick (eqb m.class 0) (some_risk first m.block) (ltb 0 (first m.code m.block m.class))
 
 -- whether a need is met
-abbrev pub met : (Code → ℕ → ℕ → ℕ) → Need → Bool
-met first Nothing = true
-met first (Companion m) = counts first m
+abbrev pub met : (Code → ℕ → ℕ → ℕ) → Option Label → Bool
+met first None = true
+met first (Some m) = counts first m
 
 -- 'amounts all zero'
 unfoldable pub all_zero : ℕ → ℕ → Bool

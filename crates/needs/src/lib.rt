@@ -16,13 +16,6 @@ pub struct Label {
     pub class: usize,
 }
 
-// What a line needs: nothing, or a companion. Class 0 of a companion is whichever class there is.
-#[derive(Clone, Copy)]
-pub enum Need {
-    Nothing,
-    Companion(Label),
-}
-
 // RSK's class of mortality, which MOR needs.
 const MORTALITY_CLASS: usize = 1;
 
@@ -53,56 +46,55 @@ pub const MOST_LISTED: usize = LAST_ACQ + PARTICIPATING;
 // A line for each of them.
 pub const LONGEST_LISTING: usize = LISTED_BYTES * MOST_LISTED;
 
-// What the line of a code, block and class needs, where its amounts aren't all zero.
-pub fn need_of(l: Label) -> Need
+// What the line of a code, block and class needs, where its amounts aren't all zero: a companion, or nothing. Class 0 of a companion is whichever
+// class there is.
+pub fn need_of(l: Label) -> Option<Label>
     ensures { result ≡ need_of l }
 {
-    let code = l.code;
-    match code {
-        Code::Rsk => Need::Nothing,
-        Code::Oth => Need::Nothing,
-        Code::Mor => Need::Companion(Label {
+    match l.code {
+        Code::Rsk | Code::Oth | Code::Gen => None,
+        Code::Mor => Some(Label {
             code: Code::Rsk,
-            block: l.block,
             class: MORTALITY_CLASS,
+            ..l
         }),
         Code::Vol => volume_need(l.class),
-        Code::Acq => Need::Companion(Label {
+        Code::Acq => Some(Label {
             code: Code::Vol,
-            block: l.block,
-            class: l.class,
+            ..l
         }),
-        Code::Gen => Need::Nothing,
         Code::Crd => credit_need(l.block),
     }
 }
 
 // VOL of segregated funds with guarantees needs their guarantee requirement.
-fn volume_need(class: usize) -> Need
+fn volume_need(class: usize) -> Option<Label>
     ensures { result ≡ volume_need class }
 {
-    if class != SEGREGATED_CLASS {
-        return Need::Nothing;
+    if class == SEGREGATED_CLASS {
+        Some(Label {
+            code: Code::Gen,
+            block: 0,
+            class: GUARANTEE_CLASS,
+        })
+    } else {
+        None
     }
-    Need::Companion(Label {
-        code: Code::Gen,
-        block: 0,
-        class: GUARANTEE_CLASS,
-    })
 }
 
 // CRD of a block needs an RSK line of it, of whichever class; CRD of block 0 belongs to no block.
-fn credit_need(block: usize) -> Need
+fn credit_need(block: usize) -> Option<Label>
     ensures { result ≡ credit_need block }
 {
     if block == 0 {
-        return Need::Nothing;
+        None
+    } else {
+        Some(Label {
+            code: Code::Rsk,
+            block,
+            class: 0,
+        })
     }
-    Need::Companion(Label {
-        code: Code::Rsk,
-        block,
-        class: 0,
-    })
 }
 
 // The lines that can need another, in the order of lines, by their number from 1 on.
@@ -110,31 +102,30 @@ pub fn needing(n: usize) -> Label
     requires { (1 ≤ n) × (n ≤ most_listed) }
     ensures { result ≡ needing n }
 {
-    if LAST_ACQ < n {
-        return Label {
+    if n > LAST_ACQ {
+        Label {
             code: Code::Crd,
             block: n - LAST_ACQ + NON_PARTICIPATING,
             class: ONLY_CLASS,
-        };
-    }
-    if LAST_VOL < n {
+        }
+    } else if n > LAST_VOL {
         let before = n - LAST_VOL - 1;
-        return Label {
+        Label {
             code: Code::Acq,
             block: before / VOLUME_CLASSES + 1,
             class: before % VOLUME_CLASSES + 1,
-        };
-    }
-    if LAST_MOR < n {
-        return Label {
+        }
+    } else if n > LAST_MOR {
+        Label {
             code: Code::Vol,
             block: n - LAST_MOR,
             class: SEGREGATED_CLASS,
-        };
-    }
-    Label {
-        code: Code::Mor,
-        block: n,
-        class: ONLY_CLASS,
+        }
+    } else {
+        Label {
+            code: Code::Mor,
+            block: n,
+            class: ONLY_CLASS,
+        }
     }
 }

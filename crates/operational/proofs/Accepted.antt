@@ -49,7 +49,7 @@ module _ (l g : List ℕ) where
   passes : AcceptedOperational l g → operational_call l g ≡ accepted (RO l g ∷ [])
   passes v =
       passed_15 l g (omega arith) v.multiple
-      ∙ passed_7 l g refl (omega (arith, all_within l v.volumes)) refl (omega (arith, all_within g v.general))
+      ∙ passed_7 l g (omega (arith, all_within l v.volumes)) (omega (arith, all_within g v.general))
 
   pub accepts_operational : AcceptsOperational l g
   unfolding RulesFollowed

@@ -20,32 +20,30 @@ module _ (l g : List ℕ) where
   passed_15 h e = if_ge _ h ∙ if_eq _ e
 
   -- rule 7 at a position of the volumes
-  pub in_volumes : {r : ℕ} → r ≡ first_above l → r < length l → rule7 l g ≡ refused 7 (Position r)
+  pub in_volumes : {r : ℕ} → (r ≡ first_above l) × (r < length l) → rule7 l g ≡ refused 7 (Position r)
   unfolding rule7
-  in_volumes e h =
-      let k : first_above l < length l = omega arith in
-      let f = first_in l g k in
-      let i : first_above (l ++ g) < length (l ++ g) = omega (arith, length-append l g) in
-      if_lt _ i ∙ ap (λ (x : ℕ). refused 7 (Position x)) (f ∙ sym e)
+  in_volumes (e, h) =
+      let i : first_above (l ++ g) < length (l ++ g) = omega (arith, length-append l g, first_in l g (omega arith)) in
+      if_lt _ i ∙ ap (λ (x : ℕ). refused 7 (Position x)) (first_in l g (omega arith) ∙ sym e)
 
-  module _ {r s : ℕ} (e : r ≡ first_above l) (h : length l ≤ r) (f : s ≡ first_above g) where
-    last : first_above (l ++ g) ≡ length l + s
-    last = omega (arith, first_after l g (omega arith))
+  module _ (h : length l ≤ first_above l) where
+    last : first_above (l ++ g) ≡ length l + first_above g
+    last = first_after l g h
 
     -- at one of the general figures
-    pub in_general : s < length g → rule7 l g ≡ refused 7 (Position (length l + s))
+    pub in_general : {s : ℕ} → (s ≡ first_above g) × (s < length g) → rule7 l g ≡ refused 7 (Position (length l + s))
     unfolding rule7
-    in_general k =
+    in_general (e, k) =
         let i : first_above (l ++ g) < length (l ++ g) = omega (arith, last, length-append l g) in
-        if_lt _ i ∙ ap (λ (x : ℕ). refused 7 (Position x)) last
+        if_lt _ i ∙ ap (λ (x : ℕ). refused 7 (Position x)) (omega (arith, last))
 
     -- at none
-    pub passed_7 : length g ≤ s → rule7 l g ≡ accepted (RO l g ∷ [])
+    pub passed_7 : length g ≤ first_above g → rule7 l g ≡ accepted (RO l g ∷ [])
     unfolding rule7
     passed_7 k = if_ge _ (let i : length (l ++ g) ≤ first_above (l ++ g) = omega (arith, last, length-append l g) in i)
 
-    pub amounts : length l ≤ volume_numbers → length g ≤ s → OperationalAmounts l g
+    pub amounts : length l ≤ volume_numbers → length g ≤ first_above g → OperationalAmounts l g
     amounts n k =
-        let v = none_above l (omega arith) in
-        let w = none_above g (omega arith) in
+        let v = none_above l h in
+        let w = none_above g k in
         record { short = n; currents = λ j. v (2 * j); priors = λ j. omega (arith, v (2 * j + 1)); gross = w 0; guarantee = w 1; ceded = w 2 }

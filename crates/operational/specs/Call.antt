@@ -1,20 +1,18 @@
 -- The operational call of document 01, 'What is turned away': 'it tests 15, then 7, positions running through both', and 'Accepted ..
 -- the operational call RO'. Assumes nothing.
-use Rattle.std.specs.Prelude.{List, [], ◌∷◌, ◌++◌, ℕ, ◌%◌, ltb, eqb, length}
+use Rattle.std.specs.Prelude.{Result, List, [], ◌∷◌, ◌++◌, ℕ, ◌%◌, ltb, eqb, length}
 use Rattle.search.specs.Pick.{pick}
 use Rattle.amount.specs.Amount.{first_above}
-use Rattle.refusal.specs.Outcome.{Outcome}
+use Rattle.refusal.specs.Outcome.{Outcome, stated_by}
 use Rattle.refusal.specs.Outcome.Outcome.{accepted, refused}
 use Rattle.refusal.specs.declared.Place.TheVariants.{Position, Nowhere}
+use Rattle.refusal.specs.declared.Refusal.{Refusal}
 use Rattle.guideline.specs.Sizes.{territory_numbers, volume_numbers}
 use Rattle.guideline.specs.Operational.{RO}
-use Rattle.operational.specs.declared.OperationalAnswer.{OperationalAnswer}
-use Rattle.operational.specs.declared.OperationalAnswer.TheVariants.{Accepted, Refused}
 
--- what the enum's cases say in document 01's numbers: RO, or the refusal's number and place
-abbrev pub stated : OperationalAnswer → Outcome
-stated (Accepted ro) = accepted (ro ∷ [])
-stated (Refused n p) = refused n p
+-- what the result says in document 01's numbers: RO, or the refusal's number and place
+abbrev pub stated : Result ℕ Refusal → Outcome
+stated = stated_by (λ ro. ro ∷ [])
 
 -- rule 7, at a position of the volumes and the general figures after them
 unfoldable pub rule7 : List ℕ → List ℕ → Outcome

@@ -11,35 +11,26 @@ ghost use Rattle.operational.specs.Call.{stated, operational_call};
 use guideline::{
     GENERAL_FIGURES, OPERATIONAL_DENOMINATOR, TERRITORY_NUMBERS, VOLUME_CLASSES, VOLUME_NUMBERS,
 };
-use refusal::Place;
+use refusal::{Place, Refusal, Rule};
 
-// What the operational call gives: RO, or the number and the place of a refusal.
-#[derive(Clone, Copy)]
-pub enum OperationalAnswer {
-    Accepted(u64),
-    Refused(u8, Place),
-}
-
-// Volumes of any length, 16 numbers a territory, then gross components, guarantee requirement and ceded premiums.
-pub fn operational_call(volumes: &[u64], general: &[u64; GENERAL_FIGURES]) -> OperationalAnswer
+// RO, of volumes of any length, 16 numbers a territory, then gross components, guarantee requirement and ceded premiums.
+pub fn operational_call(volumes: &[u64], general: &[u64; GENERAL_FIGURES]) -> Result<u64, Refusal>
     ensures { stated result ≡ operational_call volumes.now general.now }
 {
     let n = volumes.len();
     if VOLUME_NUMBERS < n {
-        return OperationalAnswer::Refused(15, Place::Nowhere);
+        return Err(Refusal(Rule::VolumesLength, Place::Nowhere));
     }
     if n % TERRITORY_NUMBERS != 0 {
-        return OperationalAnswer::Refused(15, Place::Nowhere);
+        return Err(Refusal(Rule::VolumesLength, Place::Nowhere));
     }
-    let above = amount::first_above(volumes);
-    if above < n {
-        return OperationalAnswer::Refused(7, Place::Position(above));
+    if let Some(above) = amount::first_above(volumes) {
+        return Err(Refusal(Rule::AmountAboveLimit, Place::Position(above)));
     }
-    let after = amount::first_above(general);
-    if after < GENERAL_FIGURES {
-        return OperationalAnswer::Refused(7, Place::Position(n + after));
+    if let Some(after) = amount::first_above(general) {
+        return Err(Refusal(Rule::AmountAboveLimit, Place::Position(n + after)));
     }
-    OperationalAnswer::Accepted(operational(volumes, general))
+    Ok(operational(volumes, general))
 }
 
 // RO. Its numerator, over 50,000, just fits a word: for 16 territories it is below 1.67 × 10^19.
@@ -64,16 +55,13 @@ fn business(volumes: &[u64]) -> u64
     requires within_limit { ((k : ℕ) → current volumes.now k ≤ limit) × ((k : ℕ) → prior volumes.now k ≤ 2 * limit) }
     ensures { result ≡ 5 * volume volumes.now + growth volumes.now }
 {
-    let n = volumes.len() / 2;
     let mut sum = 0u64;
-    let mut k = 0usize;
-    while k < n {
+    for k in 0..volumes.len() / 2 {
         sum += charge(
             guideline::volume_factor(k % VOLUME_CLASSES),
             volumes[2 * k],
             volumes[2 * k + 1],
         );
-        k += 1;
     }
     sum
 }
@@ -88,8 +76,7 @@ fn charge(factor: u64, current: u64, prior: u64) -> u64
 
 // The one rounding, at the end, to whole cents.
 fn rounded_up(numerator: u64) -> u64
-    requires { numerator + operational_denominator ≤ 2 ^ 64 }
     ensures { result ≡ least (λ x. leb numerator (operational_denominator * x)) }
 {
-    (numerator + (OPERATIONAL_DENOMINATOR - 1)) / OPERATIONAL_DENOMINATOR
+    numerator.div_ceil(OPERATIONAL_DENOMINATOR)
 }

@@ -1,5 +1,6 @@
 -- The lines of a sheet read one after the other: what holds of every reading, and what the marks and the last key tell after i lines. Assumes
 -- nothing.
+use Rattle.std.specs.Prelude.{Result, Ok, Err}
 use mathlib.Core.Path.{◌≡◌, refl, sym, ap, ◌∙◌}
 use mathlib.Core.List.{List, [], ◌∷◌}
 use mathlib.Core.Bool.{false}
@@ -10,14 +11,13 @@ use lib.ListN.{length, take, drop, length-drop}
 use lib.Seq.{drop-drop, length-take-le}
 use Rattle.search.specs.Each.{Each}
 use Rattle.search.proofs.Picks.{never}
-use Rattle.refusal.specs.Outcome.{Judging}
+use Rattle.refusal.specs.Outcome.{rule_number, Judging}
 use Rattle.layout.specs.Columns.{sheet_line_bytes}
 use Rattle.layout.specs.Whole.{whole_lines, line_at}
 use Rattle.layout.proofs.Lent.{lent, lent_is}
 use Rattle.sheet_line.specs.Rules.{parse_line, AcceptedLine}
+use Rattle.refusal.specs.declared.Rule.{Rule}
 use Rattle.sheet_line.specs.declared.Entry.{Entry}
-use Rattle.sheet_line.specs.declared.Line.{Line}
-use Rattle.sheet_line.specs.declared.Line.TheVariants.{Good, Refused}
 use Rattle.sheet_line.proofs.Accepted.{line_good}
 use Rattle.sheet_line.proofs.Refusals.{line_judging}
 use Rattle.order.specs.Entries.{mark_of, DistinctKeys}
@@ -32,7 +32,7 @@ use Rattle.order.proofs.Indexes.{lookup_table}
 
 -- ---- a line more
 
-module _ (parse : List ℕ → Line) (test : Line → Line) (s : List ℕ) (n i : ℕ) (seen : List Entry) where
+module _ (parse : List ℕ → Result Entry Rule) (test : Result Entry Rule → Result Entry Rule) (s : List ℕ) (n i : ℕ) (seen : List Entry) where
   pub read_more : i < n
       → read_from parse test (n - i) (i + 1) (drop (sheet_line_bytes * i) s) seen
       ≡ on_line (test (line_after seen (parse (line_at s i)))) (i + 1) seen
@@ -48,46 +48,46 @@ module _ (parse : List ℕ → Line) (test : Line → Line) (s : List ℕ) (n i 
   read_none h = let e : n - i ≡ 0 = omega arith in rw e
 
 module _ (i : ℕ) (seen : List Entry) (next : List Entry → Reading) where
-  on_refused : {L : Line} {r : ℕ} → L ≡ Refused r → on_line L i seen next ≡ stopped seen r i
+  on_refused : {L : Result Entry Rule} {r : Rule} → L ≡ Err r → on_line L i seen next ≡ stopped seen (rule_number r) i
   unfolding on_line
   on_refused e = rw e
 
-  pub on_good : {L : Line} {e : Entry} → L ≡ Good e → on_line L i seen next ≡ next (e ∷ seen)
+  pub on_good : {L : Result Entry Rule} {e : Entry} → L ≡ Ok e → on_line L i seen next ≡ next (e ∷ seen)
   unfolding on_line
   on_good q = rw q
 
   -- what holds of each way on from a line holds of the reading
-  pub by_line : (P : Reading → Type 0) (L : Line) → ((r : ℕ) → L ≡ Refused r → P (stopped seen r i))
-      → ((e : Entry) → L ≡ Good e → P (next (e ∷ seen))) → P (on_line L i seen next)
+  pub by_line : (P : Reading → Type 0) (L : Result Entry Rule) → ((r : Rule) → L ≡ Err r → P (stopped seen (rule_number r) i))
+      → ((e : Entry) → L ≡ Ok e → P (next (e ∷ seen))) → P (on_line L i seen next)
   unfolding on_line
-  by_line P (Refused r) refused good = refused r refl
-  by_line P (Good e) refused good = good e refl
+  by_line P (Err r) refused good = refused r refl
+  by_line P (Ok e) refused good = good e refl
 
 -- ---- what holds of the lines that were read: what each new line keeps
 
 -- no line is good that the rules of a line turn away, and the last test lets a line pass as it is
-pub record Reads (parse : List ℕ → Line) (test : Line → Line) : Type 0 where
-  pub good : (s : List ℕ) → length s ≡ sheet_line_bytes → (e : Entry) → parse s ≡ Good e → AcceptedLine e
-  pub keeps : (l : Line) (e : Entry) → test l ≡ Good e → l ≡ Good e
+pub record Reads (parse : List ℕ → Result Entry Rule) (test : Result Entry Rule → Result Entry Rule) : Type 0 where
+  pub good : (s : List ℕ) → length s ≡ sheet_line_bytes → (e : Entry) → parse s ≡ Ok e → AcceptedLine e
+  pub keeps : (l : Result Entry Rule) (e : Entry) → test l ≡ Ok e → l ≡ Ok e
 
 -- an entry that the last test lets pass
-abbrev pub Passes : (Line → Line) → Entry → Type 0
-Passes test e = test (Good e) ≡ Good e
+abbrev pub Passes : (Result Entry Rule → Result Entry Rule) → Entry → Type 0
+Passes test e = test (Ok e) ≡ Ok e
 
 -- a sheet's own lines
 pub own : Reads parse_line untested
 own = record { good = line_good; keeps = λ l e q. q }
 
 -- a line that was read after others
-pub record NextLine (parse : List ℕ → Line) (test : Line → Line) (seen : List Entry) (s : List ℕ) (e : Entry) : Type 0 where
-  pub parsed : parse s ≡ Good e
+pub record NextLine (parse : List ℕ → Result Entry Rule) (test : Result Entry Rule → Result Entry Rule) (seen : List Entry) (s : List ℕ) (e : Entry) : Type 0 where
+  pub parsed : parse s ≡ Ok e
   pub accepted : AcceptedLine e
   pub passes : Passes test e
   pub new : stood_in seen e ≡ false
   pub after : last_key seen < key_for e
 
-module _ {parse : List ℕ → Line} {test : Line → Line} (R : Reads parse test) where
-  pub next_line : (seen : List Entry) (s : List ℕ) → length s ≡ sheet_line_bytes → (e : Entry) → test (line_after seen (parse s)) ≡ Good e
+module _ {parse : List ℕ → Result Entry Rule} {test : Result Entry Rule → Result Entry Rule} (R : Reads parse test) where
+  pub next_line : (seen : List Entry) (s : List ℕ) → length s ≡ sheet_line_bytes → (e : Entry) → test (line_after seen (parse s)) ≡ Ok e
       → NextLine parse test seen s e
   next_line seen s l e q =
       let k = R.keeps (line_after seen (parse s)) e q in
@@ -134,8 +134,8 @@ reading_ascending s = ascending_by own s
 
 -- ---- a reading is stopped by the number of a rule, at a line of the sheet
 
-module _ (parse : List ℕ → Line) (test : Line → Line)
-    (judged : (seen : List Entry) (s : List ℕ) (r : ℕ) → test (line_after seen (parse s)) ≡ Refused r → Judging r)
+module _ (parse : List ℕ → Result Entry Rule) (test : Result Entry Rule → Result Entry Rule)
+    (judged : (seen : List Entry) (s : List ℕ) (r : Rule) → test (line_after seen (parse s)) ≡ Err r → Judging (rule_number r))
     (es : List Entry) (r j : ℕ) where
   stopped_from : (n i : ℕ) (s : List ℕ) (seen : List Entry) → read_from parse test n i s seen ≡ stopped es r j → Judging r × (j < i + n)
   unfolding read_from
@@ -143,9 +143,9 @@ module _ (parse : List ℕ → Line) (test : Line → Line)
   stopped_from (suc n) i s seen =
       by_line i seen _ (λ o. o ≡ stopped es r j → Judging r × (j < i + suc n)) (test (line_after seen (parse (take sheet_line_bytes s))))
       (λ m p q.
-      let e : m ≡ r = cc in
+      let e : rule_number m ≡ r = cc in
       let k : i ≡ j = cc in
-      (judged seen (take sheet_line_bytes s) r (rw e at p), omega arith))
+      (rw e at (judged seen (take sheet_line_bytes s) m p), omega arith))
       (λ e p q. let w = stopped_from n (i + 1) (drop sheet_line_bytes s) (e ∷ seen) q in (w.0, omega (arith, w.1)))
 
   pub stopped_by : (s : List ℕ) → reading_by parse test s ≡ stopped es r j → Judging r × (j ≤ whole_lines s)
@@ -158,7 +158,7 @@ reading_stopped s es n i q =
 -- ---- a loop over the lines, after i of them
 
 -- the marks are those of the i lines seen, last is the key of the last one, and what is left to read gives what all lines give
-pub record ReadTo (parse : List ℕ → Line) (test : Line → Line) (s m : List ℕ) (last i : ℕ) (seen : List Entry) : Type 0 where
+pub record ReadTo (parse : List ℕ → Result Entry Rule) (test : Result Entry Rule → Result Entry Rule) (s m : List ℕ) (last i : ℕ) (seen : List Entry) : Type 0 where
   pub some : i ≤ whole_lines s
   pub count : length seen ≡ i
   pub all : Each AcceptedLine seen
@@ -166,29 +166,29 @@ pub record ReadTo (parse : List ℕ → Line) (test : Line → Line) (s m : List
   pub key : last ≡ last_key seen
   pub rest : read_from parse test (whole_lines s - i) (i + 1) (drop (sheet_line_bytes * i) s) seen ≡ reading_by parse test s
 
-pub start : (parse : List ℕ → Line) (test : Line → Line) {m : List ℕ} (s : List ℕ) → m ≡ table mark_of [] → ReadTo parse test s m 0 0 []
+pub start : (parse : List ℕ → Result Entry Rule) (test : Result Entry Rule → Result Entry Rule) {m : List ℕ} (s : List ℕ) → m ≡ table mark_of [] → ReadTo parse test s m 0 0 []
 start parse test s p =
     let z : whole_lines s - 0 ≡ whole_lines s = omega arith in
     record { some = omega arith; count = refl; all = tt; marks = p; key = refl; rest = rw z }
 
-keyed : (l : Line) → ((e : Entry) → l ≡ Good e → AcceptedLine e) → Keyed l
-keyed (Refused r) a = tt
-keyed (Good e) a = (a e refl).key
+keyed : (l : Result Entry Rule) → ((e : Entry) → l ≡ Ok e → AcceptedLine e) → Keyed l
+keyed (Err r) a = tt
+keyed (Ok e) a = (a e refl).key
 
 -- the marks of the lines seen say of a line what those lines do
-marks_tell : (seen : List Entry) → Each AcceptedLine seen → (m : List ℕ) → m ≡ table mark_of seen → (last : ℕ) → last ≡ last_key seen → (l : Line) → Keyed l
+marks_tell : (seen : List Entry) → Each AcceptedLine seen → (m : List ℕ) → m ≡ table mark_of seen → (last : ℕ) → last ≡ last_key seen → (l : Result Entry Rule) → Keyed l
     → admitted (λ e. has_mark m e.code e.block e.class) last l ≡ line_after seen l
-marks_tell seen all m p last q (Refused r) k = refl
-marks_tell seen all m p last q (Good e) k =
+marks_tell seen all m p last q (Err r) k = refl
+marks_tell seen all m p last q (Ok e) k =
     rw (p, q, lookup_table mark_of seen e.code e.block e.class k all)
 
-module _ {parse : List ℕ → Line} {test : Line → Line} (R : Reads parse test)
+module _ {parse : List ℕ → Result Entry Rule} {test : Result Entry Rule → Result Entry Rule} (R : Reads parse test)
     {s m : List ℕ} {last i : ℕ} {seen : List Entry} (B : ReadTo parse test s m last i seen) where
   pub done : whole_lines s ≤ i → reading_by parse test s ≡ complete seen
   done h = sym B.rest ∙ read_none parse test s (whole_lines s) i seen h
 
   module _ (h : i < whole_lines s) where
-    acceptable : (e : Entry) → parse (lent s i) ≡ Good e → AcceptedLine e
+    acceptable : (e : Entry) → parse (lent s i) ≡ Ok e → AcceptedLine e
     acceptable e q =
         let rest = drop (sheet_line_bytes * i) s in
         let l : length (take sheet_line_bytes rest) ≡ sheet_line_bytes = length-take-le sheet_line_bytes rest (rw length-drop (omega arith)) in
@@ -197,7 +197,7 @@ module _ {parse : List ℕ → Line} {test : Line → Line} (R : Reads parse tes
     pub lent_keyed : Keyed (parse (lent s i))
     lent_keyed = keyed (parse (lent s i)) acceptable
 
-    module _ {r : Line} {m' : List ℕ} (A : Admits (parse (lent s i)) last m r m') where
+    module _ {r : Result Entry Rule} {m' : List ℕ} (A : Admits (parse (lent s i)) last m r m') where
       -- what is left to read goes on from the line that was admitted, or stops at it
       more : reading_by parse test s
           ≡ on_line (test r) (i + 1) seen (λ t. read_from parse test (whole_lines s - (i + 1)) (i + 1 + 1) (drop (sheet_line_bytes * (i + 1)) s) t)
@@ -206,17 +206,17 @@ module _ {parse : List ℕ → Line} {test : Line → Line} (R : Reads parse tes
           A.line ∙ marks_tell seen B.all m B.marks last B.key (parse (lent s i)) lent_keyed in
           sym B.rest ∙ read_more parse test s (whole_lines s) i seen h ∙ rw (← lent_is s i, ← l)
 
-      pub admitted_good : {e : Entry} → r ≡ Good e → AcceptedLine e
+      pub admitted_good : {e : Entry} → r ≡ Ok e → AcceptedLine e
       admitted_good {e} q = acceptable e (good_admitted _ last (parse (lent s i)) e (sym A.line ∙ q)).read
 
-      pub turned : {n : ℕ} → test r ≡ Refused n → reading_by parse test s ≡ stopped seen n (i + 1)
+      pub turned : {n : Rule} → test r ≡ Err n → reading_by parse test s ≡ stopped seen (rule_number n) (i + 1)
       turned q = more ∙ on_refused _ _ _ q
 
       -- a line that is not admitted leaves the marks as they were
-      pub unmarked : {n : ℕ} → r ≡ Refused n → m' ≡ table mark_of seen
+      pub unmarked : {n : Rule} → r ≡ Err n → m' ≡ table mark_of seen
       unmarked q = A.marks ∙ rw q B.marks
 
-      pub again : {e : Entry} → test r ≡ Good e → {k : ℕ} → k ≡ key_for e → ReadTo parse test s m' k (i + 1) (e ∷ seen)
+      pub again : {e : Entry} → test r ≡ Ok e → {k : ℕ} → k ≡ key_for e → ReadTo parse test s m' k (i + 1) (e ∷ seen)
       unfolding table
       again {e} q c =
           let g = R.keeps r e q in

@@ -1,5 +1,6 @@
 -- A sheet whose lines are all good is the bytes of its lines, and the bytes of lines that each are good and ascend are read as those lines. So two
 -- sheets with the same lines are the same bytes, and, as lines ascend, two with the same figures are. Assumes nothing.
+use Rattle.std.specs.Prelude.{Result, Ok}
 use mathlib.Core.Path.{◌≡◌, refl, sym, ap, ◌∙◌}
 use mathlib.Core.Logic.{◌↔◌}
 use mathlib.Core.List.{List, [], ◌∷◌, ◌++◌, append_assoc, append-nil}
@@ -14,9 +15,8 @@ use Rattle.layout.specs.Columns.{sheet_line_bytes}
 use Rattle.layout.specs.Whole.{whole_lines}
 use Rattle.sheet_line.specs.Line.{print_line}
 use Rattle.sheet_line.specs.Rules.{parse_line, AcceptedLine}
+use Rattle.refusal.specs.declared.Rule.{Rule}
 use Rattle.sheet_line.specs.declared.Entry.{Entry}
-use Rattle.sheet_line.specs.declared.Line.{Line}
-use Rattle.sheet_line.specs.declared.Line.TheVariants.{Good}
 use Rattle.sheet_line.proofs.Printed.{length_print, parse_print, print_parsed}
 use Rattle.order.specs.Entries.{mark_of, SameFigures}
 use Rattle.order.specs.Order.{Ascending, rule11, rule19}
@@ -26,12 +26,12 @@ use Rattle.order.proofs.Ascent.{none_above, same_lines}
 use Rattle.order.proofs.Lines.{on_good, by_line, Reads, Passes, own, next_line, all_read, reading_ascending}
 
 -- how lines are parsed and how entries are printed undo each other
-pub record Inverse (parse : List ℕ → Line) (print : Entry → List ℕ) : Type 0 where
+pub record Inverse (parse : List ℕ → Result Entry Rule) (print : Entry → List ℕ) : Type 0 where
   pub long : (e : Entry) → length (print e) ≡ sheet_line_bytes
-  pub printed : (s : List ℕ) → length s ≡ sheet_line_bytes → (e : Entry) → parse s ≡ Good e → s ≡ print e
-  pub parsed : (e : Entry) → AcceptedLine e → parse (print e) ≡ Good e
+  pub printed : (s : List ℕ) → length s ≡ sheet_line_bytes → (e : Entry) → parse s ≡ Ok e → s ≡ print e
+  pub parsed : (e : Entry) → AcceptedLine e → parse (print e) ≡ Ok e
 
-module _ {parse : List ℕ → Line} {test : Line → Line} {print : Entry → List ℕ} (R : Reads parse test) (I : Inverse parse print) where
+module _ {parse : List ℕ → Result Entry Rule} {test : Result Entry Rule → Result Entry Rule} {print : Entry → List ℕ} (R : Reads parse test) (I : Inverse parse print) where
   -- ---- what is read is printed
 
   module _ (es : List Entry) where
@@ -60,7 +60,7 @@ module _ {parse : List ℕ → Line} {test : Line → Line} {print : Entry → L
 
   module _ (e : Entry) (es : List Entry) (a : AcceptedLine e) (t : Passes test e) (p : Ascending (e ∷ es)) where
     -- a line that comes after the last one did not stand before
-    comes_next : test (line_after es (Good e)) ≡ Good e
+    comes_next : test (line_after es (Ok e)) ≡ Ok e
     unfolding rule11 rule19
     comes_next =
         ap test (if_false _ (ap (λ (n : ℕ). ltb 0 n) (none_above mark_of es p.1 _ _ _ p.0)) ∙ if_lt _ p.0) ∙ t

@@ -1,10 +1,10 @@
 -- The table of marks: which lines stood before, and what it says of a line and of a block. Assumes nothing.
-use Rattle.std.specs.Prelude.{◌≡◌, ℕ, zero, suc, List, Bool, true, false, ltb, eqb, get_or, set}
+use Rattle.std.specs.Prelude.{Result, Ok, Err, ◌≡◌, ℕ, zero, suc, List, Bool, true, false, ltb, eqb, get_or, set}
 use Rattle.search.specs.Pick.{pick}
 use Rattle.codes.specs.declared.Code.{Code}
 use Rattle.codes.specs.declared.Code.TheVariants.{Rsk}
-use Rattle.sheet_line.specs.declared.Line.{Line}
-use Rattle.sheet_line.specs.declared.Line.TheVariants.{Good, Refused}
+use Rattle.refusal.specs.declared.Rule.{Rule}
+use Rattle.sheet_line.specs.declared.Entry.{Entry}
 use Rattle.order.specs.Order.{admitted}
 use Rattle.order.specs.Places.{block_places, index_of, index_for, tabled}
 
@@ -13,12 +13,12 @@ abbrev pub has_mark : List ℕ → Code → ℕ → ℕ → Bool
 has_mark m k b c = ltb 0 (tabled m k b c)
 
 -- the marks after a line: that of an admitted one is there
-abbrev pub marks_after : Line → List ℕ → List ℕ
-marks_after (Good e) m = set m (index_for e) 1
-marks_after (Refused r) m = m
+abbrev pub marks_after : Result Entry Rule → List ℕ → List ℕ
+marks_after (Ok e) m = set m (index_for e) 1
+marks_after (Err r) m = m
 
 -- a line after others, of which the marks and the last key tell; and the marks after it
-pub record Admits (l : Line) (last : ℕ) (m : List ℕ) (r : Line) (m' : List ℕ) : Type 0 where
+pub record Admits (l : Result Entry Rule) (last : ℕ) (m : List ℕ) (r : Result Entry Rule) (m' : List ℕ) : Type 0 where
   pub line : r ≡ admitted (λ e. has_mark m e.code e.block e.class) last l
   pub marks : m' ≡ marks_after r m
 

@@ -1,15 +1,15 @@
 -- The order of a sheet's lines, and what admits a line after those before it. Document 02, #105: 'Lines now ascend strictly by code, in the order
 -- RSK, OTH, MOR, VOL, GEN, CRD, then by block, then by class. It refuses, as number 19 with its line, a line that doesn't come after the one before
 -- it, tested after 11.' ACQ 'stands after VOL in the order of lines' (#106). Assumes nothing.
-use Rattle.std.specs.Prelude.{◌≡◌, ◌⊎◌, ◌↔◌, Bool, List, [], ◌∷◌, ℕ, ◌+◌, ◌*◌, ◌≤◌, ◌<◌, ltb}
+use Rattle.std.specs.Prelude.{Result, Ok, Err, ◌≡◌, ◌⊎◌, ◌↔◌, Bool, List, [], ◌∷◌, ℕ, ◌+◌, ◌*◌, ◌≤◌, ◌<◌, ltb}
 use Rattle.std.proofs.Common.{inl, inr, arith}
 use Rattle.std.proofs.Math.Decide.{dec_le}
 use Rattle.search.specs.Pick.{pick}
 use Rattle.codes.specs.Codes.{Key}
 use Rattle.codes.specs.declared.Code.{Code}
+use Rattle.refusal.specs.declared.Rule.{Rule}
+use Rattle.refusal.specs.declared.Rule.TheVariants as rule
 use Rattle.sheet_line.specs.declared.Entry.{Entry}
-use Rattle.sheet_line.specs.declared.Line.{Line}
-use Rattle.sheet_line.specs.declared.Line.TheVariants.{Good, Refused}
 use Rattle.order.specs.Entries.{rank}
 
 -- a power of two above every block and class, which have two columns each
@@ -78,19 +78,19 @@ key_precedes d e p q = (before, after)
 -- ---- what admits a line
 
 -- a line that is turned away, or one whose code has its block and class
-abbrev pub Keyed : Line → Type 0
-Keyed (Refused r) = Unit {0}
-Keyed (Good e) = Key e.code e.block e.class
+abbrev pub Keyed : Result Entry Rule → Type 0
+Keyed (Err r) = Unit {0}
+Keyed (Ok e) = Key e.code e.block e.class
 
 -- rule 19: 'a line that doesn't come after the one before it'; where it passes too the line is admitted
-unfoldable pub rule19 : ℕ → Entry → Line
-rule19 last e = pick (ltb last (key_for e)) (Good e) (Refused 19)
+unfoldable pub rule19 : ℕ → Entry → Result Entry Rule
+rule19 last e = pick (ltb last (key_for e)) (Ok e) (Err rule.OutOfOrder)
 
 -- rule 11, 'code, block and class stood before', then rule 19
-unfoldable pub rule11 : Bool → ℕ → Entry → Line
-rule11 stood last e = pick stood (Refused 11) (rule19 last e)
+unfoldable pub rule11 : Bool → ℕ → Entry → Result Entry Rule
+rule11 stood last e = pick stood (Err rule.LineRepeated) (rule19 last e)
 
 -- a line after others, which `stood` tells of, and of which the last one has this key: both rules come after the line's own
-abbrev pub admitted : (Entry → Bool) → ℕ → Line → Line
-admitted stood last (Refused r) = Refused r
-admitted stood last (Good e) = rule11 (stood e) last e
+abbrev pub admitted : (Entry → Bool) → ℕ → Result Entry Rule → Result Entry Rule
+admitted stood last (Err r) = Err r
+admitted stood last (Ok e) = rule11 (stood e) last e

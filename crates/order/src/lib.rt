@@ -13,7 +13,8 @@ ghost use Rattle.order.specs.Marks.{has_mark, Admits, block_marked};
 
 use codes::{ACQUIRED_CLASSES, Code, MORTALITY_CLASSES, OTHER_CLASSES, RISK_CLASSES, SCALAR_CLASS};
 use guideline::{BLOCKS, VOLUME_CLASSES};
-use sheet_line::{Entry, Line};
+use refusal::Rule;
+use sheet_line::Entry;
 
 // The places of a block's RSK and OTH lines, which begin its row.
 const BLOCK_PLACES: usize = RISK_CLASSES + OTHER_CLASSES;
@@ -29,22 +30,22 @@ const ORDER_BASE: u64 = 128;
 
 // What admits a line after those before it: rule 11, a line with its code, block and class stood before, and rule 19, it doesn't come after
 // the last one. The marks tell of those lines, and the key of the last one, 0 where there is none. A line that is admitted is marked.
-pub fn admit(line: Line, last: u64, marks: &mut [u8; PLACES]) -> Line
+//
+// Kept: 0 for no last key. No key is 0, so that one comparison serves the first line too; an Option would be no plainer.
+pub fn admit(line: Result<Entry, Rule>, last: u64, marks: &mut [u8; PLACES]) -> Result<Entry, Rule>
     requires { Keyed line }
     ensures { Admits line last marks.old result marks.new }
 {
-    let Line::Good(e) = line else {
-        return line;
-    };
+    let e = line?;
     let at = index_for(e);
     if 0 < marks[at] {
-        return Line::Refused(11);
+        return Err(Rule::LineRepeated);
     }
     if key_of(e) <= last {
-        return Line::Refused(19);
+        return Err(Rule::OutOfOrder);
     }
     marks[at] = 1;
-    line
+    Ok(e)
 }
 
 // The key of an entry in the order of lines.
@@ -57,6 +58,8 @@ pub fn key_of(e: Entry) -> u64
 }
 
 // A code's place in the order of codes.
+//
+// Kept: a number and no derived order of codes, which would be no plainer, since the place is the highest part of the key.
 fn rank(code: Code) -> u64
     ensures { (result ≡ rank code) × (result < order_base) }
 {
@@ -124,12 +127,10 @@ pub fn block_exists(marks: &[u8; PLACES], block: usize) -> bool
     ensures { result ≡ block_marked marks.now block }
 {
     let row = index_of(Code::Rsk, block, 1);
-    let mut i = 0;
-    while i < BLOCK_PLACES {
+    for i in 0..BLOCK_PLACES {
         if marks[row + i] != 0 {
             return true;
         }
-        i += 1;
     }
     false
 }

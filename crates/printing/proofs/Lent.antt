@@ -7,14 +7,14 @@ use native.Mathlib.Omega.{arith}
 use lib.ListN.{length, drop, length-append, length-drop}
 use borrow.Author.Tests.{ltb-true, ltb-false}
 use Rattle.search.proofs.Picks.{if_lt, if_ge, by_test, never}
-use Rattle.refusal.specs.Outcome.{Outcome, Judging, printed}
+use Rattle.std.specs.Prelude.{Result, Ok, Err}
+use Rattle.refusal.specs.Outcome.{Outcome, Judging, printed, rule_number}
 use Rattle.refusal.specs.Outcome.Outcome.{accepted, refused}
 use Rattle.refusal.specs.declared.Place.{Place}
+use Rattle.refusal.specs.declared.Refusal.{Refusal}
 use Rattle.refusal.specs.declared.Place.TheVariants.{Nowhere}
 use Rattle.guideline.specs.Sizes.{number_columns, FitsColumns}
 use Rattle.report_line.proofs.ReadBack.{PrintableIn, Printable}
-use Rattle.printing.specs.declared.RoomAnswer.{RoomAnswer}
-use Rattle.printing.specs.declared.RoomAnswer.TheVariants.{Accepted, Refused}
 use Rattle.printing.specs.Lent.{Text, Done, stated, untouched, lent}
 use Rattle.printing.specs.Lent.Text.{no_text, bytes}
 use Rattle.printing.specs.Printing.{refusal_row, refusal_line, printout, Printed, Shown}
@@ -125,9 +125,9 @@ module _ (x : Text) (r : List ℕ) (room : RoomFor x r) where
         refusal_arm = λ n p o. never (cc);
       })
 
-  pub printed_answer : (a : RoomAnswer) {r' r'' : List ℕ} {g : ℕ} → ◌≡◌ {A = Done} (record { outcome = stated a; room = r' }) (lent x r) → Shown a g r' r''
+  pub printed_answer : (a : Result ℕ Refusal) {r' r'' : List ℕ} {g : ℕ} → ◌≡◌ {A = Done} (record { outcome = stated a; room = r' }) (lent x r) → Shown a g r' r''
       → Printed (printout x) g r r''
-  printed_answer (Accepted n) e h = rw (h.0, h.1) ((subst⁻¹ Arms e arms).text_arm n refl)
-  printed_answer (Refused n p) {g} e h =
-      let w = (subst⁻¹ Arms e arms).refusal_arm n p refl in
-      rw w.1 (record { count = h.count; bytes = h.bytes ∙ ap (λ (q : List ℕ). refusal_line n p ++ drop g q) w.0 })
+  printed_answer (Ok n) e h = rw (h.0, h.1) ((subst⁻¹ Arms e arms).text_arm n refl)
+  printed_answer (Err r) {g} e h =
+      let w = (subst⁻¹ Arms e arms).refusal_arm (rule_number r.0) r.1 refl in
+      rw w.1 (record { count = h.count; bytes = h.bytes ∙ ap (λ (q : List ℕ). refusal_line (rule_number r.0) r.1 ++ drop g q) w.0 })

@@ -1,12 +1,11 @@
 -- What a program prints: a proved function leaves the bytes in a lent room, and the program writes them. 'Writes the report; on a refusal one line,
 -- REF, the refusal's number in 5–6, 0 in 8–9, the place in 11–28.' Document 02, #114, has the place in 11–29. Assumes nothing.
-use Rattle.std.specs.Prelude.{◌≡◌, List, [], ◌∷◌, ◌++◌, ℕ, length, drop}
-use Rattle.refusal.specs.Outcome.{printed}
+use Rattle.std.specs.Prelude.{◌≡◌, Result, Ok, Err, List, [], ◌∷◌, ◌++◌, ℕ, length, drop}
+use Rattle.refusal.specs.Outcome.{printed, rule_number}
 use Rattle.refusal.specs.declared.Place.{Place}
+use Rattle.refusal.specs.declared.Refusal.{Refusal}
 use Rattle.guideline.specs.Sizes.{number_columns}
 use Rattle.report_line.specs.Line.{Row, row_in}
-use Rattle.printing.specs.declared.RoomAnswer.{RoomAnswer}
-use Rattle.printing.specs.declared.RoomAnswer.TheVariants.{Accepted, Refused}
 use Rattle.printing.specs.Lent.{Text}
 use Rattle.printing.specs.Lent.Text.{no_text, bytes}
 
@@ -33,6 +32,6 @@ pub record Printed (text : List ℕ) (given : ℕ) (before after : List ℕ) : T
   pub bytes : after ≡ text ++ drop given before
 
 -- after an answer: of a text its length, with the room as the call left it; of a refusal its line, in front of the room
-abbrev pub Shown : RoomAnswer → ℕ → List ℕ → List ℕ → Type 0
-Shown (Accepted n) given before after = (given ≡ n) × (after ≡ before)
-Shown (Refused n p) given before after = Printed (refusal_line n p) given before after
+abbrev pub Shown : Result ℕ Refusal → ℕ → List ℕ → List ℕ → Type 0
+Shown (Ok n) given before after = (given ≡ n) × (after ≡ before)
+Shown (Err r) given before after = Printed (refusal_line (rule_number r.0) r.1) given before after

@@ -2,39 +2,34 @@
 #![tactic(auto)]
 
 ghost use Rattle.std.specs.Prelude.{◌≡◌, ◌-◌, ◌≤◌, ◌<◌, length};
+ghost use Rattle.refusal.specs.Outcome.{rule_number};
 ghost use Rattle.report_line.specs.Line.{line_bytes, report_line_bytes, row_in};
 ghost use Rattle.printing.specs.Printing.{refusal_row, Shown};
 
-use refusal::Place;
+use refusal::Refusal;
 use report_line::REPORT_LINE_BYTES;
 
-// The length of the text, or the refusal's number and place.
-#[derive(Clone, Copy)]
-pub enum RoomAnswer {
-    Accepted(usize),
-    Refused(u8, Place),
-}
-
-// What is printed after a call has answered: the text that it left, or in front of the room the line of the refusal. It gives how many bytes
-// that is.
-pub fn print_answer(answer: RoomAnswer, room: &mut [u8]) -> usize
+// What is printed after a call has answered by its text's length or by a refusal: the text that it left, or in front of the room the line of the
+// refusal. It gives how many bytes that is.
+pub fn print_answer(answer: Result<usize, Refusal>, room: &mut [u8]) -> usize
     requires { report_line_bytes ≤ length room.old }
     ensures { Shown answer result room.old room.new }
 {
     match answer {
-        RoomAnswer::Accepted(n) => n,
-        RoomAnswer::Refused(number, place) => {
-            write_refusal(&mut room[0..REPORT_LINE_BYTES], number, place);
+        Ok(n) => n,
+        Err(refusal) => {
+            write_refusal(&mut room[0..REPORT_LINE_BYTES], refusal);
             REPORT_LINE_BYTES
         }
     }
 }
 
 // The line of a refusal, in a stretch that is longer than a line without its place: the place has the columns that are left beside the rest of the line.
-pub fn write_refusal(out: &mut [u8], number: u8, place: Place)
+pub fn write_refusal(out: &mut [u8], refusal: Refusal)
     requires { line_bytes 0 < length out.old }
-    ensures { out.new ≡ row_in (length out.old - line_bytes 0) (refusal_row number place) }
+    ensures { out.new ≡ row_in (length out.old - line_bytes 0) (refusal_row (rule_number refusal.0) refusal.1) }
 {
-    let at = refusal::place_numbers(place);
-    report_line::write_line_in(out, *b"REF", cast::byte(number), 0, at[1]);
+    let Refusal(rule, place) = refusal;
+    let at: [u64; 2] = place.into();
+    report_line::write_line_in(out, *b"REF", rule.number(), 0, at[1]);
 }

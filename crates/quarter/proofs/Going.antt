@@ -18,8 +18,9 @@ use Rattle.report_line.proofs.ReadBack.{append_in}
 use Rattle.stream.specs.Sheets.{sheets_in, sheets_of, one, count}
 use Rattle.stream.specs.Steps.{Kept, Within, Fresh, SoFar, ScannedTo}
 use Rattle.stream.specs.declared.Held.{Held}
-use Rattle.stream.specs.declared.Fed.{Fed}
-use Rattle.stream.specs.declared.Fed.TheVariants as fed
+use Rattle.stream.specs.declared.Closed.{Closed}
+use Rattle.std.specs.declared.ops.ControlFlow.{ControlFlow}
+use Rattle.std.specs.declared.ops.ControlFlow.TheVariants.{Continue, Break}
 use Rattle.stream.proofs.Rejoined.{held_none}
 use Rattle.stream.proofs.SoFar.{so_far_start, so_far_closed, so_far_rest, so_far_on, so_far_next}
 use Rattle.stream.proofs.Further.{byte_after, still_more}
@@ -136,12 +137,12 @@ module _ {s : List ℕ} {xs : List (List ℕ)} {room out : List ℕ} {h : Held} 
       as_after (sym (lt-ltb _ _ v)) w (λ f. absurd (true≢false f)) (λ f. absurd (true≢false f))
 
   module _ {chunk : List ℕ} {at : ℕ} where
-    module _ {r : Fed} {after : List ℕ} (T : ScannedTo room h chunk at r after) (long : length after ≡ length room) where
+    module _ {r : ControlFlow Closed Held} {after : List ℕ} (T : ScannedTo room h chunk at r after) (long : length after ≡ length room) where
       -- the open sheet goes on
-      pub goes_on : {k : Held} → r ≡ fed.On k → (n ≡ most_sheets → ⊥) → Going (s ++ drop at chunk) xs after out k n m
+      pub goes_on : {k : Held} → r ≡ Continue k → (n ≡ most_sheets → ⊥) → Going (s ++ drop at chunk) xs after out k n m
       unfolding count
       goes_on {k} e d =
-          let R = subst (λ (z : Fed). ScannedTo room h chunk at z after) e T in
+          let R = subst (λ (z : ControlFlow Closed Held). ScannedTo room h chunk at z after) e T in
           let S = so_far_on G.so_far long R in
           let u = s ++ drop at chunk in
           let c : length (sheets_of u).closed ≡ length xs = sym (ap length (so_far_closed S) ∙ length-map (sheets_of u).closed (take (length after))) in
@@ -156,9 +157,9 @@ module _ {s : List ℕ} {xs : List (List ℕ)} {room out : List ℕ} {h : Held} 
             summary = G.summary;
           }
 
-      module _ {j i : ℕ} (e : r ≡ fed.Closed j i) where
-        R' : ScannedTo room h chunk at (fed.Closed j i) after
-        R' = subst (λ (z : Fed). ScannedTo room h chunk at z after) e T
+      module _ {j i : ℕ} (e : r ≡ Break (record { length = j; next = i })) where
+        R' : ScannedTo room h chunk at (Break (record { length = j; next = i })) after
+        R' = subst (λ (z : ControlFlow Closed Held). ScannedTo room h chunk at z after) e T
 
         pub closed_within : (j ≤ length after) × (at < i) × (i ≤ length chunk)
         closed_within = rw long R'.within

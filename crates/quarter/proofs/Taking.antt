@@ -11,8 +11,9 @@ use Rattle.judgement.specs.Judgement.{judgement}
 use Rattle.report_line.specs.Line.{line_bytes, row_in}
 use Rattle.stream.specs.Steps.{Within, Fresh, ScannedTo}
 use Rattle.stream.specs.declared.Held.{Held}
-use Rattle.stream.specs.declared.Fed.{Fed}
-use Rattle.stream.specs.declared.Fed.TheVariants as fed
+use Rattle.stream.specs.declared.Closed.{Closed}
+use Rattle.std.specs.declared.ops.ControlFlow.{ControlFlow}
+use Rattle.std.specs.declared.ops.ControlFlow.TheVariants.{Continue, Break}
 use Rattle.summary.specs.Together.{summary_of}
 use Rattle.summary.specs.declared.Accepted.{Accepted}
 use Rattle.summary.specs.declared.Summary.{Summary}
@@ -48,12 +49,12 @@ module _ {s chunk : List ℕ} {at : ℕ} {room out : List ℕ} {h : Held} {n : �
   reached_many e l =
       subst (λ (u : List ℕ). After u room out (known true h n m)) R.joins (too_many R.going chunk at e l)
 
-  module _ {r : Fed} {after : List ℕ} (T : ScannedTo room h chunk at r after) (long : length after ≡ length room) (d : n ≡ most_sheets → ⊥) where
-    pub reached_on : {k : Held} → r ≡ fed.On k → After (s ++ chunk) after out (known false k n m)
+  module _ {r : ControlFlow Closed Held} {after : List ℕ} (T : ScannedTo room h chunk at r after) (long : length after ≡ length room) (d : n ≡ most_sheets → ⊥) where
+    pub reached_on : {k : Held} → r ≡ Continue k → After (s ++ chunk) after out (known false k n m)
     reached_on {k} e =
         subst (λ (u : List ℕ). After u after out (known false k n m)) R.joins (from_going (goes_on R.going T long e d))
 
-    pub reached_next : {j i : ℕ} → r ≡ fed.Closed j i → {ys : List ℕ} {k : Held} {m' : Summary} → ys ≡ row_in columns (sheet_row (n + 1) (judgement (take j after)))
+    pub reached_next : {j i : ℕ} → r ≡ Break (record { length = j; next = i }) → {ys : List ℕ} {k : Held} {m' : Summary} → ys ≡ row_in columns (sheet_row (n + 1) (judgement (take j after)))
         → Fresh k → ((zs : List Accepted) → m ≡ summary_of zs → m' ≡ summary_of (zs ++ accepted_as (n + 1) (judgement (take j after))))
         → Reached s chunk i after (put_mid (lines_long n) (lines_long n + line_bytes columns - lines_long n) out ys) k (n + 1) m'
     reached_next {j} {i} e y f a =
@@ -128,14 +129,14 @@ module _ {room₀ out₀ : List ℕ} {h₀ : Held} {n₀ : ℕ} {m₀ : Summary}
   pub taken_many : n ≡ most_sheets → at < length chunk → Taken room₀ out₀ (known false h₀ n₀ m₀) chunk room out (known true h n m)
   taken_many e l = record { after = λ s A. reached_many (T.reached s A) e l; more = T.more; behind = T.behind }
 
-  module _ {r : Fed} {after : List ℕ} (S : ScannedTo room h chunk at r after) (long : length after ≡ length room) (d : n ≡ most_sheets → ⊥) where
-    pub taken_on : {k : Held} → r ≡ fed.On k → Taken room₀ out₀ (known false h₀ n₀ m₀) chunk after out (known false k n m)
+  module _ {r : ControlFlow Closed Held} {after : List ℕ} (S : ScannedTo room h chunk at r after) (long : length after ≡ length room) (d : n ≡ most_sheets → ⊥) where
+    pub taken_on : {k : Held} → r ≡ Continue k → Taken room₀ out₀ (known false h₀ n₀ m₀) chunk after out (known false k n m)
     taken_on e = record { after = λ s A. reached_on (T.reached s A) S long d e; more = T.more; behind = T.behind }
 
-    pub closed_at : {j i : ℕ} → r ≡ fed.Closed j i → (j ≤ length after) × (at < i) × (i ≤ length chunk)
+    pub closed_at : {j i : ℕ} → r ≡ Break (record { length = j; next = i }) → (j ≤ length after) × (at < i) × (i ≤ length chunk)
     closed_at e = closed_within here.going S long e
 
-    pub taken_next : {j i : ℕ} → r ≡ fed.Closed j i → {ys : List ℕ} {k : Held} {m' : Summary} → ys ≡ row_in columns (sheet_row (n + 1) (judgement (take j after)))
+    pub taken_next : {j i : ℕ} → r ≡ Break (record { length = j; next = i }) → {ys : List ℕ} {k : Held} {m' : Summary} → ys ≡ row_in columns (sheet_row (n + 1) (judgement (take j after)))
         → Fresh k → ((zs : List Accepted) → m ≡ summary_of zs → m' ≡ summary_of (zs ++ accepted_as (n + 1) (judgement (take j after))))
         → Taking room₀ out₀ h₀ n₀ m₀ chunk after (put_mid (lines_long n) (lines_long n + line_bytes columns - lines_long n) out ys) k (n + 1) m' i
     taken_next {j} {i} e {ys} y f a =

@@ -7,9 +7,10 @@ ghost use Rattle.sheet_length.specs.Measured.{longest_sheet};
 ghost use Rattle.quarter.specs.Steps.{longest_output, After, Begun, BegunIn, Taken, Finished};
 
 use quarter_lines::{LINE_BYTES, MOST_SHEETS};
-use refusal::Place;
+use refusal::{Place, Refusal, Rule};
 use sheet_length::LONGEST_SHEET;
-use stream::{Fed, Held};
+use std::ops::ControlFlow;
+use stream::Held;
 use summary::{SUMMARY_ITEMS, Summary};
 
 // One byte more than the longest sheet, so that a sheet that is too long is seen to be.
@@ -20,6 +21,7 @@ pub const OUTPUT_ROOM: usize = LINE_BYTES * (MOST_SHEETS + SUMMARY_ITEMS);
 
 // What is known of an input so far: the sheet that is not closed yet, how many were answered, whether a byte stood after the last closing line that an
 // input may have, and the summary.
+// Kept: the room and the output are no fields of it, since the memory is the program's, which lends it to each call.
 #[derive(Clone, Copy)]
 pub struct Quarter {
     pub held: Held,
@@ -77,7 +79,7 @@ fn take_bytes(room: &mut [u8], out: &mut [u8], q: Quarter, chunk: &[u8]) -> Quar
         }
         let fed = stream::feed(room, held, chunk, at);
         match fed {
-            Fed::On(h) => {
+            ControlFlow::Continue(h) => {
                 return Quarter {
                     held: h,
                     sheets,
@@ -85,17 +87,17 @@ fn take_bytes(room: &mut [u8], out: &mut [u8], q: Quarter, chunk: &[u8]) -> Quar
                     summary,
                 };
             }
-            Fed::Closed(n, next) => {
+            ControlFlow::Break(closed) => {
                 let from = LINE_BYTES * sheets;
                 sheets += 1;
                 summary = quarter_lines::answer_sheet(
-                    &room[..n],
+                    &room[..closed.length],
                     &mut out[from..from + LINE_BYTES],
                     sheets,
                     summary,
                 );
                 held = stream::fresh();
-                at = next;
+                at = closed.next;
             }
         }
     }
@@ -116,6 +118,7 @@ pub fn finish(out: &mut [u8; OUTPUT_ROOM], q: Quarter) -> usize
 }
 
 // The same, in an output of as many bytes.
+// Kept: beside `finish`, since a part of an array behind a reference gets no proof, and a part of a slice does.
 fn end_text(out: &mut [u8], q: Quarter) -> usize
     requires { BegunIn out.old q }
     ensures { Finished out.old q result out.new }
@@ -125,11 +128,17 @@ fn end_text(out: &mut [u8], q: Quarter) -> usize
     let from = LINE_BYTES * sheets;
     let line = from + LINE_BYTES;
     if q.over {
-        printing::write_refusal(&mut out[from..line], 24, Place::Sheet(sheets + 1));
+        printing::write_refusal(
+            &mut out[from..line],
+            Refusal(Rule::TooManySheets, Place::Sheet(sheets + 1)),
+        );
         return line;
     }
     if held.length != 0 {
-        printing::write_refusal(&mut out[from..line], 25, Place::Sheet(sheets + 1));
+        printing::write_refusal(
+            &mut out[from..line],
+            Refusal(Rule::SheetNotClosed, Place::Sheet(sheets + 1)),
+        );
         return line;
     }
     let items = summary::items(q.summary);

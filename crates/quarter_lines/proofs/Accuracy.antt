@@ -14,8 +14,7 @@ use Rattle.search.specs.Pick.{pick}
 use Rattle.search.specs.Each.{Each}
 use Rattle.search.proofs.Picks.{if_false, by_test, never}
 use Rattle.search.proofs.Eaches.{each_append}
-use Rattle.field.specs.declared.Field.{Field}
-use Rattle.field.specs.declared.Field.TheVariants.{Value}
+use Rattle.std.specs.Prelude.{Option, Some}
 use Rattle.guideline.specs.Buffer.{Sheet, buffer, AcceptedSheet}
 use Rattle.judgement.specs.Sheet.{sheet_of}
 use Rattle.judgement.specs.Judgement.{Judgement, judgement}
@@ -160,13 +159,13 @@ module _ (i : ℕ) where
   other_code n (turned_away k p) = refl
   other_code n (sound es) = refl
 
-  sheets_passed : (n : ℕ) (xs : List (List ℕ)) (z : Field) → number_among (sheet_rows n xs) SUM 0 i z ≡ z
+  sheets_passed : (n : ℕ) (xs : List (List ℕ)) (z : Option ℕ) → number_among (sheet_rows n xs) SUM 0 i z ≡ z
   unfolding sheet_rows number_among
   sheets_passed n [] z = refl
   sheets_passed n (x ∷ xs) z = if_false _ (other_code n (judgement x)) ∙ sheets_passed (suc n) xs z
 
-  item_found : (xs : List (List ℕ)) (ns : List ℕ) (z : Field) → 1 ≤ i → i ≤ length ns
-      → number_among (sheet_rows 1 xs ++ items_from 1 SUM 0 ns) SUM 0 i z ≡ Value (get_or ns (i - 1) 0)
+  item_found : (xs : List (List ℕ)) (ns : List ℕ) (z : Option ℕ) → 1 ≤ i → i ≤ length ns
+      → number_among (sheet_rows 1 xs ++ items_from 1 SUM 0 ns) SUM 0 i z ≡ Some (get_or ns (i - 1) 0)
   unfolding equal_bytes pick
   item_found xs ns z h k =
       number_append SUM 0 i (sheet_rows 1 xs) (items_from 1 SUM 0 ns) z ∙ sheets_passed 1 xs _ ∙ items_found SUM 0 i refl 1 ns z h (omega arith)

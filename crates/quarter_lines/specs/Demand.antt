@@ -1,7 +1,6 @@
 -- What the summary that is printed says, read back off the bytes. Document 02, #114: the items, 'With none accepted it prints zeros', and 'If a sheet is
 -- accepted, the total is at or above the exact total, by less than the sum of the accepted sheets' allowances'. Assumes nothing.
-use Rattle.std.specs.Prelude.{◌≡◌, List, [], ◌∷◌, ◌++◌, ℕ, ◌-◌, ◌≤◌, get_or, replicate}
-use Rattle.field.specs.declared.Field.TheVariants.{Value}
+use Rattle.std.specs.Prelude.{Some, ◌≡◌, List, [], ◌∷◌, ◌++◌, ℕ, ◌-◌, ◌≤◌, get_or, replicate}
 use Rattle.guideline.specs.Buffer.{Sheet}
 use Rattle.judgement.specs.Judgement.{judgement}
 use Rattle.report_line.specs.Line.{found_at}
@@ -20,7 +19,7 @@ sound_ones (x ∷ xs) = sound_as (judgement x) ++ sound_ones xs
 pub record SummaryDemand (xs : List (List ℕ)) (text : List ℕ) : Type 0 where
   pub summary : Summary
   -- SUM items 1 to 8 have its numbers, read back off the bytes
-  pub reads : (i : ℕ) → 1 ≤ i → i ≤ 8 → found_at columns text SUM 0 i ≡ Value (get_or (items_of summary) (i - 1) 0)
+  pub reads : (i : ℕ) → 1 ≤ i → i ≤ 8 → found_at columns text SUM 0 i ≡ Some (get_or (items_of summary) (i - 1) 0)
   -- 'With none accepted it prints zeros'
   pub none : accepted_of 1 xs ≡ [] → items_of summary ≡ replicate 8 0
   -- 'If a sheet is accepted': what the items say of the accepted sheets, and how near the total is

@@ -8,7 +8,6 @@ ghost use Rattle.summary.specs.Together.{summary_of};
 ghost use Rattle.summary.specs.declared.Accepted.{Accepted};
 ghost use Rattle.quarter_lines.specs.Printout.{columns, Few, sheet_row, accepted_as};
 
-use sheet_buffer::BufferAnswer;
 use summary::{Accepted, Summary};
 
 // The most sheets that an input may have.
@@ -23,15 +22,14 @@ pub fn answer_sheet(sheet: &[u8], line: &mut [u8], number: usize, summary: Summa
     ensures line_after { line.new ≡ row_in columns (sheet_row number (judgement sheet.now)) }
     ensures summed { (xs : List Accepted) → summary ≡ summary_of xs → result ≡ summary_of (xs ++ accepted_as number (judgement sheet.now)) }
 {
-    let answer = sheet_buffer::buffer_of(sheet);
-    match answer {
-        BufferAnswer::Accepted(buffer) => {
+    match sheet_buffer::buffer_of(sheet) {
+        Ok(buffer) => {
             let n = cast::word(number);
             report_line::write_line_in(line, *b"SHT", n, 1, buffer);
             summary::with_sheet(summary, Accepted { sheet: n, buffer })
         }
-        BufferAnswer::Refused(rule, place) => {
-            printing::write_refusal(line, rule, place);
+        Err(refusal) => {
+            printing::write_refusal(line, refusal);
             summary
         }
     }

@@ -1,11 +1,14 @@
 -- What a call gives, in document 01's terms: 'A refusal is its number with a line, a position, or no place', and 'A refused call
--- gives no figure'. Document 02 adds a risk (#111, 'as number 22 with its risk') and a sheet (#114, 'as number 24 with the sheet'). Every call's
--- answer is an enum of its own; beside it a definition turns each case into one of these. Assumes nothing.
-use Rattle.std.specs.Prelude.{◌≡◌, true, false, List, [], ◌∷◌, ℕ, ◌<◌, eqb, ltb, get_or}
+-- gives no figure'. Document 02 adds a risk (#111, 'as number 22 with its risk') and a sheet (#114, 'as number 24 with the sheet'). A call's
+-- answer is a `Result`, whose error is the rule with its place; `stated_by` turns each case into one of these. Assumes nothing.
+use Rattle.std.specs.Prelude.{◌≡◌, true, false, Result, Ok, Err, List, [], ◌∷◌, ℕ, ◌<◌, eqb, ltb, get_or}
 use Rattle.std.proofs.Common.{arith, ltb-true}
 use Rattle.std.proofs.lemmas.Bool.{eqb-false}
 use Rattle.refusal.specs.declared.Place.{Place}
 use Rattle.refusal.specs.declared.Place.TheVariants.{Line, Position, Risk, Sheet, Nowhere}
+use Rattle.refusal.specs.declared.Rule.{Rule}
+use Rattle.refusal.specs.declared.Rule.TheVariants as rule
+use Rattle.refusal.specs.declared.Refusal.{Refusal}
 
 -- accepted with its values, or refused by number and place
 pub data Outcome : Type 0 where
@@ -13,6 +16,39 @@ pub data Outcome : Type 0 where
   accepted : List ℕ → Outcome
   -- the number of the row under which it is turned away, and the place
   refused : ℕ → Place → Outcome
+
+-- the number of a rule: its row in document 01's table, 'What is turned away', and what document 02's requests add to it
+abbrev pub rule_number : Rule → ℕ
+rule_number rule.SheetTooLong = 1
+rule_number rule.NotWholeLines = 2
+rule_number rule.BrokenLayout = 3
+rule_number rule.UnknownCode = 4
+rule_number rule.BlockOutside = 5
+rule_number rule.ClassOutside = 6
+rule_number rule.AmountAboveLimit = 7
+rule_number rule.SecondAmount = 8
+rule_number rule.TrendAboveComponent = 9
+rule_number rule.ScalarOutside = 10
+rule_number rule.LineRepeated = 11
+rule_number rule.ScalarMissing = 12
+rule_number rule.CreditsAboveBracket = 13
+rule_number rule.RoomTooShort = 14
+rule_number rule.VolumesLength = 15
+rule_number rule.CreditAboveTrend = 16
+rule_number rule.DividendBarred = 17
+rule_number rule.UnknownRow = 18
+rule_number rule.OutOfOrder = 19
+rule_number rule.NotWholeThousands = 20
+rule_number rule.ThousandsAboveLimit = 21
+rule_number rule.RaiseAboveLimit = 22
+rule_number rule.NoShares = 23
+rule_number rule.TooManySheets = 24
+rule_number rule.SheetNotClosed = 25
+
+-- what a call's result says in document 01's numbers, by the values of what it gives
+abbrev pub stated_by : {A : Type 0} → (A → List ℕ) → Result A Refusal → Outcome
+stated_by values (Ok x) = accepted (values x)
+stated_by values (Err r) = refused (rule_number r.0) r.1
 
 -- a place as its kind, which include/tsav.h names, and its line, position, risk or sheet; no place has 0
 abbrev pub place_of : Place → List ℕ

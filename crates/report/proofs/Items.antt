@@ -29,31 +29,30 @@ module _ (c : List ℕ) (b : ℕ) where
   pub items_long : length c ≡ 3 → (i : ℕ) (ns : List ℕ) → length (print_rows (items_from i c b ns)) ≡ report_line_bytes * length ns
   items_long = items_in_long number_columns
 
-  -- the lines of the first k numbers, each of n bytes; the next one begins at `at`
-  pub record Items (n : ℕ) (ns : List ℕ) (k at : ℕ) (l₀ l : List ℕ) : Type 0 where
-    pub place : at ≡ n * k
+  -- the lines of the first k numbers, each of n bytes
+  pub record Items (n : ℕ) (ns : List ℕ) (k : ℕ) (l₀ l : List ℕ) : Type 0 where
     pub some : k ≤ length ns
-    pub front : Wrote l₀ at (rows_in (n - line_bytes 0) (items_from 1 c b (take k ns))) l
+    pub front : Wrote l₀ (n * k) (rows_in (n - line_bytes 0) (items_from 1 c b (take k ns))) l
 
-  pub no_item : (n : ℕ) (ns l : List ℕ) → Items n ns 0 0 l l
+  pub no_item : (n : ℕ) (ns l : List ℕ) → Items n ns 0 l l
   unfolding items_from rows_in
-  no_item n ns l = record { place = omega arith; some = omega arith; front = nothing l }
+  no_item n ns l = let z : n * 0 ≡ 0 = omega arith in record { some = omega arith; front = rw z (nothing l) }
 
-  module _ {n : ℕ} {ns l₀ l : List ℕ} {k at : ℕ} (I : Items n ns k at l₀ l) (line : line_bytes 0 < n) (fits : length l₀ ≡ n * length ns) where
+  module _ {n : ℕ} {ns l₀ l : List ℕ} {k : ℕ} (I : Items n ns k l₀ l) (line : line_bytes 0 < n) (fits : length l₀ ≡ n * length ns) where
     module _ (more : k < length ns) where
       -- the stretch of the next line lies within, and is as long as a line
-      pub stretch : at + n ≤ length l
+      pub stretch : n * k + n ≤ length l
       stretch =
           let m : n * (k + 1) ≤ n * length ns = mul-le-mul_left n (omega arith) in
-          omega (arith, I.place, I.front.long)
+          omega (arith, I.front.long)
 
-      pub stretch_long : length (take (at + n - at) (drop at l)) ≡ n
-      stretch_long = lent.stretch_long l at n stretch
+      pub stretch_long : length (take (n * k + n - n * k) (drop (n * k) l)) ≡ n
+      stretch_long = lent.stretch_long l (n * k) n stretch
 
       -- one line more, put back as the code lends its stretch
       pub next_item : {ys : List ℕ} → length c ≡ 3
-          → ys ≡ line_in (length (take (at + n - at) (drop at l)) - line_bytes 0) c b (k + 1) (get_or ns k 0)
-          → Items n ns (k + 1) (at + n) l₀ (put_mid at (at + n - at) l ys)
+          → ys ≡ line_in (length (take (n * k + n - n * k) (drop (n * k) l)) - line_bytes 0) c b (k + 1) (get_or ns k 0)
+          → Items n ns (k + 1) l₀ (put_mid (n * k) (n * k + n - n * k) l ys)
       unfolding items_from rows_in
       next_item {ys} h f =
           let w = n - line_bytes 0 in
@@ -63,14 +62,14 @@ module _ (c : List ℕ) (b : ℕ) where
           let p : rows_in w (items_from 1 c b (take (k + 1) ns)) ≡ rows_in w (items_from 1 c b (take k ns)) ++ ys =
           rw (add-one k, take-suc ns k 0 more, items_append 1 (take k ns) (get_or ns k 0 ∷ []), append_in w, t, i) (rw (e, append-nil)) in
           let y : length ys ≡ n = ap length e ∙ length_in_lem w c b (k + 1) (get_or ns k 0) h ∙ omega arith in
+          let a : n * (k + 1) ≡ n * k + n = omega arith in
           record {
-            place = omega (arith, I.place);
             some = omega arith;
-            front = rw p (lent_part I.front n ys (omega (arith, stretch, I.front.long)) y);
+            front = rw (a, p) (lent_part I.front n ys (omega (arith, stretch, I.front.long)) y);
           }
 
     pub all_items : length ns ≤ k → l ≡ rows_in (n - line_bytes 0) (items_from 1 c b ns)
     all_items h =
         let e : k ≡ length ns = omega (arith, I.some) in
-        let a : length l₀ ≤ at = omega (arith, I.place, ap (λ (j : ℕ). n * j) e) in
+        let a : length l₀ ≤ n * k = omega (arith, ap (λ (j : ℕ). n * j) e) in
         all_written I.front a ∙ rw (take_all k ns h)

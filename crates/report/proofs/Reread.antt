@@ -13,8 +13,7 @@ use Rattle.search.specs.Ascending.{ascending}
 use Rattle.search.proofs.Picks.{if_true, if_false, if_eq, if_ne, by_test}
 use Rattle.search.proofs.Eaches.{each_append}
 use Rattle.search.proofs.Ascents.{each_ascending}
-use Rattle.field.specs.declared.Field.{Field}
-use Rattle.field.specs.declared.Field.TheVariants.{Value}
+use Rattle.std.specs.Prelude.{Option, Some}
 use Rattle.guideline.specs.Sizes.{blocks, block_figures, number_columns, FitsColumns}
 use Rattle.report_line.specs.Line.{Row, print_rows, equal_bytes, number_at}
 use Rattle.report_line.proofs.ReadBack.{PrintableIn, Printable, row_is, number_among, rows_read}
@@ -29,21 +28,21 @@ items_printable w c b i (n ∷ ns) h k l f =
 -- ---- which row is found
 
 module _ (c : List ℕ) (b i : ℕ) where
-  pub number_append : (rs ss : List Row) (z : Field) → number_among (rs ++ ss) c b i z ≡ number_among rs c b i (number_among ss c b i z)
+  pub number_append : (rs ss : List Row) (z : Option ℕ) → number_among (rs ++ ss) c b i z ≡ number_among rs c b i (number_among ss c b i z)
   unfolding number_among
   number_append [] ss z = refl
   number_append (r ∷ rs) ss z = rw (number_append rs ss z)
 
   -- lines of which none is looked for
-  items_passed : (c' : List ℕ) (b' : ℕ) → ((j n : ℕ) → row_is (row c' b' j n) c b i ≡ false) → (j : ℕ) (ns : List ℕ) (z : Field)
+  items_passed : (c' : List ℕ) (b' : ℕ) → ((j n : ℕ) → row_is (row c' b' j n) c b i ≡ false) → (j : ℕ) (ns : List ℕ) (z : Option ℕ)
       → number_among (items_from j c' b' ns) c b i z ≡ z
   unfolding items_from number_among
   items_passed c' b' h j [] z = refl
   items_passed c' b' h j (n ∷ ns) z = if_false _ (h j n) ∙ items_passed c' b' h (suc j) ns z
 
   -- lines of that code and block, the item among them
-  pub items_found : equal_bytes c c ≡ true → (j : ℕ) (ns : List ℕ) (z : Field) → j ≤ i → i < j + length ns
-      → number_among (items_from j c b ns) c b i z ≡ Value (get_or ns (i - j) 0)
+  pub items_found : equal_bytes c c ≡ true → (j : ℕ) (ns : List ℕ) (z : Option ℕ) → j ≤ i → i < j + length ns
+      → number_among (items_from j c b ns) c b i z ≡ Some (get_or ns (i - j) 0)
   unfolding items_from number_among row_is
   items_found h j [] z l k = absurd (omega arith)
   items_found h j (n ∷ ns) z l k =
@@ -57,7 +56,7 @@ module _ (c : List ℕ) (b i : ℕ) where
       ]
 
 -- a block's lines are passed where another block is looked for
-others_pass : (b' b : ℕ) → (b' ≡ b → ⊥) → (i : ℕ) (f : List ℕ) (z : Field) → number_among (block_rows b' f) BLK b i z ≡ z
+others_pass : (b' b : ℕ) → (b' ≡ b → ⊥) → (i : ℕ) (f : List ℕ) (z : Option ℕ) → number_among (block_rows b' f) BLK b i z ≡ z
 unfolding row_is
 others_pass b' b ne i f z =
     items_passed BLK b i BLK b' (λ j n. by_test (λ t. t ≡ false) _ _ _ (λ t. by_test (λ t. t ≡ false) _ _ _ (λ u. ne_eqb b' b ne) (λ u. refl)) (λ t. refl)) 1 f z
@@ -69,7 +68,7 @@ module _ (exists : ℕ → Bool) (f : ℕ → List ℕ) where
   lines_to n = ascending exists (λ b. block_rows b (f b)) n
 
   -- the lines up to block n leave what is looked for to those after them
-  passed : (c : List ℕ) (b i n : ℕ) → ((b' : ℕ) → b' ≤ n → (z : Field) → number_among (block_rows b' (f b')) c b i z ≡ z) → (z : Field) → number_among (lines_to n) c b i z ≡ z
+  passed : (c : List ℕ) (b i n : ℕ) → ((b' : ℕ) → b' ≤ n → (z : Option ℕ) → number_among (block_rows b' (f b')) c b i z ≡ z) → (z : Option ℕ) → number_among (lines_to n) c b i z ≡ z
   unfolding ascending number_among
   passed c b i zero h z = refl
   passed c b i (suc n) h z =
@@ -77,7 +76,7 @@ module _ (exists : ℕ → Bool) (f : ℕ → List ℕ) where
       ∙ by_test (λ rs. number_among rs c b i z ≡ z) _ _ _ (λ t. h (suc n) (omega arith) z) (λ t. refl)
 
   module _ (b i : ℕ) (here : exists b ≡ true) (first : 1 ≤ b) (low : 1 ≤ i) (high : i ≤ block_figures) (five : length (f b) ≡ block_figures) where
-    found : (n : ℕ) → b ≤ n → (z : Field) → number_among (lines_to n) BLK b i z ≡ Value (get_or (f b) (i - 1) 0)
+    found : (n : ℕ) → b ≤ n → (z : Option ℕ) → number_among (lines_to n) BLK b i z ≡ Some (get_or (f b) (i - 1) 0)
     unfolding ascending equal_bytes pick
     found zero h z = absurd (omega arith)
     found (suc n) h z =
@@ -109,12 +108,12 @@ module _ (exists : ℕ → Bool) (f : ℕ → List ℕ) (sum ro buffer : ℕ) (r
       rows_read rows (row c b i 0) rest all_printable (record { code = h; block = k; item = l; number = omega arith })
       ∙ number_append c b i (lines_to exists f blocks) _ _
 
-  pub buffer_read : number_at (print_rows rows ++ rest) TOT 0 3 ≡ Value buffer
+  pub buffer_read : number_at (print_rows rows ++ rest) TOT 0 3 ≡ Some buffer
   unfolding equal_bytes pick row_is
   buffer_read =
       reads TOT 0 3 refl (omega arith) (omega arith) ∙ passed exists f TOT 0 3 blocks (λ b p. items_passed TOT 0 3 BLK b (λ j n. refl) 1 (f b)) _
       ∙ items_found TOT 0 3 refl 1 (sum ∷ ro ∷ buffer ∷ []) _ (omega arith) (omega arith)
 
-  pub figure_read : (b i : ℕ) → exists b ≡ true → 1 ≤ b → b ≤ blocks → 1 ≤ i → i ≤ block_figures → number_at (print_rows rows ++ rest) BLK b i ≡ Value (get_or (f b) (i - 1) 0)
+  pub figure_read : (b i : ℕ) → exists b ≡ true → 1 ≤ b → b ≤ blocks → 1 ≤ i → i ≤ block_figures → number_at (print_rows rows ++ rest) BLK b i ≡ Some (get_or (f b) (i - 1) 0)
   figure_read b i t h k l m =
       reads BLK b i refl (omega arith) (omega arith) ∙ found exists f b i t h l m (five b h k t).0 blocks k _

@@ -27,6 +27,7 @@ pub fn length_for(count: usize) -> usize
 }
 
 // A whole report: the blocks in the first rows of a table, a block's number and its five figures each, and then the totals.
+// Kept: a struct of these would be no plainer, since the one caller would fill it for this call alone.
 pub fn write_report(
     rows: &[u64; TABLE_NUMBERS],
     count: usize,
@@ -55,8 +56,7 @@ fn write_blocks(rows: &[u64], count: usize, report: &mut [u8])
     requires { (row_numbers * count ≤ length rows.now) × (report_line_bytes * (block_figures * count) ≤ length report.old) }
     ensures { report.new ≡ print_rows (table_rows rows.now count) ++ drop (report_line_bytes * (block_figures * count)) report.old }
 {
-    let mut i = 0;
-    while i < count {
+    for i in 0..count {
         let at = BLOCK_BYTES * i;
         let from = ROW_NUMBERS * i;
         write_items(
@@ -66,7 +66,6 @@ fn write_blocks(rows: &[u64], count: usize, report: &mut [u8])
             rows[from],
             &rows[from + 1..from + ROW_NUMBERS],
         );
-        i += 1;
     }
 }
 
@@ -75,13 +74,9 @@ pub fn write_items(out: &mut [u8], line: usize, code: [u8; 3], block: u64, numbe
     requires { (line_bytes 0 < line) × (length out.old ≡ line * length numbers.now) }
     ensures { out.new ≡ rows_in (line - line_bytes 0) (items_from 1 code block numbers.now) }
 {
-    let mut at = 0;
-    let mut k = 0;
-    while k < numbers.len() {
-        let next = at + line;
+    for (k, &number) in numbers.iter().enumerate() {
+        let at = line * k;
         let item = cast::word(k + 1);
-        report_line::write_line_in(&mut out[at..next], code, block, item, numbers[k]);
-        at = next;
-        k += 1;
+        report_line::write_line_in(&mut out[at..at + line], code, block, item, number);
     }
 }

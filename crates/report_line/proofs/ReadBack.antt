@@ -16,8 +16,7 @@ use Rattle.search.specs.Each.{Each}
 use Rattle.search.proofs.Picks.{if_true, if_false, if_eq, if_ne}
 use Rattle.guideline.specs.Sizes.{number_columns}
 use Rattle.field.specs.Field.{field, leading_digits, decimal}
-use Rattle.field.specs.declared.Field.{Field}
-use Rattle.field.specs.declared.Field.TheVariants.{Value}
+use Rattle.std.specs.Prelude.{Option, Some}
 use Rattle.field.proofs.Writing.{length_decimal}
 use Rattle.field.proofs.Inverse.{read_back}
 use Rattle.report_line.specs.Line.{line_bytes, report_line_bytes, key, line_in, report_line, Row, row_in, rows_in, print_rows, equal_bytes, found_in, found_at, number_at}
@@ -61,7 +60,7 @@ module _ (w : ℕ) (pos : 0 < w) (r : Row) (p : PrintableIn w r) where
       (k.0, rw k.1 (take_at (decimal w r.number) (10 ∷ rest) w n), drop_at (row_in w r) rest (line_bytes w) (length_in_lem w r.code r.block r.item r.number p.code))
 
   -- code, block and item
-  pub key_parts : (take 3 (key_of r) ≡ r.code) × (field (take 2 (drop 4 (key_of r))) ≡ Value r.block) × (field (take 2 (drop 7 (key_of r))) ≡ Value r.item)
+  pub key_parts : (take 3 (key_of r) ≡ r.code) × (field (take 2 (drop 4 (key_of r))) ≡ Some r.block) × (field (take 2 (drop 7 (key_of r))) ≡ Some r.item)
   unfolding values decimal leading_digits key
   key_parts =
       rw (is_values 0 3 r.code p.code)
@@ -121,9 +120,9 @@ module _ (w : ℕ) (pos : 0 < w) (r s : Row) (p : PrintableIn w r) (q : Printabl
 -- ---- a list of rows
 
 -- the number of the first row that has a code, a block and an item; z where there is none
-unfoldable pub number_among : List Row → List ℕ → ℕ → ℕ → Field → Field
+unfoldable pub number_among : List Row → List ℕ → ℕ → ℕ → Option ℕ → Option ℕ
 number_among [] code block item z = z
-number_among (r ∷ rs) code block item z = pick (row_is r code block item) (Value r.number) (number_among rs code block item z)
+number_among (r ∷ rs) code block item z = pick (row_is r code block item) (Some r.number) (number_among rs code block item z)
 
 -- lines give the numbers of their rows. s is what is looked for; its number plays no part.
 pub read_in : (w : ℕ) → 0 < w → (rs : List Row) (s : Row) (rest : List ℕ) → Each (PrintableIn w) rs → PrintableIn w s

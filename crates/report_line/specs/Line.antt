@@ -2,12 +2,10 @@
 -- 1–3, block 5–6, item 8–9, number in 11–28, all three right-justified, spaces between, line feed last.' Document 02, #114, has 'report lines of 30
 -- bytes, the number .. in 11–29': one definition over the columns of the number, of which document 01's is the one with 18.
 -- Assumes nothing.
-use Rattle.std.specs.Prelude.{ℕ, zero, suc, ◌+◌, ◌/◌, Bool, true, false, List, [], ◌∷◌, ◌++◌, eqb, length, take, drop}
+use Rattle.std.specs.Prelude.{Option, None, ℕ, zero, suc, ◌+◌, ◌/◌, Bool, true, false, List, [], ◌∷◌, ◌++◌, eqb, length, take, drop}
 use Rattle.search.specs.Pick.{pick}
 use Rattle.guideline.specs.Sizes.{number_columns}
 use Rattle.field.specs.Field.{field, decimal}
-use Rattle.field.specs.declared.Field.{Field}
-use Rattle.field.specs.declared.Field.TheVariants.{Bad}
 
 -- the bytes of a line whose number has w columns: ten stand before it, and the line feed after it
 abbrev pub line_bytes : ℕ → ℕ
@@ -56,15 +54,15 @@ equal_bytes [] (b ∷ t) = false
 equal_bytes (a ∷ s) [] = false
 equal_bytes (a ∷ s) (b ∷ t) = pick (eqb a b) (equal_bytes s t) false
 
--- the number in the w columns from 11 on of the first of n lines whose columns 1–9 are k; Bad where there is none
-unfoldable pub found_in : ℕ → ℕ → List ℕ → List ℕ → Field
-found_in w zero report k = Bad
+-- the number in the w columns from 11 on of the first of n lines whose columns 1–9 are k; none where there is none
+unfoldable pub found_in : ℕ → ℕ → List ℕ → List ℕ → Option ℕ
+found_in w zero report k = None
 found_in w (suc n) report k = pick (equal_bytes (take 9 report) k) (field (take w (drop 10 report))) (found_in w n (drop (line_bytes w) report) k)
 
 -- the number that lines give for a code, a block and an item
-unfoldable pub found_at : ℕ → List ℕ → List ℕ → ℕ → ℕ → Field
+unfoldable pub found_at : ℕ → List ℕ → List ℕ → ℕ → ℕ → Option ℕ
 found_at w report code block item = found_in w (length report / line_bytes w) report (key code block item)
 
 -- the number that a report gives for a code, a block and an item
-abbrev pub number_at : List ℕ → List ℕ → ℕ → ℕ → Field
+abbrev pub number_at : List ℕ → List ℕ → ℕ → ℕ → Option ℕ
 number_at report code block item = found_at number_columns report code block item

@@ -1,13 +1,16 @@
 // A line of the report.
 #![tactic(auto)]
 
-ghost use Rattle.std.specs.Prelude.{◌≡◌, ◌∷◌, [], ◌++◌, ◌-◌, ◌<◌, length};
+ghost use Rattle.std.specs.Prelude.{◌≡◌, ◌-◌, ◌<◌, length};
 ghost use Rattle.report_line.specs.Line.{line_bytes, report_line_bytes, key, line_in, report_line};
 
 use field::write_field;
 
 // The bytes of a line, its line feed with them.
 pub const REPORT_LINE_BYTES: usize = 29;
+
+// Columns 1–9.
+const KEY_BYTES: usize = 9;
 
 // The bytes before the number: columns 1–9, and the space behind them.
 const BEFORE_NUMBER: usize = 10;
@@ -26,22 +29,20 @@ pub fn write_line_in(out: &mut [u8], code: [u8; 3], block: u64, item: u64, numbe
     ensures { out.new ≡ line_in (length out.old - line_bytes 0) code block item number }
 {
     let last = out.len() - 1;
-    write_key(&mut out[0..BEFORE_NUMBER], code, block, item);
+    write_key(&mut out[0..KEY_BYTES], code, block, item);
+    out[KEY_BYTES] = b' ';
     write_field(&mut out[BEFORE_NUMBER..last], number);
     out[last] = b'\n';
 }
 
-// Columns 1–10: the two numbers, then the code and the spaces.
-fn write_key(out: &mut [u8], code: [u8; 3], block: u64, item: u64)
-    requires { length out.old ≡ 10 }
-    ensures { out.new ≡ key code block item ++ (32 ∷ []) }
+// Writes columns 1–9 into their own stretch: a code and two numbers, with a space before each.
+pub fn write_key(out: &mut [u8], code: [u8; 3], block: u64, item: u64)
+    requires { length out.old ≡ 9 }
+    ensures { out.new ≡ key code block item }
 {
+    out[0..3].copy_from_slice(&code);
     write_field(&mut out[4..6], block);
     write_field(&mut out[7..9], item);
-    out[0] = code[0];
-    out[1] = code[1];
-    out[2] = code[2];
     out[3] = b' ';
     out[6] = b' ';
-    out[9] = b' ';
 }

@@ -133,7 +133,7 @@ module _ (n : ℕ) (fits : n < 2 ^ 124) where
         let e : steps n - j ≡ 0 = omega arith in
         omega (arith, rw e at a.remains, div-one n)
 
-    pub root_room : r < 2 ^ 62
+    root_room : r < 2 ^ 62
     root_room = lt_of_squares r (2 ^ 62) (omega (arith, ended))
 
     pub exact_root : s ≤ 0 → r ≡ least (λ x. leb n (x * x))

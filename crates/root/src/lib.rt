@@ -21,8 +21,7 @@ pub fn root_up(n: Wide) -> u64
     requires { value n < 2 ^ 124 }
     ensures { result ≡ least (λ x. leb (value n) (x * x)) }
 {
-    let found = root_and_steps(n);
-    found.root
+    root_and_steps(n).root
 }
 
 // The same with its steps: each fixes one binary digit, and after step j the held value is the root, rounded down, of the leading 2j digits
@@ -38,15 +37,13 @@ pub fn root_and_steps(n: Wide) -> Root
     let mut window = aligned(n, count);
     let mut root = 0u64;
     let mut rest = 0u64;
-    let mut j = 0u32;
-    while j < count {
+    for _j in 0..count {
         let s = root_step(root, rest, top_digits(window));
         root = s.root;
         rest = s.rest;
         window = bring_down(window);
-        j += 1;
     }
-    let steps = count as u64;
+    let steps = u64::from(count);
     if rest == 0 {
         Root { root, steps }
     } else {
@@ -83,7 +80,7 @@ fn root_step(root: u64, rest: u64, digits: u64) -> PartialRoot
 fn one_if_within(odd: u64, next: u64) -> u64
     ensures { result ≡ pick (leb odd next) 1 0 }
 {
-    (odd <= next) as u64
+    u64::from(odd <= next)
 }
 
 // The two binary digits at the top of the window, which are brought down next.

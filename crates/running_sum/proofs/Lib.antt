@@ -1,4 +1,3 @@
--- What the proofs of the running sum share: laws of signs, of columns and of differences.
+-- What the proofs of the running sum share: laws of signs and of columns.
 pub mod Sign
 pub mod Column
-pub mod Difference

@@ -6,19 +6,10 @@ use native.Mathlib.Nat.{lt_of_not-le}
 use native.Mathlib.Decide.{dec_le}
 use native.Mathlib.Omega.{arith}
 use lib.Dec.{T}
-use lib.IntN.{ℤ, pos, negsuc, nat_abs, sub_ℕ, pos-ne-negsuc, ◌+ℤ◌, ◌-ℤ◌, ◌*ℤ◌}
-use lib.Signed.{lt_z, non_neg}
+use lib.IntN.{ℤ, pos, negsuc, nat_abs, sub_ℕ, pos-ne-negsuc, ◌+ℤ◌, ◌*ℤ◌}
+use lib.Signed.{lt_z}
 use borrow.Author.Tests.{ltb-true}
 use Rattle.integer.proofs.Integer.{below, as_diff, neg_as_diff, diff_add, diff_eq}
-
--- what a test against 0 says
-pub negated : (z : ℤ) → lt_z z (pos 0) ≡ true → pos 0 -ℤ z ≡ pos (nat_abs z)
-negated (pos n) e = absurd (let h : n < 0 = ltb-true n 0 e in let k : ⊥ = omega arith in k)
-negated (negsuc n) e = ap pos (omega arith)
-
-pub not_below : (z : ℤ) → lt_z z (pos 0) ≡ false → T (non_neg z)
-not_below (pos n) e = tt
-not_below (negsuc n) e = subst T e tt
 
 -- a product with an integer below 0, and with one that is not
 times_below : (z : ℤ) (n : ℕ) → lt_z z (pos 0) ≡ true → z *ℤ pos n ≡ sub_ℕ 0 (nat_abs z * n)

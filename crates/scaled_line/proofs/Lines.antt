@@ -1,19 +1,19 @@
--- A line of either sort is read and printed, each undoing the other; what is written for it in the other sort; the numbers that it is refused by.
+-- A line of either sort is read and printed, each undoing the other; what is written for it in the other sort; the rules that it is refused by.
 -- Assumes nothing.
+use Rattle.std.specs.Prelude.{Result, Ok, Err}
 use mathlib.Core.Path.{◌≡◌, refl, ap, ◌∙◌, subst}
 use mathlib.Core.List.{List, map}
 use Prim.Native.Nat.{ℕ}
 use lib.ListN.{length, take}
 use Rattle.search.proofs.Picks.{by_test, never}
-use Rattle.refusal.specs.Outcome.{Judging, judging}
+use Rattle.refusal.specs.Outcome.{rule_number, Judging, judging}
 use Rattle.layout.specs.Columns.{sheet_line_bytes, lettered}
 use Rattle.layout.specs.declared.Numbers.{Numbers}
 use Rattle.layout.proofs.Laid.{length_lettered}
 use Rattle.sheet_line.specs.Line.{numbers_of}
 use Rattle.sheet_line.specs.Rules.{AcceptedLine}
+use Rattle.refusal.specs.declared.Rule.{Rule}
 use Rattle.sheet_line.specs.declared.Entry.{Entry}
-use Rattle.sheet_line.specs.declared.Line.{Line}
-use Rattle.sheet_line.specs.declared.Line.TheVariants.{Good, Refused}
 use Rattle.sheet_line.proofs.Accepted.{line_good}
 use Rattle.sheet_line.proofs.Printed.{parse_print, print_parsed}
 use Rattle.sheet_line.proofs.Refusals.{line_judging}
@@ -26,15 +26,15 @@ use Rattle.scaled_line.proofs.Small.{letters_first, three_in, letters_turned, le
 
 -- ---- read and printed
 
-pub line_accepted : (d : Scale) (s : List ℕ) → length s ≡ sheet_line_bytes → (e : Entry) → parse_in d s ≡ Good e → AcceptedLine e
+pub line_accepted : (d : Scale) (s : List ℕ) → length s ≡ sheet_line_bytes → (e : Entry) → parse_in d s ≡ Ok e → AcceptedLine e
 line_accepted Cents s h e q = line_good s h e q
 line_accepted Thousands s h e q = line_good (raised s) (length_raised s h) e q
 
-pub line_printed : (d : Scale) (s : List ℕ) → length s ≡ sheet_line_bytes → (e : Entry) → parse_in d s ≡ Good e → s ≡ print_in d e
+pub line_printed : (d : Scale) (s : List ℕ) → length s ≡ sheet_line_bytes → (e : Entry) → parse_in d s ≡ Ok e → s ≡ print_in d e
 line_printed Cents s h e q = print_parsed s h e q
 line_printed Thousands s h e q = small_printed s h e q
 
-pub line_parsed : (d : Scale) (e : Entry) → AcceptedLine e → parse_in d (print_in d e) ≡ Good e
+pub line_parsed : (d : Scale) (e : Entry) → AcceptedLine e → parse_in d (print_in d e) ≡ Ok e
 line_parsed Cents e a = parse_print e a
 line_parsed Thousands e a = small_read e a
 
@@ -43,7 +43,7 @@ length_in_lem d e = length_lettered (letters_in d e.code) (three_in d e.code) (n
 
 -- ---- written in the other sort
 
-module _ (d : Scale) (s : List ℕ) {e : Entry} (q : parse_in d s ≡ Good e) where
+module _ (d : Scale) (s : List ℕ) {e : Entry} (q : parse_in d s ≡ Ok e) where
   -- its letters are those of its code
   letters_other : length s ≡ sheet_line_bytes → map (other_letter d) (take 3 s) ≡ letters_in (other d) e.code
   letters_other h =
@@ -56,18 +56,20 @@ module _ (d : Scale) (s : List ℕ) {e : Entry} (q : parse_in d s ≡ Good e) wh
       → n ≡ numbers_of (rescaled d e) → out' ≡ lettered w n → out' ≡ other_over d (parse_in d s) out
   line_other h out x y z = rw q (z ∙ (λ i. lettered ((x ∙ letters_other h) i) (y i)))
 
--- ---- the numbers that a line is refused by
+-- ---- the rules that a line is refused by
 
-pub line_refused : (d : Scale) (s : List ℕ) (n : ℕ) → parse_in d s ≡ Refused n → Judging n
-line_refused Cents s n q = line_judging s n q
-line_refused Thousands s n q = line_judging (raised s) n q
+pub line_refused : (d : Scale) (s : List ℕ) (r : Rule) → parse_in d s ≡ Err r → Judging (rule_number r)
+line_refused Cents s r q = line_judging s r q
+line_refused Thousands s r q = line_judging (raised s) r q
 
-barred_judging : (d : Scale) → Judging (barred_by d)
+barred_judging : (d : Scale) → Judging (rule_number (barred_by d))
 barred_judging Cents = judging 20 refl refl refl
 barred_judging Thousands = judging 21 refl refl refl
 
-pub test_judging : (d : Scale) (l : Line) → ((r : ℕ) → l ≡ Refused r → Judging r) → (r : ℕ) → convertible d l ≡ Refused r → Judging r
+pub test_judging : (d : Scale) (l : Result Entry Rule) → ((r : Rule) → l ≡ Err r → Judging (rule_number r)) → (r : Rule)
+    → convertible d l ≡ Err r → Judging (rule_number r)
 unfolding rule20or21
-test_judging d (Refused n) j r = j r
-test_judging d (Good e) j r =
-    by_test (λ l. l ≡ Refused r → Judging r) _ _ _ (λ t q. let e : barred_by d ≡ r = cc in subst Judging e (barred_judging d)) (λ t q. never (cc))
+test_judging d (Err n) j r = j r
+test_judging d (Ok e) j r =
+    by_test (λ l. l ≡ Err r → Judging (rule_number r)) _ _ _
+    (λ t q. let e : barred_by d ≡ r = cc in subst (λ x. Judging (rule_number x)) e (barred_judging d)) (λ t q. never (cc))

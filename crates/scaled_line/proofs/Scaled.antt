@@ -1,4 +1,5 @@
 -- Amounts of one sort in the other: where the rules leave them, they fit there, pass its rules and come back. Assumes nothing.
+use Rattle.std.specs.Prelude.{Result, Ok, Err}
 use mathlib.Core.Path.{◌≡◌, refl, sym, ap, ◌∙◌}
 use mathlib.Core.Bool.{Bool, true, false, not}
 use Prim.Native.Nat.{ℕ, ◌*◌, ◌/◌, ◌%◌, ◌≤◌}
@@ -10,9 +11,8 @@ use Rattle.search.specs.Pick.{pick}
 use Rattle.search.proofs.Picks.{if_true, if_false, by_test, never}
 use Rattle.amount.specs.Amount.{limit}
 use Rattle.sheet_line.specs.Rules.{AcceptedAmounts, AcceptedLine}
+use Rattle.refusal.specs.declared.Rule.{Rule}
 use Rattle.sheet_line.specs.declared.Entry.{Entry}
-use Rattle.sheet_line.specs.declared.Line.{Line}
-use Rattle.sheet_line.specs.declared.Line.TheVariants.{Good, Refused}
 use Rattle.scaled_line.specs.Scale.{other}
 use Rattle.scaled_line.specs.Amounts.{thousand_dollars, of_scalar, barred, has_barred, rule20or21, convertible, in_other, amount_of, rescaled}
 use Rattle.scaled_line.specs.declared.Scale.{Scale}
@@ -74,14 +74,14 @@ none_barred d e q = record { fit = λ s. go (sym (if_false _ s) ∙ q) }
     go = by_test (λ t. t ≡ false → Fits d e.first × Fits d e.second) _ _ _ (λ t r. never (cc)) (λ t r. (fits d e.first t, fits d e.second r))
 
 -- a line that passes the last test is the line that was tested
-pub keeps : (d : Scale) (l : Line) (e : Entry) → convertible d l ≡ Good e → l ≡ Good e
+pub keeps : (d : Scale) (l : Result Entry Rule) (e : Entry) → convertible d l ≡ Ok e → l ≡ Ok e
 unfolding rule20or21
-keeps d (Refused r) e = λ q. never (cc)
-keeps d (Good f) e = by_test (λ l. l ≡ Good e → Good f ≡ Good e) _ _ _ (λ t q. never (cc)) (λ t q. q)
+keeps d (Err r) e = λ q. never (cc)
+keeps d (Ok f) e = by_test (λ l. l ≡ Ok e → ◌≡◌ {A = Result Entry Rule} (Ok f) (Ok e)) _ _ _ (λ t q. never (cc)) (λ t q. q)
 
-pub passes_convertible : (d : Scale) (e : Entry) → convertible d (Good e) ≡ Good e → Convertible d e
+pub passes_convertible : (d : Scale) (e : Entry) → convertible d (Ok e) ≡ Ok e → Convertible d e
 unfolding rule20or21
-passes_convertible d e = by_test (λ l. l ≡ Good e → Convertible d e) _ _ _ (λ t q. never (cc)) (λ t q. none_barred d e t)
+passes_convertible d e = by_test (λ l. l ≡ Ok e → Convertible d e) _ _ _ (λ t q. never (cc)) (λ t q. none_barred d e t)
 
 -- the scalar's line keeps its number
 kept : (d : Scale) (e : Entry) (n : ℕ) → of_scalar e ≡ true → amount_of d e n ≡ n
@@ -127,7 +127,7 @@ module _ (d : Scale) (e : Entry) (C : Convertible d e) (a : AcceptedLine e) wher
       ∙ other_passes d g m.second_most
 
   -- so does its last test
-  pub rescaled_passes : convertible (other d) (Good (rescaled d e)) ≡ Good (rescaled d e)
+  pub rescaled_passes : convertible (other d) (Ok (rescaled d e)) ≡ Ok (rescaled d e)
   unfolding rule20or21
   rescaled_passes = if_false _ (none_barred_back (of_scalar e) refl)
 

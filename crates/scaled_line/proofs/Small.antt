@@ -1,13 +1,13 @@
 -- Lines in small letters: raising and lowering undo each other on the letters of a code, so reading such a line and printing an entry so do too.
 -- Assumes nothing.
+use Rattle.std.specs.Prelude.{Ok}
 use mathlib.Core.Path.{◌≡◌, refl, sym, ap, ◌∙◌}
-use mathlib.Core.List.{List, [], ◌∷◌, ◌++◌, map, append-nil}
+use mathlib.Core.List.{List, [], ◌∷◌, ◌++◌, map}
 use Prim.Native.Nat.{ℕ, suc, ◌+◌, ◌-◌, ◌≤◌, ◌<◌}
 use native.Mathlib.Decide.{dec_le}
-use native.Mathlib.Numerals.{add-one}
 use native.Mathlib.Omega.{arith}
-use lib.ListN.{length, get_or, set, take, drop, take-append-drop, length-append, length-map, length-drop, length-set, drop_of_length-le}
-use lib.Seq.{length-take-le, take_at, drop_at, take_all, take-suc-set, append_snoc, drop-cons}
+use lib.ListN.{length, get_or, set, take, drop, take-append-drop, length-append, length-map, length-drop}
+use lib.Seq.{length-take-le, take_at, drop_at}
 use Rattle.search.specs.Pick.{pick}
 use Rattle.search.specs.Each.{Each}
 use Rattle.search.proofs.Picks.{if_lt, if_ge}
@@ -21,7 +21,6 @@ use Rattle.layout.specs.declared.Numbers.{Numbers}
 use Rattle.sheet_line.specs.Line.{numbers_of, print_line}
 use Rattle.sheet_line.specs.Rules.{parse_line, AcceptedLine}
 use Rattle.sheet_line.specs.declared.Entry.{Entry}
-use Rattle.sheet_line.specs.declared.Line.TheVariants.{Good}
 use Rattle.sheet_line.proofs.Printed.{three_letters, parse_print, print_parsed}
 use Rattle.scaled_line.specs.Scale.{other, raise, lower, letters_in, raised, print_in}
 use Rattle.scaled_line.specs.Other.{other_letter}
@@ -124,7 +123,7 @@ module _ (s : List ℕ) (h : length s ≡ sheet_line_bytes) where
   unfolding raised
   length_raised = length-append (map raise (take 3 s)) (drop 3 s) ∙ rw (long_letters, length-drop 3 s) (omega arith)
 
-  pub small_printed : (e : Entry) → parse_line (raised s) ≡ Good e → s ≡ print_in Thousands e
+  pub small_printed : (e : Entry) → parse_line (raised s) ≡ Ok e → s ≡ print_in Thousands e
   unfolding raised
   small_printed e q =
       let k = e.code in
@@ -137,7 +136,7 @@ module _ (s : List ℕ) (h : length s ≡ sheet_line_bytes) where
       let z : take 3 s ≡ map lower l = raised_is (take 3 s) l (capitals k) x in
       sym (take-append-drop 3 s) ∙ (λ i. z i ++ y i) ∙ relettered l (three_in Cents k) n (map lower l) (three_in Thousands k)
 
-pub small_read : (e : Entry) → AcceptedLine e → parse_line (raised (print_in Thousands e)) ≡ Good e
+pub small_read : (e : Entry) → AcceptedLine e → parse_line (raised (print_in Thousands e)) ≡ Ok e
 unfolding raised
 small_read e a =
     let k = e.code in
@@ -148,35 +147,12 @@ small_read e a =
     ap parse_line (ap (λ (v : List ℕ). v ++ drop 3 (lettered w n)) r ∙ relettered w (three_in Thousands k) n (letters_of k) (three_in Cents k))
     ∙ parse_print e a
 
--- ---- a line copied behind its raised letters
+-- ---- a line that is stored over with its raised letters
 
--- the first i bytes stand, and what is left of the line completes them
-pub record Copied (s line : List ℕ) (i : ℕ) : Type 0 where
-  pub most : i ≤ sheet_line_bytes
-  pub long : length line ≡ sheet_line_bytes
-  pub front : take i line ++ drop i s ≡ raised s
-
-pub copy_start : (s line : List ℕ) → 3 ≤ length s → length line ≡ sheet_line_bytes
-    → take 3 line ≡ raise (get_or s 0 0) ∷ raise (get_or s 1 0) ∷ raise (get_or s 2 0) ∷ [] → Copied s line 3
+pub letters_raised : (s : List ℕ) → 3 ≤ length s
+    → set (set (set s 0 (raise (get_or s 0 0))) 1 (raise (get_or s 1 0))) 2 (raise (get_or s 2 0)) ≡ raised s
 unfolding raised
-copy_start s line h l q = record { most = omega arith; long = l; front = ap (λ (t : List ℕ). t ++ drop 3 s) (q ∙ sym (three raise s h)) }
-
-module _ {s line : List ℕ} {i : ℕ} (C : Copied s line i) (h : length s ≡ sheet_line_bytes) where
-  pub copy_more : i < sheet_line_bytes → Copied s (set line i (get_or s i 0)) (i + 1)
-  copy_more l =
-      record {
-        most = omega arith;
-        long = length-set line i (get_or s i 0) ∙ C.long;
-        front = rw add-one
-            (ap (λ (t : List ℕ). t ++ drop (suc i) s) (take-suc-set line i (get_or s i 0) (omega (arith, C.long)))
-            ∙ append_snoc (take i line) (get_or s i 0) (drop (suc i) s)
-            ∙ ap (λ (t : List ℕ). take i line ++ t) (sym (drop-cons s i 0 (omega arith)))
-            ∙ C.front);
-      }
-
-  pub copy_done : sheet_line_bytes ≤ i → line ≡ raised s
-  copy_done l =
-      let t : take i line ≡ line = take_all i line (omega (arith, C.long)) in
-      let m : length s ≤ i = omega arith in
-      let d : drop i s ≡ [] = drop_of_length-le s m in
-      sym (append-nil line) ∙ sym (λ j. t j ++ d j) ∙ C.front
+letters_raised [] h = absurd (omega arith)
+letters_raised (a ∷ []) h = absurd (omega arith)
+letters_raised (a ∷ b ∷ []) h = absurd (omega arith)
+letters_raised (a ∷ b ∷ c ∷ s) h = refl

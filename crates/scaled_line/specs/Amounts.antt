@@ -1,13 +1,13 @@
 -- The amounts of a line in the other sort of sheet, and rules 20 and 21. Document 02, #110: 'The scalar's line keeps its number; every other amount
 -- is multiplied or divided by 100,000'; 'It refuses, as number 20 with its line, an amount that isn't whole thousands, and, as number 21 with its
 -- line, one that passes 14 digits in cents, both in a line after 19'. Assumes nothing.
-use Rattle.std.specs.Prelude.{Bool, true, false, not, ℕ, ◌*◌, ◌/◌, ◌%◌, ltb, eqb}
+use Rattle.std.specs.Prelude.{Result, Ok, Err, Bool, true, false, not, ℕ, ◌*◌, ◌/◌, ◌%◌, ltb, eqb}
 use Rattle.search.specs.Pick.{pick}
 use Rattle.amount.specs.Amount.{limit}
 use Rattle.sheet_line.specs.Rules.{is_scalar}
+use Rattle.refusal.specs.declared.Rule.{Rule}
+use Rattle.refusal.specs.declared.Rule.TheVariants as rule
 use Rattle.sheet_line.specs.declared.Entry.{Entry}
-use Rattle.sheet_line.specs.declared.Line.{Line}
-use Rattle.sheet_line.specs.declared.Line.TheVariants.{Good, Refused}
 use Rattle.scaled_line.specs.declared.Scale.{Scale}
 use Rattle.scaled_line.specs.declared.Scale.TheVariants.{Cents, Thousands}
 
@@ -26,23 +26,23 @@ abbrev pub barred : Scale → ℕ → Bool
 barred Cents n = not (eqb (n % thousand_dollars) 0)
 barred Thousands n = ltb limit (n * thousand_dollars)
 
--- the number that it is refused by
-abbrev pub barred_by : Scale → ℕ
-barred_by Cents = 20
-barred_by Thousands = 21
+-- the rule that it is refused by, 20 or 21
+abbrev pub barred_by : Scale → Rule
+barred_by Cents = rule.NotWholeThousands
+barred_by Thousands = rule.ThousandsAboveLimit
 
 -- whether an entry has such an amount; the scalar's line keeps its number
 unfoldable pub has_barred : Scale → Entry → Bool
 has_barred d e = pick (of_scalar e) false (pick (barred d e.first) true (barred d e.second))
 
 -- rule 20 of a sheet in cents, rule 21 of one in thousands
-unfoldable pub rule20or21 : Scale → Entry → Line
-rule20or21 d e = pick (has_barred d e) (Refused (barred_by d)) (Good e)
+unfoldable pub rule20or21 : Scale → Entry → Result Entry Rule
+rule20or21 d e = pick (has_barred d e) (Err (barred_by d)) (Ok e)
 
 -- the last test of a line: both rules come after 19
-abbrev pub convertible : Scale → Line → Line
-convertible d (Refused r) = Refused r
-convertible d (Good e) = rule20or21 d e
+abbrev pub convertible : Scale → Result Entry Rule → Result Entry Rule
+convertible d (Err r) = Err r
+convertible d (Ok e) = rule20or21 d e
 
 -- ---- what is written
 

@@ -1,8 +1,7 @@
 -- A line of a sheet of either sort as the other sort has it (document 02, #110). Assumes nothing.
-use Rattle.std.specs.Prelude.{List, ℕ}
+use Rattle.std.specs.Prelude.{Result, Ok, Err, List, ℕ}
+use Rattle.refusal.specs.declared.Rule.{Rule}
 use Rattle.sheet_line.specs.declared.Entry.{Entry}
-use Rattle.sheet_line.specs.declared.Line.{Line}
-use Rattle.sheet_line.specs.declared.Line.TheVariants.{Good, Refused}
 use Rattle.scaled_line.specs.Scale.{other, raise, lower, print_in}
 use Rattle.scaled_line.specs.Amounts.{rescaled}
 use Rattle.scaled_line.specs.declared.Scale.{Scale}
@@ -18,6 +17,6 @@ abbrev pub other_line : Scale → Entry → List ℕ
 other_line d e = print_in (other d) (rescaled d e)
 
 -- what stands in a stretch after a line was written there in the other sort: of a bad line nothing is written
-abbrev pub other_over : Scale → Line → List ℕ → List ℕ
-other_over d (Good e) out = other_line d e
-other_over d (Refused n) out = out
+abbrev pub other_over : Scale → Result Entry Rule → List ℕ → List ℕ
+other_over d (Ok e) out = other_line d e
+other_over d (Err r) out = out

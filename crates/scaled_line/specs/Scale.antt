@@ -1,15 +1,15 @@
 -- The two sorts of sheet: lines in cents, with the code in capital letters, and 'the same lines in thousands of dollars, with the code in small
 -- letters (rsk)' (document 02, #110). There is one table of codes: a line in small letters is read with its three letters raised. Bytes are
 -- numbers: A is 65, Z is 90, a is 97, z is 122. Assumes nothing.
-use Rattle.std.specs.Prelude.{ℕ, ◌+◌, ◌-◌, List, ◌++◌, map, ltb, eqb, get_or, take, drop}
+use Rattle.std.specs.Prelude.{Result, ℕ, ◌+◌, ◌-◌, List, ◌++◌, map, ltb, eqb, get_or, take, drop}
 use Rattle.search.specs.Pick.{pick}
 use Rattle.codes.specs.Codes.{letters_of}
 use Rattle.codes.specs.declared.Code.{Code}
 use Rattle.layout.specs.Columns.{lettered}
 use Rattle.sheet_line.specs.Line.{numbers_of}
 use Rattle.sheet_line.specs.Rules.{parse_line}
+use Rattle.refusal.specs.declared.Rule.{Rule}
 use Rattle.sheet_line.specs.declared.Entry.{Entry}
-use Rattle.sheet_line.specs.declared.Line.{Line}
 use Rattle.scaled_line.specs.declared.Scale.{Scale}
 use Rattle.scaled_line.specs.declared.Scale.TheVariants.{Cents, Thousands}
 
@@ -44,9 +44,9 @@ scale_of s = pick (eqb (raise (get_or s 0 0)) 0) Cents Thousands
 unfoldable pub raised : List ℕ → List ℕ
 raised s = map raise (take 3 s) ++ drop 3 s
 
--- a line of a sheet of this sort: its entry, or the number of the first rule that turns it away. Letters of the other sort are no code: 'Mixed
+-- a line of a sheet of this sort: its entry, or the first rule that turns it away. Letters of the other sort are no code: 'Mixed
 -- capital and small codes in one sheet fall under rule 4 at the first line that differs from line 1'
-abbrev pub parse_in : Scale → List ℕ → Line
+abbrev pub parse_in : Scale → List ℕ → Result Entry Rule
 parse_in Cents s = parse_line s
 parse_in Thousands s = parse_line (raised s)
 

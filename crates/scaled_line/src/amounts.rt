@@ -7,7 +7,8 @@ ghost use Rattle.scaled_line.specs.Amounts.{of_scalar, barred, barred_by, has_ba
 use super::Scale;
 use amount::LARGEST_AMOUNT;
 use layout::Numbers;
-use sheet_line::{Entry, Line};
+use refusal::Rule;
+use sheet_line::Entry;
 
 // The cents of a thousand dollars.
 const THOUSAND_DOLLARS: u64 = 100000;
@@ -16,39 +17,33 @@ const THOUSAND_DOLLARS: u64 = 100000;
 const MOST_THOUSANDS: u64 = LARGEST_AMOUNT / THOUSAND_DOLLARS;
 
 // The last test of a line: rule 20 of a sheet in cents, rule 21 of one in thousands.
-pub fn convertible(scale: Scale, line: Line) -> Line
+#[tactic(auto, unfolding(crate::specs::Amounts::rule20or21, search::specs::Pick::pick))]
+pub fn convertible(scale: Scale, line: Result<Entry, Rule>) -> Result<Entry, Rule>
     ensures { result ≡ convertible scale line }
 {
-    let Line::Good(e) = line else {
-        return line;
-    };
+    let e = line?;
     if has_barred(scale, e) {
-        return Line::Refused(barred_by(scale));
+        return Err(barred_by(scale));
     }
-    line
+    Ok(e)
 }
 
-// The number that an amount is refused by.
-fn barred_by(scale: Scale) -> u8
+// The rule that an amount is refused by.
+fn barred_by(scale: Scale) -> Rule
     ensures { result ≡ barred_by scale }
 {
     match scale {
-        Scale::Cents => 20,
-        Scale::Thousands => 21,
+        Scale::Cents => Rule::NotWholeThousands,
+        Scale::Thousands => Rule::ThousandsAboveLimit,
     }
 }
 
-// Whether an entry has an amount that the other sort of sheet can't have.
+// Whether an entry has an amount that the other sort of sheet can't have; the scalar's line keeps its number.
+#[tactic(auto, unfolding(crate::specs::Amounts::has_barred, search::specs::Pick::pick))]
 fn has_barred(scale: Scale, e: Entry) -> bool
     ensures { result ≡ has_barred scale e }
 {
-    if of_scalar(e) {
-        return false;
-    }
-    if barred(scale, e.first) {
-        return true;
-    }
-    barred(scale, e.second)
+    !of_scalar(e) && (barred(scale, e.first) || barred(scale, e.second))
 }
 
 // Whether an amount isn't whole thousands; or one of thousands has more than 14 digits in cents.

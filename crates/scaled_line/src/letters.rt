@@ -26,14 +26,10 @@ pub(crate) fn raised(s: &[u8]) -> [u8; SHEET_LINE_BYTES]
     ensures { result ≡ raised s.now }
 {
     let mut line = [0u8; SHEET_LINE_BYTES];
+    line.copy_from_slice(s);
     line[0] = raise(s[0]);
     line[1] = raise(s[1]);
     line[2] = raise(s[2]);
-    let mut i = 3;
-    while i < SHEET_LINE_BYTES {
-        line[i] = s[i];
-        i += 1;
-    }
     line
 }
 
@@ -49,27 +45,25 @@ pub(crate) fn other_letters(scale: Scale, s: &[u8]) -> [u8; 3]
 }
 
 // The capital of a small letter, 0 for any other byte.
+//
+// Kept: by its own range and not by the library's method, which leaves any other byte as it is; one function for both ways would be no plainer.
+#[tactic(auto, unfolding(crate::specs::Scale::raise, search::specs::Pick::pick))]
 fn raise(b: u8) -> u8
     ensures { result ≡ raise b }
 {
-    if b < b'a' {
-        return 0;
+    match b {
+        b'a'..=b'z' => b - 32,
+        _ => 0,
     }
-    if b'z' < b {
-        return 0;
-    }
-    b - 32
 }
 
 // The small letter of a capital, 0 for any other byte.
+#[tactic(auto, unfolding(crate::specs::Scale::lower, search::specs::Pick::pick))]
 fn lower(b: u8) -> u8
     ensures { result ≡ lower b }
 {
-    if b < b'A' {
-        return 0;
+    match b {
+        b'A'..=b'Z' => b + 32,
+        _ => 0,
     }
-    if b'Z' < b {
-        return 0;
-    }
-    b + 32
 }

@@ -12,7 +12,8 @@ ghost use Rattle.layout.specs.Columns.{sheet_line_bytes};
 ghost use Rattle.scaled_line.specs.Scale.{parse_in};
 ghost use Rattle.scaled_line.specs.Other.{other_over};
 
-use sheet_line::Line;
+use refusal::Rule;
+use sheet_line::Entry;
 
 // The sort of a sheet, by what its amounts count.
 #[derive(Clone, Copy)]
@@ -22,7 +23,7 @@ pub enum Scale {
 }
 
 // Reads a line of a sheet of this sort: one in small letters as that with its letters raised.
-pub fn read_in(scale: Scale, s: &[u8]) -> Line
+pub fn read_in(scale: Scale, s: &[u8]) -> Result<Entry, Rule>
     requires { length s.now ≡ sheet_line_bytes }
     ensures { result ≡ parse_in scale s.now }
 {
@@ -40,13 +41,11 @@ pub fn write_other(scale: Scale, s: &[u8], out: &mut [u8])
     requires { (length s.now ≡ sheet_line_bytes) × (length out.old ≡ sheet_line_bytes) }
     ensures { out.new ≡ other_over scale (parse_in scale s.now) out.old }
 {
-    let read = read_in(scale, s);
-    let Line::Good(e) = read else {
-        return;
-    };
-    sheet_writer::write_lettered(
-        out,
-        letters::other_letters(scale, s),
-        amounts::rescaled(scale, e),
-    );
+    if let Ok(e) = read_in(scale, s) {
+        sheet_writer::write_lettered(
+            out,
+            letters::other_letters(scale, s),
+            amounts::rescaled(scale, e),
+        );
+    }
 }

@@ -1,7 +1,7 @@
 -- The margins as a loop finds them: none of the first is negative, each is listed, and they are added up. None is above K, so ten of them fit a
 -- word. Assumes nothing.
-use mathlib.Core.Path.{◌≡◌, sym, ◌∙◌}
-use mathlib.Core.Bool.{true, false, true≢false}
+use mathlib.Core.Path.{◌≡◌, ◌∙◌}
+use mathlib.Core.Bool.{true, false}
 use mathlib.Core.List.{List}
 use Prim.Native.Nat.{ℕ, suc, ◌+◌, ◌-◌, ◌*◌, ◌^◌, ◌≤◌, ◌<◌}
 use native.Mathlib.Numerals.{add-one}
@@ -18,7 +18,7 @@ use Rattle.guideline.specs.Sizes.{parts}
 use Rattle.guideline.specs.Block.{K, AcceptedBlock}
 use Rattle.guideline.proofs.Figures.{u_fits, k_high}
 use Rattle.shares.specs.Margins.{k_without, negative, margin}
-use Rattle.shares.specs.Steps.{MarginsOf}
+use Rattle.shares.specs.Steps.{AllMargins}
 
 -- what holds when the first i margins are found
 pub record FoundTo (b l : List ℕ) (sum i : ℕ) : Type 0 where
@@ -47,14 +47,10 @@ module _ (b : List ℕ) where
     less_is = rw add-one at f
 
     -- the next one is negative
-    pub found_negative : (each : List ℕ) (n : ℕ) → k < less → MarginsOf b each n true
-    found_negative each n t =
+    pub found_negative : k < less → any_to (negative b) parts ≡ true
+    found_negative t =
         let d : any_to (negative b) (suc i) ≡ true = next_decides (negative b) i s.none ∙ lt-ltb (K b) (k_without b (suc i)) (omega (arith, less_is)) in
-        record {
-          some_is = sym (goes_on (negative b) (suc i) parts (omega arith) d);
-          each_is = λ z. absurd (true≢false z);
-          sum_is = λ z. absurd (true≢false z);
-        }
+        goes_on (negative b) (suc i) parts (omega arith) d
 
     -- or it is not
     module _ (t : less ≤ k) where
@@ -73,11 +69,11 @@ module _ (b : List ℕ) where
             sum_is = next_sum;
           }
 
-  pub found_all : (l : List ℕ) (sum i : ℕ) → parts ≤ i → FoundTo b l sum i → MarginsOf b l sum false
+  pub found_all : (l : List ℕ) (sum i : ℕ) → parts ≤ i → FoundTo b l sum i → AllMargins b l sum
   found_all l sum i h s =
       let e : i ≡ parts = omega (arith, s.listed.within) in
       record {
-        some_is = sym (rw e at s.none);
-        each_is = λ z. listed_all _ _ _ _ h s.listed;
-        sum_is = λ z. rw e at s.sum_is;
+        none_negative = rw e at s.none;
+        each_is = listed_all _ _ _ _ h s.listed;
+        sum_is = rw e at s.sum_is;
       }

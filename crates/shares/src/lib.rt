@@ -9,9 +9,8 @@ ghost use Rattle.shares.specs.Call.{stated, shares_call, rule23};
 ghost use Rattle.shares.specs.Accepted.{SharesDemand};
 ghost use Rattle.shares.specs.Steps.{MarginsOf};
 
-use block::BlockAnswer;
 use guideline::{BLOCK_NUMBERS, PARTS, RISKS};
-use refusal::Place;
+use refusal::{Place, Refusal, Rule};
 
 // The share of each part, in cents.
 #[derive(Clone, Copy)]
@@ -28,50 +27,38 @@ pub struct Shares {
     pub market: u64,
 }
 
-// What the shares call gives: the shares, or the number and the place of a refusal.
-#[derive(Clone, Copy)]
-pub enum SharesAnswer {
-    Accepted(Shares),
-    Refused(u8, Place),
-}
-
-// The margins of the parts and their sum, where none is negative.
+// The margins of the parts, and their sum.
 #[derive(Clone, Copy)]
 struct Found {
     each: [u64; PARTS],
     sum: u64,
-    negative: bool,
 }
 
 // The shares of a block of any 17 numbers: seven pairs IR, LT, then PC, credit, market. Where it is accepted, they total K, and each is
 // within a cent of its unrounded share.
-pub fn shares_call(b: &[u64; BLOCK_NUMBERS]) -> SharesAnswer
+pub fn shares_call(b: &[u64; BLOCK_NUMBERS]) -> Result<Shares, Refusal>
     ensures outcome { stated result ≡ shares_call b.now }
     ensures shares_demand { SharesDemand b.now (stated result) }
 {
-    let answer = block::block_call(b);
-    match answer {
-        BlockAnswer::Accepted(f, _) => rule_23(b, f.k),
-        BlockAnswer::Refused(number, place) => SharesAnswer::Refused(number, place),
-    }
+    let worked = block::block_call(b)?;
+    rule_23(b, worked.figures.k)
 }
 
 // The shares of a block that rules 7, 8 and 9 let pass, with its K; or rule 23.
-fn rule_23(b: &[u64; BLOCK_NUMBERS], k: u64) -> SharesAnswer
+fn rule_23(b: &[u64; BLOCK_NUMBERS], k: u64) -> Result<Shares, Refusal>
     requires { AcceptedBlock b.now × (k ≡ K b.now) }
     ensures { stated result ≡ rule23 b.now }
 {
-    let found = margins_of(b, k);
-    if found.negative {
-        return SharesAnswer::Refused(23, Place::Nowhere);
-    }
+    let Some(found) = margins_of(b, k) else {
+        return Err(Refusal(Rule::NoShares, Place::Nowhere));
+    };
     let sum = found.sum;
     if sum == 0 {
-        return SharesAnswer::Refused(23, Place::Nowhere);
+        return Err(Refusal(Rule::NoShares, Place::Nowhere));
     }
     let margins = found.each;
     let s = apportion::shared_out(k, &margins, sum);
-    SharesAnswer::Accepted(Shares {
+    Ok(Shares {
         risk1: s[0],
         risk2: s[1],
         risk3: s[2],
@@ -85,32 +72,22 @@ fn rule_23(b: &[u64; BLOCK_NUMBERS], k: u64) -> SharesAnswer
     })
 }
 
-// The margins, up to the first that is negative: the block is not worked out again after it.
-fn margins_of(b: &[u64; BLOCK_NUMBERS], k: u64) -> Found
+// The margins, where none is negative: the block is not worked out again after the first that is.
+fn margins_of(b: &[u64; BLOCK_NUMBERS], k: u64) -> Option<Found>
     requires { AcceptedBlock b.now × (k ≡ K b.now) }
-    ensures { MarginsOf b.now result.each result.sum result.negative }
+    ensures { MarginsOf b.now result }
 {
     let mut each = [0u64; PARTS];
     let mut sum = 0u64;
-    let mut part = 0;
-    while part < PARTS {
+    for part in 0..PARTS {
         let less = k_without(b, part + 1);
         if k < less {
-            return Found {
-                each,
-                sum,
-                negative: true,
-            };
+            return None;
         }
         each[part] = k - less;
         sum += k - less;
-        part += 1;
     }
-    Found {
-        each,
-        sum,
-        negative: false,
-    }
+    Some(Found { each, sum })
 }
 
 // K with the amounts of a part, from 1 to 10, zero.

@@ -64,6 +64,11 @@ row_behind rows k ys h e =
     let a : row_numbers * k + row_numbers ≡ row_numbers * (k + 1) = omega arith in
     rw (← a) (behind (part (from_front {P = take (row_numbers * k) rows} refl (omega arith)) row_numbers ys h e))
 
+-- what is known of two stretches of blocks, where one of the two is barred
+pub joined_is : (w more : Worked) (b : Bool) → b ≡ pick w.barred true more.barred
+    → ◌≡◌ {A = Worked} (record { count = w.count + more.count; sum = w.sum + more.sum; dividends = w.dividends + more.dividends; barred = b }) (join w more)
+joined_is w more b e = rw e
+
 pub none : (es : List Entry) (rows : List ℕ) → length rows ≡ table_numbers → WorkedOut es 0 (record { count = 0; sum = 0; dividends = 0; barred = false }) rows
 unfolding blocks_to rows_to ascending sum_k sum_to any_to
 none es rows h = record { count = refl; sum = refl; dividends = refl; barred = refl; front = refl; long = h }

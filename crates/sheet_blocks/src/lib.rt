@@ -1,21 +1,22 @@
-// The blocks of a sheet worked out off the tables that hold its lines: a row of figures for each, the sum of their K and of their dividend credits.
+// The blocks of a sheet worked out off the ledger that holds its lines: a row of figures for each, the sum of their K and of their dividend credits.
 #![tactic(auto)]
 
-ghost use Rattle.std.specs.Prelude.{◌≡◌, Bool, ◌∷◌, ◌+◌, ◌-◌, ◌^◌, ◌≤◌, ◌<◌, length};
+ghost use Rattle.std.specs.Prelude.{◌≡◌, ◌∷◌, ◌+◌, ◌-◌, ◌^◌, ◌≤◌, ◌<◌, length};
 ghost use borrow.Rule.Slice.PartMut.{put_mid};
-ghost use Rattle.search.specs.Pick.{pick};
 ghost use Rattle.guideline.specs.Sizes.{blocks, row_numbers, table_numbers};
 ghost use Rattle.figures.specs.Parts.{figure_list};
-ghost use Rattle.ledger.specs.Tables.{Ledger, OfLines};
+ghost use Rattle.ledger.specs.Lines.{OfLines};
 ghost use Rattle.credits.specs.Credits.{Credited};
 ghost use Rattle.sheet_blocks.specs.Steps.{join, WorkedOut, RestKept};
 
 use figures::Figures;
 use guideline::{BLOCKS, NON_PARTICIPATING, ROW_NUMBERS};
-use order::PLACES;
+use ledger::Ledger;
 
 // What is known of the blocks up to some number: how many exist, the sum of their K, the sum of their dividend credits, and whether rule 17
 // bars one of these.
+// Kept: a flag beside the sums, since a Result or an Option would drop the promise of the sums and rows of a barred sheet's blocks, and be no
+// plainer.
 #[derive(Clone, Copy)]
 pub struct Worked {
     pub count: usize,
@@ -25,17 +26,10 @@ pub struct Worked {
 }
 
 // The rows of the blocks that exist, ascending, from the table's front on; behind them the table is as it was.
-pub fn work_out(
-    firsts: &[u64; PLACES],
-    seconds: &[u64; PLACES],
-    marks: &[u8; PLACES],
-    credits: &[u64; NON_PARTICIPATING],
-    rows: &mut [u64],
-) -> Worked
-    requires ledger { Ledger firsts.now seconds.now marks.now }
-    requires credited { OfLines firsts.now seconds.now marks.now (λ es. Credited es credits.now) }
+pub fn work_out(ledger: &Ledger, credits: &[u64; NON_PARTICIPATING], rows: &mut [u64]) -> Worked
+    requires credited { OfLines ledger.now (λ es. Credited es credits.now) }
     requires room { length rows.old ≡ table_numbers }
-    ensures worked_out { OfLines firsts.now seconds.now marks.now (λ es. WorkedOut es blocks result rows.new) }
+    ensures worked_out { OfLines ledger.now (λ es. WorkedOut es blocks result rows.new) }
     ensures rest_kept { RestKept result.count rows.old rows.new }
 {
     let mut w = Worked {
@@ -44,42 +38,37 @@ pub fn work_out(
         dividends: 0,
         barred: false,
     };
-    let mut block: usize = 0;
-    while block < BLOCKS {
-        block += 1;
-        w = work_block(firsts, seconds, marks, credits, rows, block, w);
+    for i in 0..BLOCKS {
+        w = work_block(ledger, credits, rows, i + 1, w);
     }
     w
 }
 
 // One block more: what is known of the blocks before it becomes what is known with it.
 fn work_block(
-    firsts: &[u64; PLACES],
-    seconds: &[u64; PLACES],
-    marks: &[u8; PLACES],
+    ledger: &Ledger,
     credits: &[u64; NON_PARTICIPATING],
     rows: &mut [u64],
     block: usize,
     w: Worked,
 ) -> Worked
     requires block_number { (1 ≤ block) × (block ≤ blocks) }
-    requires ledger { Ledger firsts.now seconds.now marks.now }
-    requires credited { OfLines firsts.now seconds.now marks.now (λ es. Credited es credits.now) }
-    requires worked_before { OfLines firsts.now seconds.now marks.now (λ es. WorkedOut es (block - 1) w rows.old) }
-    ensures worked_out { OfLines firsts.now seconds.now marks.now (λ es. WorkedOut es block result rows.new) }
+    requires credited { OfLines ledger.now (λ es. Credited es credits.now) }
+    requires worked_before { OfLines ledger.now (λ es. WorkedOut es (block - 1) w rows.old) }
+    ensures worked_out { OfLines ledger.now (λ es. WorkedOut es block result rows.new) }
     ensures rest_kept { (w.count ≤ result.count) × RestKept result.count rows.old rows.new }
 {
-    let dividend = credits::dividend_credit(firsts, seconds, marks, block);
-    if !order::block_exists(marks, block) {
+    let dividend = credits::dividend_credit(ledger, block);
+    if !ledger.block_exists(block) {
         let absent = Worked {
             count: 0,
             sum: 0,
             dividends: dividend,
-            barred: credits::has_dividend(firsts, seconds, marks, block),
+            barred: credits::has_dividend(ledger, block),
         };
         return joined(w, absent);
     }
-    let numbers = credits::numbers_after_credit(firsts, seconds, marks, credits, block);
+    let numbers = credits::numbers_after_credit(ledger, credits, block);
     let f = figures::figures_of(&numbers);
     store(rows, ROW_NUMBERS * w.count, block, f);
     let present = Worked {
@@ -96,23 +85,12 @@ fn joined(w: Worked, more: Worked) -> Worked
     requires { (w.count + more.count < 2 ^ 64) × (w.sum + more.sum < 2 ^ 64) × (w.dividends + more.dividends < 2 ^ 64) }
     ensures { result ≡ join w more }
 {
-    let barred = either(w.barred, more.barred);
     Worked {
         count: w.count + more.count,
         sum: w.sum + more.sum,
         dividends: w.dividends + more.dividends,
-        barred,
+        barred: w.barred || more.barred,
     }
-}
-
-// Whether one of two things is so.
-fn either(one: bool, other: bool) -> bool
-    ensures { result ≡ pick one Bool.true other }
-{
-    if one {
-        return true;
-    }
-    other
 }
 
 // A block's row, from a place of the table on.

@@ -1,19 +1,17 @@
 -- What is said of a sheet among others: document 02, #114, 'prints for each its buffer .. or its REF line'. It is judged by every rule but 14, and the
 -- buffer is that of its report. Assumes nothing.
-use Rattle.std.specs.Prelude.{[], ◌∷◌, ℕ, ◌*◌}
-use Rattle.refusal.specs.Outcome.{Outcome}
+use Rattle.std.specs.Prelude.{Result, [], ◌∷◌, ℕ, ◌*◌}
+use Rattle.refusal.specs.Outcome.{Outcome, stated_by}
 use Rattle.refusal.specs.Outcome.Outcome.{accepted, refused}
+use Rattle.refusal.specs.declared.Refusal.{Refusal}
 use Rattle.guideline.specs.Buffer.{buffer, most_available}
 use Rattle.judgement.specs.Sheet.{sheet_of}
 use Rattle.judgement.specs.Judgement.{Judgement}
 use Rattle.judgement.specs.Judgement.Judgement.{turned_away, sound}
-use Rattle.sheet_buffer.specs.declared.BufferAnswer.{BufferAnswer}
-use Rattle.sheet_buffer.specs.declared.BufferAnswer.TheVariants.{Accepted, Refused}
 
--- what the enum's cases say: the buffer, or the refusal's number and place
-abbrev pub stated : BufferAnswer → Outcome
-stated (Accepted b) = accepted (b ∷ [])
-stated (Refused n p) = refused n p
+-- what the answer says: the buffer, or the refusal's number and place
+abbrev pub stated : Result ℕ Refusal → Outcome
+stated = stated_by (λ b. b ∷ [])
 
 -- of a judged sheet
 unfoldable pub buffer_of : Judgement → Outcome

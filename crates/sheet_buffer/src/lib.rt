@@ -6,28 +6,16 @@ ghost use Rattle.judgement.specs.Judgement.{judgement};
 ghost use Rattle.sheet_buffer.specs.Answer.{stated, buffer_of};
 
 use guideline::TABLE_NUMBERS;
-use judgement::Verdict;
-use order::PLACES;
-use refusal::Place;
+use ledger::Ledger;
+use refusal::Refusal;
 
-// The buffer of an accepted sheet, or the refusal's number and place.
-#[derive(Clone, Copy)]
-pub enum BufferAnswer {
-    Accepted(u64),
-    Refused(u8, Place),
-}
-
-// A sheet of any bytes. The tables that judging needs are its own.
-pub fn buffer_of(sheet: &[u8]) -> BufferAnswer
+// The buffer of an accepted sheet, or the rule that refuses it, with its place. The ledger and the table of rows that judging needs are its own.
+pub fn buffer_of(sheet: &[u8]) -> Result<u64, Refusal>
     ensures { stated result ≡ buffer_of (judgement sheet.now) }
 {
-    let mut firsts = [0u64; PLACES];
-    let mut seconds = [0u64; PLACES];
-    let mut marks = [0u8; PLACES];
+    let mut ledger = Ledger::new();
     let mut rows = [0u64; TABLE_NUMBERS];
-    let verdict = judgement::judge(sheet, &mut firsts, &mut seconds, &mut marks, &mut rows);
-    match verdict {
-        Verdict::TurnedAway(rule, place) => BufferAnswer::Refused(rule, place),
-        Verdict::Sound(t) => BufferAnswer::Accepted(t.buffer),
-    }
+    let verdict = judgement::judge(sheet, &mut ledger, &mut rows);
+    let totals = verdict?;
+    Ok(totals.buffer)
 }

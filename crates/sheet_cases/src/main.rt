@@ -5,8 +5,7 @@
 
 ghost use Rattle.std.specs.Prelude.{◌<◌};
 
-use printing::RoomAnswer;
-use refusal::Place;
+use refusal::Refusal;
 use report::LONGEST_REPORT;
 use report_line::REPORT_LINE_BYTES;
 use sheet_length::LONGEST_SHEET;
@@ -38,16 +37,14 @@ fn main(rt: HostRuntime) {
         let Some(h) = next_case(&mut input) else {
             return;
         };
-        one(&rt, &mut input, h.length, h.lent);
+        one(&rt, &mut input, h);
     }
 }
 
 // The header of the next case; none at the end of the input.
 fn next_case<R: Read>(input: &mut R) -> Option<Header> {
     let mut text = [0u8; HEADER];
-    if input.read_exact(&mut text).is_err() {
-        return None;
-    }
+    input.read_exact(&mut text).ok()?;
     Some(Header {
         length: number(&text, 0),
         lent: number(&text, 6),
@@ -73,68 +70,37 @@ fn digit(text: &[u8], at: usize) -> usize
     if text.len() <= at {
         return 0;
     }
-    decimal(text[at]) % 10
+    usize::from(text[at].saturating_sub(b'0')) % 10
 }
 
-// A digit's byte, so that its remainder by 10 is the digit.
-fn decimal(b: u8) -> usize {
-    if b < 48 { 0 } else { (b - 48) as usize }
-}
-
-// One case.
-fn one<R: Read>(rt: &impl Print, input: &mut R, length: usize, lent: usize) {
+// One case, where the program has room for its sheet and for the report.
+fn one<R: Read>(rt: &impl Print, input: &mut R, h: Header) {
     let mut sheet = [0u8; SHEET_ROOM];
     let mut room = [b'#'; REPORT_ROOM];
-    run(rt, input, &mut sheet[..], length, &mut room[..], lent);
+    if h.length <= SHEET_ROOM && h.lent <= REPORT_ROOM {
+        run(rt, input, &mut sheet[0..h.length], &mut room[0..h.lent]);
+    }
 }
 
 // Reads the sheet, calls, and writes answer and room.
-fn run<R: Read>(
-    rt: &impl Print,
-    input: &mut R,
-    sheet: &mut [u8],
-    length: usize,
-    room: &mut [u8],
-    lent: usize,
-) {
-    if sheet.len() < length {
+fn run<R: Read>(rt: &impl Print, input: &mut R, sheet: &mut [u8], room: &mut [u8]) {
+    if input.read_exact(sheet).is_err() {
         return;
     }
-    if room.len() < lent {
-        return;
-    }
-    if input.read_exact(&mut sheet[0..length]).is_err() {
-        return;
-    }
-    let answer = aggregate::sheet_call(&sheet[0..length], &mut room[0..lent]);
+    let answer = aggregate::sheet_call(sheet, room);
     tell(rt, answer);
-    show(rt, room, lent);
-    show(rt, b"\n", 1);
+    show(rt, room);
+    show(rt, b"\n");
 }
 
 // The answer in the form of a report line: ACC and the length, or REF, the number, the kind of the place and the place.
-fn tell(rt: &impl Print, answer: RoomAnswer) {
+fn tell(rt: &impl Print, answer: Result<usize, Refusal>) {
     match answer {
-        RoomAnswer::Accepted(n) => {
-            line(rt, *b"ACC", 0, 0, cast::word(n));
+        Ok(length) => line(rt, *b"ACC", 0, 0, cast::word(length)),
+        Err(Refusal(rule, place)) => {
+            let at: [u64; 2] = place.into();
+            line(rt, *b"REF", rule.number(), at[0], at[1]);
         }
-        RoomAnswer::Refused(n, p) => match p {
-            Place::Line(at) => {
-                line(rt, *b"REF", cast::byte(n), 1, cast::word(at));
-            }
-            Place::Position(at) => {
-                line(rt, *b"REF", cast::byte(n), 2, cast::word(at));
-            }
-            Place::Risk(at) => {
-                line(rt, *b"REF", cast::byte(n), 3, cast::word(at));
-            }
-            Place::Sheet(at) => {
-                line(rt, *b"REF", cast::byte(n), 4, cast::word(at));
-            }
-            Place::Nowhere => {
-                line(rt, *b"REF", cast::byte(n), 0, 0);
-            }
-        },
     }
 }
 
@@ -142,12 +108,10 @@ fn tell(rt: &impl Print, answer: RoomAnswer) {
 fn line(rt: &impl Print, code: [u8; 3], block: u64, item: u64, number: u64) {
     let mut text = [0u8; REPORT_LINE_BYTES];
     report_line::write_line(&mut text, code, block, item, number);
-    show(rt, &text, REPORT_LINE_BYTES);
+    show(rt, &text);
 }
 
-// The first n bytes of a text.
-fn show(rt: &impl Print, text: &[u8], n: usize) {
-    if n <= text.len() {
-        let _ = rt.write_all(&text[0..n]);
-    }
+// A text.
+fn show(rt: &impl Print, text: &[u8]) {
+    let _ = rt.write_all(text);
 }

@@ -12,6 +12,7 @@ use Rattle.sheet_line.specs.declared.Entry.{Entry}
 use Rattle.judgement.specs.Judgement.{judgement, findings}
 use Rattle.judgement.specs.Judgement.Judgement.{sound}
 use Rattle.judgement.specs.Judgement.Findings.{figures}
+use Rattle.ledger.specs.declared.Ledger.{Ledger}
 use Rattle.judgement.specs.Steps.{LinesOf}
 use Rattle.judgement.proofs.Accepted.{sound_passed}
 use Rattle.judgement.proofs.Alike.{sound_ascending}
@@ -32,9 +33,9 @@ use Rattle.sheet_check.specs.Walk.{walked_call}
 -- ---- the call's answers
 
 module _ (s r : List ℕ) where
-  pub walks : (n : ℕ) (rows : List ℕ) (sum ro x : ℕ) → figures n rows sum ro x ≡ findings (judgement s) → (f g m : List ℕ) → LinesOf (judgement s) f g m
-      → walked_call f g r ≡ check_call s r
-  walks n rows sum ro x e f g m H =
+  pub walks : (n : ℕ) (rows : List ℕ) (sum ro x : ℕ) → figures n rows sum ro x ≡ findings (judgement s) → (l : Ledger) → LinesOf (judgement s) l
+      → walked_call l.firsts l.seconds r ≡ check_call s r
+  walks n rows sum ro x e t H =
       let w = findings_figures (judgement s) e in
       let es = w.0 in
       of_lines listing s r w.1

@@ -1,13 +1,13 @@
 -- The listing as it is counted and written, a line that can need another at a time. Assumes nothing.
 use borrow.Rule.Slice.PartMut.{put_mid}
+use Rattle.std.specs.Prelude.{Some, None}
 use mathlib.Core.Path.{◌≡◌, refl, sym, ap, ◌∙◌}
 use mathlib.Core.Bool.{Bool, true, false}
 use mathlib.Core.List.{List, [], ◌∷◌, ◌++◌}
-use Prim.Native.Nat.{ℕ, zero, suc, ◌+◌, ◌-◌, ◌*◌, ◌≤◌, ◌<◌}
-use native.Mathlib.Numerals.{add-one}
+use Prim.Native.Nat.{ℕ, zero, suc, ◌+◌, ◌-◌, ◌*◌, ◌≤◌}
 use native.Mathlib.Decide.{ℕ_discrete}
 use native.Mathlib.Omega.{arith}
-use lib.ListN.{length, drop, length-append, take-append-drop}
+use lib.ListN.{length, length-append, take-append-drop}
 use Rattle.search.specs.Pick.{pick}
 use Rattle.search.specs.Ascending.{ascending}
 use Rattle.search.proofs.Picks.{if_true, if_false, never}
@@ -18,7 +18,6 @@ use Rattle.needs.specs.Needs.{need_of}
 use Rattle.needs.specs.Listing.{listed_bytes, listed_line, listed_for}
 use Rattle.needs.specs.Needing.{most_listed, needing, line_at}
 use Rattle.needs.specs.declared.Label.{Label}
-use Rattle.needs.specs.declared.Need.TheVariants.{Nothing, Companion}
 use Rattle.needs.proofs.Gathered.{has_companion, unmet_long}
 use Rattle.sheet_check.specs.Walk.{unmet_at, walked_to, walked, counted_to, one_at, PutAt}
 
@@ -39,7 +38,7 @@ module _ (f s : List ℕ) where
   -- ---- a line for each that is counted
 
   -- an unmet need has a companion
-  companion : (n : ℕ) → unmet_at f s n ≡ true → (m : Label) × (need_of (needing n) ≡ Companion m)
+  companion : (n : ℕ) → unmet_at f s n ≡ true → (m : Label) × (need_of (needing n) ≡ Some m)
   companion n t = has_companion (tabled f) _ _ (needing n) t
 
   line_long : (n : ℕ) → unmet_at f s n ≡ true → length (line_at n) ≡ listed_bytes
@@ -73,13 +72,13 @@ module _ (f s : List ℕ) where
     pub none_put : unmet_at f s n ≡ false → PutAt (one_at f s n) at room at room
     none_put t = rw (if_false (line_at n) {y = []} t) (record { behind = omega arith; holds = sym (take-append-drop at room) })
 
-    pub never_nothing : unmet_at f s n ≡ true → need_of (needing n) ≡ Nothing → {A : Type 0} → A
+    pub never_nothing : unmet_at f s n ≡ true → need_of (needing n) ≡ None → {A : Type 0} → A
     never_nothing t q = let m = companion n t in never (cc)
 
     pub one_long : unmet_at f s n ≡ true → length (one_at f s n) ≡ listed_bytes
     one_long t = ap length (if_true [] t) ∙ line_long n t
 
-    pub one_put : unmet_at f s n ≡ true → {l m : Label} → l ≡ needing n → need_of (needing n) ≡ Companion m → {ys : List ℕ} → ys ≡ listed_line l m
+    pub one_put : unmet_at f s n ≡ true → {l m : Label} → l ≡ needing n → need_of (needing n) ≡ Some m → {ys : List ℕ} → ys ≡ listed_line l m
         → PutAt (one_at f s n) at room (at + listed_bytes) (put_mid at (at + listed_bytes - at) room ys)
     one_put t {l} {m} e q {ys} y =
         let o : one_at f s n ≡ ys = if_true [] t ∙ ap (listed_for (needing n)) q ∙ ap (λ (x : Label). listed_line x m) (sym e) ∙ sym y in
@@ -87,21 +86,21 @@ module _ (f s : List ℕ) where
         record { behind = omega (arith, one_long t); holds = rw (k, ← o) }
 
   -- one more in order
-  next_one : (n : ℕ) → walked_to f s (n + 1) ≡ walked_to f s n ++ one_at f s (n + 1)
+  next_one : (n : ℕ) → 1 ≤ n → walked_to f s n ≡ walked_to f s (n - 1) ++ one_at f s n
   unfolding ascending
-  next_one n = rw (add-one n) refl
+  next_one zero h = absurd (omega arith)
+  next_one (suc n) h = let e : suc n - 1 ≡ n = omega arith in rw e
 
-  module _ {room₀ room : List ℕ} {at : ℕ} (n : ℕ) (w : Wrote room₀ at (walked_to f s n) room) where
+  module _ {room₀ room : List ℕ} {at : ℕ} (n : ℕ) (h : 1 ≤ n) (w : Wrote room₀ at (walked_to f s (n - 1)) room) where
     -- the room that is left has a line's bytes
-    pub room_left : n < most_listed → length (walked f s) ≤ length room₀ → at + length (one_at f s (n + 1)) ≤ length room
-    room_left h l =
-        let m = ap length (next_one n) ∙ length-append (walked_to f s n) (one_at f s (n + 1)) in
-        omega (arith, m, w.count, w.long, walked_most (n + 1) most_listed (omega arith))
+    pub room_left : n ≤ most_listed → length (walked f s) ≤ length room₀ → at + length (one_at f s n) ≤ length room
+    room_left k l =
+        let m = ap length (next_one n h) ∙ length-append (walked_to f s (n - 1)) (one_at f s n) in
+        omega (arith, m, w.count, w.long, walked_most n most_listed k)
 
-    pub next_put : {next : ℕ} {room' : List ℕ} → at + length (one_at f s (n + 1)) ≤ length room → PutAt (one_at f s (n + 1)) at room next room'
-        → Wrote room₀ next (walked_to f s (n + 1)) room'
-    next_put h p = let one = one_at f s (n + 1) in rw (p.behind, p.holds, next_one n) (part w (length one) one (omega (arith, h, w.long)) refl)
-
--- a text that was written is as long as the place behind it says
-pub all_put : {room₀ room t : List ℕ} {at : ℕ} → Wrote room₀ at t room → room ≡ t ++ drop (length t) room₀
-all_put {room₀} {room} {t} w = w.text ∙ ap (λ (k : ℕ). t ++ drop k room₀) (sym w.count)
+    pub next_put : {next : ℕ} {room' : List ℕ} → at + length (one_at f s n) ≤ length room → PutAt (one_at f s n) at room next room'
+        → Wrote room₀ next (walked_to f s (n + 1 - 1)) room'
+    next_put k p =
+        let one = one_at f s n in
+        let e : n + 1 - 1 ≡ n = omega arith in
+        rw (e, p.behind, p.holds, next_one n h) (part w (length one) one (omega (arith, k, w.long)) refl)

@@ -12,7 +12,7 @@ use guideline::{
     ADJUSTABLE_PRODUCTS, BLOCKS, NON_PARTICIPATING, PARTICIPATING, TERRITORIES, VOLUME_PAIRS,
 };
 use layout::SHEET_LINE_BYTES;
-use refusal::Place;
+use refusal::{Place, Refusal, Rule};
 
 // The lines that a sheet can have, one for each code, block and class.
 pub const MOST_LINES: usize = BLOCKS * (RISK_CLASSES + OTHER_CLASSES)
@@ -26,26 +26,19 @@ pub const MOST_LINES: usize = BLOCKS * (RISK_CLASSES + OTHER_CLASSES)
 // The bytes of that many lines.
 pub const LONGEST_SHEET: usize = SHEET_LINE_BYTES * MOST_LINES;
 
-// A sheet of whole lines, and no more of them than there can be; or the rule that turns it away, with its place.
-#[derive(Clone, Copy)]
-pub enum Length {
-    Whole,
-    Refused(u8, Place),
-}
-
-// Measures a sheet of any bytes. One that rule 2 turns away is told its first whole line with a broken layout, if there is one.
-pub fn measure(sheet: &[u8]) -> Length
+// Measures a sheet of any bytes: whole lines, and no more of them than there can be, or the rule that turns it away. One that rule 2 turns away is told its first whole line with a broken layout, if there is one.
+pub fn measure(sheet: &[u8]) -> Result<(), Refusal>
     ensures { result ≡ measured sheet.now }
 {
     if LONGEST_SHEET < sheet.len() {
-        return Length::Refused(1, Place::Nowhere);
+        return Err(Refusal(Rule::SheetTooLong, Place::Nowhere));
     }
     if sheet.len() % SHEET_LINE_BYTES == 0 {
-        return Length::Whole;
+        return Ok(());
     }
     let kept = layout::lines_kept(sheet);
     if kept < sheet.len() / SHEET_LINE_BYTES {
-        return Length::Refused(3, Place::Line(kept + 1));
+        return Err(Refusal(Rule::BrokenLayout, Place::Line(kept + 1)));
     }
-    Length::Refused(2, Place::Nowhere)
+    Err(Refusal(Rule::NotWholeLines, Place::Nowhere))
 }

@@ -1,5 +1,6 @@
 -- What a line that no rule turns away guarantees: of its entry what each rule's test leaves, the rules one after the other, and of its columns that
 -- they hold the entry's code and numbers. Assumes nothing.
+use Rattle.std.specs.Prelude.{Option, Some, None, Result, Ok}
 use mathlib.Core.Path.{◌≡◌, refl, sym, ◌∙◌, subst}
 use mathlib.Core.List.{List}
 use mathlib.Core.Bool.{false}
@@ -15,13 +16,10 @@ use Rattle.layout.proofs.Laid.{kept_amounts}
 use Rattle.sheet_line.specs.Line.{numbers_of}
 use Rattle.sheet_line.specs.Rules.{outside, block_outside, class_outside, second_barred, trend_above, scalar_outside}
 use Rattle.sheet_line.specs.Rules.{rule3, rule5, rule6, rule8, rule9, rule10, entry_of, parse_line, AcceptedLine}
-use Rattle.codes.specs.declared.Coded.{Coded}
-use Rattle.codes.specs.declared.Coded.TheVariants.{Known, Unknown}
-use Rattle.layout.specs.declared.Layout.{Layout}
-use Rattle.layout.specs.declared.Layout.TheVariants.{Kept, Broken}
+use Rattle.codes.specs.declared.Code.{Code}
+use Rattle.layout.specs.declared.Numbers.{Numbers}
+use Rattle.refusal.specs.declared.Rule.{Rule}
 use Rattle.sheet_line.specs.declared.Entry.{Entry}
-use Rattle.sheet_line.specs.declared.Line.{Line}
-use Rattle.sheet_line.specs.declared.Line.TheVariants.{Good}
 
 -- ---- a test that does not hold
 
@@ -39,8 +37,8 @@ key_of e p q =
 
 module _ (e : Entry) (a : e.first ≤ limit) (b : e.second ≤ limit) (d : Entry) where
   -- where a line is good, its entry is this one, and one that the rules leave
-  abbrev Accepts : Line → Type 0
-  Accepts l = l ≡ Good d → (e ≡ d) × AcceptedLine e
+  abbrev Accepts : Result Entry Rule → Type 0
+  Accepts l = l ≡ Ok d → (e ≡ d) × AcceptedLine e
 
   rules_leave : Accepts (rule5 e)
   unfolding rule5 rule6 rule8 rule9 rule10 second_barred trend_above scalar_outside
@@ -68,22 +66,22 @@ module _ (e : Entry) (a : e.first ≤ limit) (b : e.second ≤ limit) (d : Entry
 -- a good line: its entry is one that the rules leave, and its columns hold the entry's code and numbers
 pub record GoodLine (s : List ℕ) (e : Entry) : Type 0 where
   pub accepted : AcceptedLine e
-  pub kept : layout_of s ≡ Kept (numbers_of e)
-  pub coded : code_of s ≡ Known e.code
+  pub kept : layout_of s ≡ Some (numbers_of e)
+  pub coded : code_of s ≡ Some e.code
 
 module _ (s : List ℕ) (h : length s ≡ sheet_line_bytes) where
   -- rules 3 and 4, then the others
-  all_leave : (l : Layout) (c : Coded) (d : Entry) → layout_of s ≡ l → code_of s ≡ c → rule3 l c ≡ Good d → GoodLine s d
-  all_leave (Kept n) (Known k) d p c q =
+  all_leave : (l : Option Numbers) (c : Option Code) (d : Entry) → layout_of s ≡ l → code_of s ≡ c → rule3 l c ≡ Ok d → GoodLine s d
+  all_leave (Some n) (Some k) d p c q =
       let m = kept_amounts s h n p in
       let a = rules_leave (entry_of k n) (omega arith) (omega arith) d q in
       subst (GoodLine s) a.0 (record { accepted = a.1; kept = p; coded = c })
-  all_leave (Kept n) Unknown d p c q = never (cc)
-  all_leave Broken k d p c q = never (cc)
+  all_leave (Some n) None d p c q = never (cc)
+  all_leave None k d p c q = never (cc)
 
-  pub good_line : (e : Entry) → parse_line s ≡ Good e → GoodLine s e
+  pub good_line : (e : Entry) → parse_line s ≡ Ok e → GoodLine s e
   unfolding parse_line
   good_line e q = all_leave (layout_of s) (code_of s) e refl refl q
 
-  pub line_good : (e : Entry) → parse_line s ≡ Good e → AcceptedLine e
+  pub line_good : (e : Entry) → parse_line s ≡ Ok e → AcceptedLine e
   line_good e q = (good_line e q).accepted

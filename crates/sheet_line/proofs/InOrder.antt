@@ -1,6 +1,7 @@
 -- The order of a line's rules, shown by lines that break two of them: each is refused by the one that comes first, so no program with the two in
 -- the other order meets the contract of `read_line`. Rules 4 and 5 have no such line, since a range is that of a code that is known; nor have
 -- rules 9 and 10, so that rule 10 stands beside rule 8. Assumes nothing.
+use Rattle.std.specs.Prelude.{None, Err}
 use mathlib.Core.Path.{◌≡◌, refl}
 use mathlib.Core.Bool.{Bool, true, false}
 use mathlib.Core.List.{List}
@@ -16,14 +17,13 @@ use Rattle.sheet_line.specs.Rules.{outside, block_outside, class_outside, second
 use Rattle.sheet_line.specs.Rules.{rule5, rule6, rule8, parse_line}
 use Rattle.codes.specs.declared.Code.{Code}
 use Rattle.codes.specs.declared.Code.TheVariants.{Rsk, Oth, Mor, Vol, Acq, Gen, Crd}
-use Rattle.codes.specs.declared.Coded.TheVariants.{Unknown}
-use Rattle.layout.specs.declared.Layout.TheVariants.{Broken}
+use Rattle.refusal.specs.declared.Rule.{Rule}
+use Rattle.refusal.specs.declared.Rule.TheVariants as rule
 use Rattle.sheet_line.specs.declared.Entry.{Entry}
-use Rattle.sheet_line.specs.declared.Line.TheVariants.{Refused}
 
--- the tests of two rules hold of an entry, and its line is refused by rule n
-abbrev pub Breaks : (Entry → Bool) → (Entry → Bool) → ℕ → Entry → Type 0
-Breaks one other n e = (one e ≡ true) × (other e ≡ true) × (parse_line (print_line e) ≡ Refused n)
+-- the tests of two rules hold of an entry, and its line is refused by rule r
+abbrev pub Breaks : (Entry → Bool) → (Entry → Bool) → Rule → Entry → Type 0
+Breaks one other r e = (one e ≡ true) × (other e ≡ true) × (parse_line (print_line e) ≡ Err r)
 
 -- the test of rule 8
 abbrev pub barred : Entry → Bool
@@ -40,15 +40,15 @@ scalar_bad e = scalar_outside e.code e.class e.first
 -- a line for each two rules, all computed at once
 pub record InOrder : Type 0 where
   -- 40 spaces, with no line feed and no code
-  pub rules_3_4 : (s : List ℕ) × (layout_of s ≡ Broken) × (code_of s ≡ Unknown) × (parse_line s ≡ Refused 3)
+  pub rules_3_4 : (s : List ℕ) × (layout_of s ≡ None) × (code_of s ≡ None) × (parse_line s ≡ Err rule.BrokenLayout)
   -- class 9 of territory 17
-  pub rules_5_6 : (e : Entry) × Breaks block_outside class_outside 5 e
+  pub rules_5_6 : (e : Entry) × Breaks block_outside class_outside rule.BlockOutside e
   -- a second amount in class 4 of OTH
-  pub rules_6_8 : (e : Entry) × Breaks class_outside barred 6 e
+  pub rules_6_8 : (e : Entry) × Breaks class_outside barred rule.ClassOutside e
   -- LT(7) of a cent, and no IR(7)
-  pub rules_8_9 : (e : Entry) × Breaks barred above 8 e
+  pub rules_8_9 : (e : Entry) × Breaks barred above rule.SecondAmount e
   -- g of 0, and a second amount
-  pub rules_8_10 : (e : Entry) × Breaks barred scalar_bad 8 e
+  pub rules_8_10 : (e : Entry) × Breaks barred scalar_bad rule.SecondAmount e
 
 pub in_order : InOrder
 unfolding

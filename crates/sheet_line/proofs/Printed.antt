@@ -1,5 +1,6 @@
 -- The line of an entry: its length, that an entry which the rules leave is read back from it, and that a good line is the line of its entry.
 -- Assumes nothing.
+use Rattle.std.specs.Prelude.{Some, Ok}
 use mathlib.Core.Path.{◌≡◌, refl, sym, ap, ◌∙◌}
 use mathlib.Core.Logic.{◌↔◌}
 use mathlib.Core.List.{List, [], ◌∷◌}
@@ -22,9 +23,7 @@ use Rattle.sheet_line.specs.Rules.{outside, single_of, second_barred, has_trend,
 use Rattle.sheet_line.specs.Rules.{rule5, rule6, rule8, rule9, rule10, parse_line, AcceptedLine}
 use Rattle.codes.specs.declared.Code.{Code}
 use Rattle.codes.specs.declared.Code.TheVariants.{Rsk, Oth, Mor, Vol, Acq, Gen, Crd}
-use Rattle.codes.specs.declared.Coded.TheVariants.{Known}
 use Rattle.sheet_line.specs.declared.Entry.{Entry}
-use Rattle.sheet_line.specs.declared.Line.TheVariants.{Good}
 use Rattle.sheet_line.proofs.Accepted.{good_line, line_good}
 
 -- ---- what stands in the columns of a printed line
@@ -41,7 +40,7 @@ three_letters Crd = refl
 pub length_print : (e : Entry) → length (print_line e) ≡ sheet_line_bytes
 length_print e = length_lettered (letters_of e.code) (three_letters e.code) (numbers_of e)
 
-printed_code : (k : Code) (n : Numbers) → code_of (lettered (letters_of k) n) ≡ Known k
+printed_code : (k : Code) (n : Numbers) → code_of (lettered (letters_of k) n) ≡ Some k
 unfolding code_among is_code lettered decimal leading_digits pick
 printed_code Rsk n = refl
 printed_code Oth n = refl
@@ -61,7 +60,7 @@ inside_passes l h = if_false _ (le-ltb _ _ l) ∙ le-ltb _ _ h
 test_passes : (applies : Bool) {test : Bool} → (applies ≡ true → test ≡ false) → pick applies test false ≡ false
 test_passes applies h = by_test (λ t. t ≡ false) applies _ _ h (λ s. refl)
 
-rules_pass : (e : Entry) → AcceptedLine e → rule5 e ≡ Good e
+rules_pass : (e : Entry) → AcceptedLine e → rule5 e ≡ Ok e
 unfolding rule5 rule6 rule8 rule9 rule10 second_barred trend_above scalar_outside
 rules_pass e a =
     if_false _ (inside_passes a.key.low a.key.high)
@@ -82,7 +81,7 @@ key_small Gen b c v = omega arith
 key_small Crd zero c v = omega arith
 key_small Crd (suc b) c v = omega arith
 
-pub parse_print : (e : Entry) → AcceptedLine e → parse_line (print_line e) ≡ Good e
+pub parse_print : (e : Entry) → AcceptedLine e → parse_line (print_line e) ≡ Ok e
 unfolding parse_line
 parse_print e a =
     let s = key_small e.code e.block e.class a.key in
@@ -106,19 +105,19 @@ module _ (s : List ℕ) (h : length s ≡ sheet_line_bytes) where
       let z : get_or s 2 0 ≡ get_or w 2 0 = eqb-true _ _ b.1 in
       ap (columns 1 3) (is_values 0 40 s h) ∙ (λ i. x i ∷ y i ∷ z i ∷ []) ∙ sym (is_values 0 3 w l)
 
-  code_letters : (ks : List Code) {k : Code} → code_among ks s ≡ Known k → columns 1 3 s ≡ letters_of k
+  code_letters : (ks : List Code) {k : Code} → code_among ks s ≡ Some k → columns 1 3 s ≡ letters_of k
   unfolding code_among
   code_letters [] = λ q. never (cc)
   code_letters (j ∷ ks) {k} =
-      by_test (λ c. c ≡ Known k → columns 1 3 s ≡ letters_of k) _ _ _
+      by_test (λ c. c ≡ Some k → columns 1 3 s ≡ letters_of k) _ _ _
       (λ t q. let e : j ≡ k = cc in letters_are (letters_of j) (three_letters j) t ∙ ap letters_of e)
       (λ t. code_letters ks)
 
-  pub print_parsed : (e : Entry) → parse_line s ≡ Good e → s ≡ print_line e
+  pub print_parsed : (e : Entry) → parse_line s ≡ Ok e → s ≡ print_line e
   print_parsed e q =
       let g = good_line s h e q in
       kept_printed s h (numbers_of e) g.kept ∙ ap (λ w. lettered w (numbers_of e)) (code_letters codes g.coded)
 
   -- a line is read as an entry exactly where it is what the entry prints as and the entry is one that the rules leave
-  pub parse_exactly : (e : Entry) → (parse_line s ≡ Good e) ↔ ((s ≡ print_line e) × AcceptedLine e)
+  pub parse_exactly : (e : Entry) → (parse_line s ≡ Ok e) ↔ ((s ≡ print_line e) × AcceptedLine e)
   parse_exactly e = (λ q. (print_parsed e q, line_good s h e q), λ p. ap parse_line p.0 ∙ parse_print e p.1)

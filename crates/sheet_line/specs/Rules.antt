@@ -1,22 +1,18 @@
 -- What is turned away in a line: 'the first bad line, in it 3, 4, 5, 6, 8, 9, 10'; rules 11 and 19 look at more than a line and are not
 -- here. Each rule has a test, true where it turns the line away, and a definition that ends in the next rule's; the last one first. Assumes
 -- nothing.
-use Rattle.std.specs.Prelude.{◌≡◌, ℕ, ◌≤◌, List, Bool, true, false, not, ltb, eqb}
+use Rattle.std.specs.Prelude.{◌≡◌, Option, Some, None, Result, Ok, Err, ℕ, ◌≤◌, List, Bool, true, false, not, ltb, eqb}
 use Rattle.search.specs.Pick.{pick}
 use Rattle.amount.specs.Amount.{limit}
+use Rattle.refusal.specs.declared.Rule.{Rule}
+use Rattle.refusal.specs.declared.Rule.TheVariants as rule
 use Rattle.guideline.specs.Sizes.{largest_scalar}
 use Rattle.codes.specs.Codes.{expenses_class, scalar_class, range_of, Key, code_of}
 use Rattle.layout.specs.Columns.{layout_of}
 use Rattle.codes.specs.declared.Code.{Code}
 use Rattle.codes.specs.declared.Code.TheVariants.{Rsk, Oth, Mor, Vol, Acq, Gen, Crd}
-use Rattle.codes.specs.declared.Coded.{Coded}
-use Rattle.codes.specs.declared.Coded.TheVariants.{Known, Unknown}
 use Rattle.layout.specs.declared.Numbers.{Numbers}
-use Rattle.layout.specs.declared.Layout.{Layout}
-use Rattle.layout.specs.declared.Layout.TheVariants.{Kept, Broken}
 use Rattle.sheet_line.specs.declared.Entry.{Entry}
-use Rattle.sheet_line.specs.declared.Line.{Line}
-use Rattle.sheet_line.specs.declared.Line.TheVariants.{Good, Refused}
 
 -- ---- the tests
 
@@ -77,41 +73,41 @@ scalar_outside k c first = pick (is_scalar k c) (outside 1 largest_scalar first)
 -- ---- the rules, the last one first
 
 -- rule 10, and where it passes too the line is good
-unfoldable pub rule10 : Entry → Line
-rule10 e = pick (scalar_outside e.code e.class e.first) (Refused 10) (Good e)
+unfoldable pub rule10 : Entry → Result Entry Rule
+rule10 e = pick (scalar_outside e.code e.class e.first) (Err rule.ScalarOutside) (Ok e)
 
 -- rule 9, then rule 10
-unfoldable pub rule9 : Entry → Line
-rule9 e = pick (trend_above e.code e.first e.second) (Refused 9) (rule10 e)
+unfoldable pub rule9 : Entry → Result Entry Rule
+rule9 e = pick (trend_above e.code e.first e.second) (Err rule.TrendAboveComponent) (rule10 e)
 
 -- rule 8, then rule 9
-unfoldable pub rule8 : Entry → Line
-rule8 e = pick (second_barred e.code e.class e.second) (Refused 8) (rule9 e)
+unfoldable pub rule8 : Entry → Result Entry Rule
+rule8 e = pick (second_barred e.code e.class e.second) (Err rule.SecondAmount) (rule9 e)
 
 -- rule 6, then rule 8
-unfoldable pub rule6 : Entry → Line
-rule6 e = pick (class_outside e) (Refused 6) (rule8 e)
+unfoldable pub rule6 : Entry → Result Entry Rule
+rule6 e = pick (class_outside e) (Err rule.ClassOutside) (rule8 e)
 
 -- rule 5, then rule 6
-unfoldable pub rule5 : Entry → Line
-rule5 e = pick (block_outside e) (Refused 5) (rule6 e)
+unfoldable pub rule5 : Entry → Result Entry Rule
+rule5 e = pick (block_outside e) (Err rule.BlockOutside) (rule6 e)
 
 -- a code with the four numbers of its line
 abbrev pub entry_of : Code → Numbers → Entry
 entry_of k n = record { code = k; block = n.block; class = n.class; first = n.first; second = n.second }
 
 -- rule 4: 'code isn't one of the four', seven with MOR, ACQ and CRD; then rule 5
-abbrev pub rule4 : Coded → Numbers → Line
-rule4 Unknown n = Refused 4
-rule4 (Known k) n = rule5 (entry_of k n)
+abbrev pub rule4 : Option Code → Numbers → Result Entry Rule
+rule4 None n = Err rule.UnknownCode
+rule4 (Some k) n = rule5 (entry_of k n)
 
 -- rule 3: 'columns 4–40 break the layout', then rule 4
-abbrev pub rule3 : Layout → Coded → Line
-rule3 Broken c = Refused 3
-rule3 (Kept n) c = rule4 c n
+abbrev pub rule3 : Option Numbers → Option Code → Result Entry Rule
+rule3 None c = Err rule.BrokenLayout
+rule3 (Some n) c = rule4 c n
 
--- a line: its entry, or the number of the first rule that turns it away
-unfoldable pub parse_line : List ℕ → Line
+-- a line: its entry, or the first rule that turns it away
+unfoldable pub parse_line : List ℕ → Result Entry Rule
 parse_line s = rule3 (layout_of s) (code_of s)
 
 -- ---- what the rules leave

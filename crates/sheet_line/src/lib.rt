@@ -1,7 +1,7 @@
 // A line of the sheet: 40 bytes, rules 3, 4, 5, 6, 8, 9 and 10 in this order.
-// The rules, each ending in the next.
 #![tactic(auto)]
 
+// Rules 5 to 10, of what the line says.
 pub mod rules;
 
 ghost use Rattle.std.specs.Prelude.{◌≡◌, length};
@@ -10,6 +10,7 @@ ghost use Rattle.sheet_line.specs.Rules.{parse_line};
 
 use codes::Code;
 use layout::SHEET_LINE_BYTES;
+use refusal::Rule;
 
 // A line's code and numbers.
 #[derive(Clone, Copy)]
@@ -21,20 +22,19 @@ pub struct Entry {
     pub second: u64,
 }
 
-// What reading a line gives: the entry, or the number of the first rule that turns it away.
-#[derive(Clone, Copy)]
-pub enum Line {
-    Good(Entry),
-    Refused(u8),
-}
-
-// Reads a line: its layout and its code, then the rules one after the other.
-pub fn read_line(s: &[u8]) -> Line
+// Reads a line: its layout and its code, then the rules of what it says. The first rule that it breaks turns it away.
+pub fn read_line(s: &[u8]) -> Result<Entry, Rule>
     requires { length s.now ≡ sheet_line_bytes }
     ensures { result ≡ parse_line s.now }
 {
     // a part and not s itself: its place is handed on in words, where a slice that is handed on whole is copied, which waits
-    let layout = layout::read_layout(&s[0..SHEET_LINE_BYTES]);
-    let coded = codes::read_code(s);
-    rules::rule_3(layout, coded)
+    let n = layout::read_layout(&s[0..SHEET_LINE_BYTES]).ok_or(Rule::BrokenLayout)?;
+    let code = codes::read_code(s).ok_or(Rule::UnknownCode)?;
+    rules::judged(Entry {
+        code,
+        block: n.block,
+        class: n.class,
+        first: n.first,
+        second: n.second,
+    })
 }

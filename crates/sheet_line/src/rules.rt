@@ -1,114 +1,67 @@
-// The rules of a line, in document 01's order: each tests the line, and ends in the next one.
+// The rules of what a line says, in document 01's order: each is a test, true where it turns the line away.
 ghost use Rattle.std.specs.Prelude.{◌≡◌};
-ghost use Rattle.sheet_line.specs.Rules.{outside, single_of, second_barred, has_trend, trend_above, is_scalar, scalar_outside};
-ghost use Rattle.sheet_line.specs.Rules.{rule3, rule4, rule5, rule6, rule8, rule9, rule10};
+ghost use Rattle.sheet_line.specs.Rules.{outside, block_outside, class_outside, single_of, second_barred, has_trend, trend_above, is_scalar, scalar_outside};
+ghost use Rattle.sheet_line.specs.Rules.{rule5};
 
-use super::{Entry, Line};
-use codes::{Code, Coded, EXPENSES_CLASS, SCALAR_CLASS};
+use super::Entry;
+use codes::{Code, EXPENSES_CLASS, SCALAR_CLASS};
 use guideline::LARGEST_SCALAR;
-use layout::{Layout, Numbers};
+use refusal::Rule;
 
-// Rule 3: columns 4 to 40 break the layout.
-pub(crate) fn rule_3(layout: Layout, coded: Coded) -> Line
-    ensures { result ≡ rule3 layout coded }
-{
-    let Layout::Kept(n) = layout else {
-        return Line::Refused(3);
-    };
-    rule_4(coded, n)
-}
-
-// Rule 4: the code isn't one of the seven.
-fn rule_4(coded: Coded, n: Numbers) -> Line
-    ensures { result ≡ rule4 coded n }
-{
-    let Coded::Known(code) = coded else {
-        return Line::Refused(4);
-    };
-    rule_5(Entry {
-        code,
-        block: n.block,
-        class: n.class,
-        first: n.first,
-        second: n.second,
-    })
-}
-
-// Rule 5: the block is outside the code's range.
-fn rule_5(e: Entry) -> Line
+// Rules 5 to 10: the entry, where none of them turns it away.
+#[tactic(auto, unfolding(crate::specs::Rules::rule5, crate::specs::Rules::rule6, crate::specs::Rules::rule8, crate::specs::Rules::rule9, crate::specs::Rules::rule10, search::specs::Pick::pick))]
+pub(crate) fn judged(e: Entry) -> Result<Entry, Rule>
     ensures { result ≡ rule5 e }
 {
     let code = e.code;
-    let range = codes::range_of(code, e.block);
-    if outside(range.lowest, range.highest, e.block) {
-        return Line::Refused(5);
+    if block_outside(e) {
+        return Err(Rule::BlockOutside);
     }
-    rule_6(e)
-}
-
-// Rule 6: the class is outside the code's range.
-fn rule_6(e: Entry) -> Line
-    ensures { result ≡ rule6 e }
-{
-    let code = e.code;
-    let range = codes::range_of(code, e.block);
-    if outside(1, range.classes, e.class) {
-        return Line::Refused(6);
+    if class_outside(e) {
+        return Err(Rule::ClassOutside);
     }
-    rule_8(e)
-}
-
-// Rule 8: a second amount where a line has one alone.
-fn rule_8(e: Entry) -> Line
-    ensures { result ≡ rule8 e }
-{
-    let code = e.code;
     if second_barred(code, e.class, e.second) {
-        return Line::Refused(8);
+        return Err(Rule::SecondAmount);
     }
-    rule_9(e)
-}
-
-// Rule 9: LT above IR.
-fn rule_9(e: Entry) -> Line
-    ensures { result ≡ rule9 e }
-{
-    let code = e.code;
     if trend_above(code, e.first, e.second) {
-        return Line::Refused(9);
+        return Err(Rule::TrendAboveComponent);
     }
-    rule_10(e)
+    if scalar_outside(code, e.class, e.first) {
+        return Err(Rule::ScalarOutside);
+    }
+    Ok(e)
 }
 
-// Rule 10: the scalar is outside its range. A line that passes it is good.
-fn rule_10(e: Entry) -> Line
-    ensures { result ≡ rule10 e }
+// The test of rule 5: the block is outside the code's range.
+fn block_outside(e: Entry) -> bool
+    ensures { result ≡ block_outside e }
 {
-    let code = e.code;
-    if scalar_outside(code, e.class, e.first) {
-        return Line::Refused(10);
-    }
-    Line::Good(e)
+    let range = codes::range_of(e.code, e.block);
+    outside(range.lowest, range.highest, e.block)
+}
+
+// The test of rule 6: the class is outside the code's range.
+fn class_outside(e: Entry) -> bool
+    ensures { result ≡ class_outside e }
+{
+    let range = codes::range_of(e.code, e.block);
+    outside(1, range.classes, e.class)
 }
 
 // Whether n is outside low to high.
+#[tactic(auto, unfolding(crate::specs::Rules::outside, search::specs::Pick::pick))]
 fn outside(low: u64, high: u64, n: u64) -> bool
     ensures { result ≡ outside low high n }
 {
-    if n < low {
-        return true;
-    }
-    high < n
+    !(low..=high).contains(&n)
 }
 
-// The test of rule 8.
+// The test of rule 8: a second amount where a line has one alone.
+#[tactic(auto, unfolding(crate::specs::Rules::second_barred, search::specs::Pick::pick))]
 fn second_barred(code: Code, class: u64, second: u64) -> bool
     ensures { result ≡ second_barred code class second }
 {
-    if single(code, class) {
-        return second != 0;
-    }
-    false
+    single(code, class) && second != 0
 }
 
 // Whether a line has one amount alone.
@@ -126,14 +79,12 @@ fn single(code: Code, class: u64) -> bool
     }
 }
 
-// The test of rule 9.
+// The test of rule 9: LT above IR.
+#[tactic(auto, unfolding(crate::specs::Rules::trend_above, search::specs::Pick::pick))]
 fn trend_above(code: Code, first: u64, second: u64) -> bool
     ensures { result ≡ trend_above code first second }
 {
-    if has_trend(code) {
-        return first < second;
-    }
-    false
+    has_trend(code) && first < second
 }
 
 // Whether a line's second amount is a part of the first. Volumes may fall or rise, and T may pass
@@ -152,14 +103,12 @@ fn has_trend(code: Code) -> bool
     }
 }
 
-// The test of rule 10.
+// The test of rule 10: the scalar is outside its range.
+#[tactic(auto, unfolding(crate::specs::Rules::scalar_outside, search::specs::Pick::pick))]
 fn scalar_outside(code: Code, class: u64, first: u64) -> bool
     ensures { result ≡ scalar_outside code class first }
 {
-    if is_scalar(code, class) {
-        return outside(1, LARGEST_SCALAR, first);
-    }
-    false
+    is_scalar(code, class) && outside(1, LARGEST_SCALAR, first)
 }
 
 // Whether a line is that of the scalar g.

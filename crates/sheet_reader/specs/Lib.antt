@@ -1,2 +1,2 @@
--- The lines of a sheet read into tables. Assumes nothing.
+-- The lines of a sheet read into a ledger. Assumes nothing.
 pub mod Filling

@@ -1,58 +1,29 @@
-// The lines of a sheet read into tables that the caller lends.
+// The lines of a sheet read into a ledger that the caller lends.
 #![tactic(auto)]
 
-ghost use Rattle.codes.specs.Codes.{Key};
 ghost use Rattle.order.specs.Reading.{reading};
-ghost use Rattle.ledger.specs.Tables.{Empty};
-ghost use Rattle.sheet_reader.specs.Filling.{Filled, Entered};
+ghost use Rattle.ledger.specs.Lines.{Empty};
+ghost use Rattle.sheet_reader.specs.Filling.{Filled};
 
 use layout::SHEET_LINE_BYTES;
-use order::PLACES;
-use refusal::Place;
-use sheet_line::{Entry, Line};
+use ledger::Ledger;
+use refusal::{Place, Refusal};
 
-// A sheet's lines are all good, and this is how many there are; or the first bad one is refused.
-#[derive(Clone, Copy)]
-pub enum Answer {
-    Accepted(usize),
-    Refused(u8, Place),
-}
-
-// Reads the lines of a sheet one after the other, up to the first bad one.
-pub fn read_lines(
-    sheet: &[u8],
-    firsts: &mut [u64; PLACES],
-    seconds: &mut [u64; PLACES],
-    marks: &mut [u8; PLACES],
-) -> Answer
-    requires { Empty firsts.old seconds.old marks.old }
-    ensures { Filled (reading sheet.now) result firsts.new seconds.new marks.new }
+// Reads the lines of a sheet one after the other, and gives how many there are, or the first bad one's rule and place.
+pub fn read_lines(sheet: &[u8], ledger: &mut Ledger) -> Result<usize, Refusal>
+    requires { Empty ledger.old }
+    ensures { Filled (reading sheet.now) result ledger.new }
 {
     let n = sheet.len() / SHEET_LINE_BYTES;
     let mut last = 0u64;
-    let mut i = 0;
-    while i < n {
+    for i in 0..n {
         let from = SHEET_LINE_BYTES * i;
         let read = sheet_line::read_line(&sheet[from..from + SHEET_LINE_BYTES]);
-        let line = order::admit(read, last, marks);
+        let line = ledger.admit(read, last);
         match line {
-            Line::Refused(rule) => return Answer::Refused(rule, Place::Line(i + 1)),
-            Line::Good(e) => {
-                last = order::key_of(e);
-                enter(e, firsts, seconds);
-            }
+            Err(rule) => return Err(Refusal(rule, Place::Line(i + 1))),
+            Ok(e) => last = order::key_of(e),
         }
-        i += 1;
     }
-    Answer::Accepted(n)
-}
-
-// Puts an entry's amounts into the tables.
-fn enter(e: Entry, firsts: &mut [u64; PLACES], seconds: &mut [u64; PLACES])
-    requires { Key e.code e.block e.class }
-    ensures { Entered e firsts.old seconds.old firsts.new seconds.new }
-{
-    let at = order::index_for(e);
-    firsts[at] = e.first;
-    seconds[at] = e.second;
+    Ok(n)
 }

@@ -1,2 +1,3 @@
--- What holds of bytes that were read.
+-- What holds of bytes that were read, and of an input that was answered.
 pub mod Read
+pub mod Answered

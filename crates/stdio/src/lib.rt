@@ -1,57 +1,72 @@
-// Standard input and output, for every program: all of the input, or some bytes of it, read into lent room, and the first bytes of a text written.
+// Standard input and output, for every program: all of the input, or some bytes of it, read into lent room; the first bytes of a text written; and an
+// input answered, from its first byte read to the last byte written.
 #![tactic(auto)]
 
-ghost use Rattle.std.specs.Prelude.{◌≡◌, true, ◌≤◌, length, take};
+ghost use Rattle.std.specs.Prelude.{◌≤◌, length, take, OnOk, IfErr, ◌≡◌};
 ghost use Rattle.std.specs.Io.KnownBytes.{Appends};
+ghost use Rattle.stdio.specs.Answered.{Answered};
 ghost use Rattle.stdio.specs.Read.{ReadInto, TakesAll, TakesSome};
 
 use std::io::{Read, Write};
 
-// How many bytes were read; or that a read failed.
-#[derive(Clone, Copy)]
-pub enum Got {
-    Bytes(usize),
-    Failed,
+// What kept an input from its answer: a read failed, or a write.
+#[derive(Clone, Copy, Debug, PartialEq, Eq, Hash)]
+pub enum Failure {
+    Unread,
+    Unwritten,
+}
+
+// Reads the input into lent room, has the call answer what was read, and writes its text. The room wants a byte more than the longest input that
+// the call can answer: a longer one is then seen to be longer.
+pub fn answer<'a, R: Read, W: Write, F: FnOnce(&[u8]) -> &'a [u8]>(
+    input: &mut R,
+    output: &mut W,
+    room: &mut [u8],
+    call: F,
+) -> Result<(), Failure>
+    requires { F.IsAlwaysCallable call }
+    ensures { Answered F.FnOnce call (length room.old) (R.remaining input.old) (R.remaining input.new) (W.contents output.old) (W.contents output.new) result }
+{
+    let n = read_all(input, room)?;
+    let text = call(&room[..n]);
+    put(output, text, text.len())
 }
 
 // Reads to the end of the input, or until the room is full.
-pub fn read_all<R: Read>(input: &mut R, room: &mut [u8]) -> Got
+pub fn read_all<R: Read>(input: &mut R, room: &mut [u8]) -> Result<usize, Failure>
     ensures within { ReadInto result room.old room.new }
     ensures taken { TakesAll result (R.remaining input.old) (R.remaining input.new) room.new }
 {
     let mut at = 0usize;
     while at < room.len() {
-        match read_some(input, &mut room[at..]) {
-            Got::Failed => return Got::Failed,
-            Got::Bytes(n) => {
-                if n == 0 {
-                    return Got::Bytes(at);
-                }
-                at += n;
-            }
+        let n = read_some(input, &mut room[at..])?;
+        if n == 0 {
+            return Ok(at);
         }
+        at += n;
     }
-    Got::Bytes(at)
+    Ok(at)
 }
 
 // Reads some bytes, as many as come at once and the room takes; none at the end of the input, and where there is no room.
-pub fn read_some<R: Read>(input: &mut R, room: &mut [u8]) -> Got
+pub fn read_some<R: Read>(input: &mut R, room: &mut [u8]) -> Result<usize, Failure>
     ensures within { ReadInto result room.old room.new }
     ensures taken { TakesSome result (R.remaining input.old) (R.remaining input.new) room.new }
 {
-    match input.read(room) {
-        Ok(n) => Got::Bytes(n),
-        Err(_) => Got::Failed,
-    }
+    input.read(room).map_err(|_| Failure::Unread)
 }
 
-// Writes the first n bytes of a text, and tells whether all of them were written: never of a text that has fewer.
-pub fn put<W: Write>(output: &mut W, text: &[u8], n: usize) -> bool
-    ensures whole { result ≡ true → n ≤ length text.now }
-    ensures written { result ≡ true → Appends (W.contents output.old) (W.contents output.new) (take n text.now) }
+// Writes the first n bytes of a text, and fails where not all of them were written: always of a text that has fewer.
+// Kept: the length stands beside the text, as the test of it is what a text that is too short is refused by.
+pub fn put<W: Write>(output: &mut W, text: &[u8], n: usize) -> Result<(), Failure>
+    ensures whole { OnOk result (n ≤ length text.now) }
+    ensures written { OnOk result (Appends (W.contents output.old) (W.contents output.new) (take n text.now)) }
+    ensures unwritten { IfErr result (λ e. e ≡ Failure.Unwritten) }
 {
     if text.len() < n {
-        return false;
+        return Err(Failure::Unwritten);
     }
-    output.write_all(&text[0..n]).is_ok()
+    output
+        .write_all(&text[0..n])
+        .map_err(|_| Failure::Unwritten)
 }

@@ -10,7 +10,7 @@ use Rattle.stream.specs.Steps.{Kept, fresh, Next, next, follow, Run, closed_then
 use Rattle.stream.specs.Steps.Next.{on, closed}
 use Rattle.stream.specs.Steps.Scanned.{going, found}
 use Rattle.stream.specs.declared.Held.{Held}
-use Rattle.stream.specs.declared.Fed.TheVariants as fed
+use Rattle.std.specs.declared.ops.ControlFlow.TheVariants.{Continue, Break}
 use Rattle.stream.proofs.Whole.{onwards, scanned_run, whole, run_append, run_scanned}
 
 -- ---- the bytes up to a closing line
@@ -67,14 +67,14 @@ module _ {room : List ℕ} {h : Held} {s : List ℕ} {xs : List (List ℕ)} (S :
 
   module _ {c : List ℕ} {at : ℕ} {after : List ℕ} (l : length after ≡ length room) where
     -- the sheet goes on
-    pub so_far_on : {k : Held} → ScannedTo room h c at (fed.On k) after → SoFar after k (s ++ drop at c) xs
+    pub so_far_on : {k : Held} → ScannedTo room h c at (Continue k) after → SoFar after k (s ++ drop at c) xs
     so_far_on {k} T =
         let e : run (length room) (kept room h) (drop at c) ≡ record { closed = []; held = kept after k } =
         run_scanned (length room) (drop at c) (kept room h) ∙ ap (scanned_run (length room)) (sym T.answer) in
         record { is = rw l (more (drop at c) ∙ ap (λ (r : Run). record { closed = xs ++ r.closed; held = r.held }) e ∙ rw (append-nil xs)) }
 
     -- a sheet is closed, and the next one begins
-    pub so_far_next : {n i : ℕ} {k : Held} → ScannedTo room h c at (fed.Closed n i) after → Fresh k
+    pub so_far_next : {n i : ℕ} {k : Held} → ScannedTo room h c at (Break (record { length = n; next = i })) after → Fresh k
         → (t : List ℕ) × (drop at c ≡ t ++ drop i c) × SoFar after k (s ++ t) (xs ++ (take n after ∷ []))
     so_far_next {n} {i} {k} T f =
         let R = read_closing (length room) (drop at c) (kept room h) (take n after) (drop i c) (sym T.answer) in

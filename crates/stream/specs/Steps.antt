@@ -1,11 +1,10 @@
 -- The same, a byte at a time, in a room for so many bytes of a sheet: bytes past the room are counted nowhere. Assumes nothing.
-use Rattle.std.specs.Prelude.{ℕ, suc, ◌≤◌, ◌<◌, ◌≡◌, List, [], ◌∷◌, ◌++◌, ltb, eqb, length, take, drop}
+use Rattle.std.specs.Prelude.{Option, Some, None, ℕ, suc, ◌≤◌, ◌<◌, ◌≡◌, List, [], ◌∷◌, ◌++◌, ltb, eqb, length, take, drop}
 use Rattle.search.specs.Pick.{pick}
 use Rattle.stream.specs.declared.Held.{Held}
-use Rattle.stream.specs.declared.Step.{Step}
-use Rattle.stream.specs.declared.Step.TheVariants as step
-use Rattle.stream.specs.declared.Fed.{Fed}
-use Rattle.stream.specs.declared.Fed.TheVariants as fed
+use Rattle.stream.specs.declared.Closed.{Closed}
+use Rattle.std.specs.declared.ops.ControlFlow.{ControlFlow}
+use Rattle.std.specs.declared.ops.ControlFlow.TheVariants.{Continue, Break}
 
 -- what is held of a sheet that is not closed yet: its bytes before the line that has begun, all its bytes, and how many minus signs that line is;
 -- 40 where it is something else
@@ -67,9 +66,14 @@ scanned room k (b ∷ bs) = follow (next room k b) (λ j. scanned room j bs) (λ
 
 -- ---- what the code's values say
 
+-- the minus signs of a line that has begun, 40 where it is something else
+abbrev pub minus_signs : Option ℕ → ℕ
+minus_signs None = 40
+minus_signs (Some m) = m
+
 -- a room and what is known of it
 abbrev pub kept : List ℕ → Held → Kept
-kept room h = record { lines = take h.begun room; bytes = take h.length room; minuses = h.minuses }
+kept room h = record { lines = take h.begun room; bytes = take h.length room; minuses = minus_signs h.minuses }
 
 pub record Within (n : ℕ) (h : Held) : Type 0 where
   pub begun : h.begun ≤ h.length
@@ -87,30 +91,30 @@ pub record Put (before : List ℕ) (at b r : ℕ) (after : List ℕ) : Type 0 wh
   pub low : at ≤ r
   pub high : r ≤ length before
 
-abbrev pub stepped : List ℕ → Step → Next
-stepped room (step.On h) = on (kept room h)
-stepped room (step.Closed n) = closed (take n room)
+abbrev pub stepped : List ℕ → ControlFlow ℕ Held → Next
+stepped room (Continue h) = on (kept room h)
+stepped room (Break n) = closed (take n room)
 
-abbrev pub WithinStep : ℕ → Step → Type 0
-WithinStep n (step.On h) = Within n h
-WithinStep n (step.Closed k) = k ≤ n
+abbrev pub WithinStep : ℕ → ControlFlow ℕ Held → Type 0
+WithinStep n (Continue h) = Within n h
+WithinStep n (Break k) = k ≤ n
 
 -- the room before, what is known of it, a byte; the answer and the room after
-pub record Stepped (before : List ℕ) (h : Held) (b : ℕ) (r : Step) (after : List ℕ) : Type 0 where
+pub record Stepped (before : List ℕ) (h : Held) (b : ℕ) (r : ControlFlow ℕ Held) (after : List ℕ) : Type 0 where
   pub answer : stepped after r ≡ next (length before) (kept before h) b
   pub within : WithinStep (length before) r
 
 -- the same for the bytes of a chunk from a place on; a closed sheet comes with the place after its closing line
-abbrev pub scanned_as : List ℕ → List ℕ → Fed → Scanned
-scanned_as room chunk (fed.On h) = going (kept room h)
-scanned_as room chunk (fed.Closed n i) = found (take n room) (drop i chunk)
+abbrev pub scanned_as : List ℕ → List ℕ → ControlFlow Closed Held → Scanned
+scanned_as room chunk (Continue h) = going (kept room h)
+scanned_as room chunk (Break c) = found (take c.length room) (drop c.next chunk)
 
 -- in a room of n bytes, from a place of a chunk of m bytes on
-abbrev pub WithinFed : ℕ → ℕ → ℕ → Fed → Type 0
-WithinFed n m at (fed.On h) = Within n h
-WithinFed n m at (fed.Closed k i) = (k ≤ n) × (at < i) × (i ≤ m)
+abbrev pub WithinFed : ℕ → ℕ → ℕ → ControlFlow Closed Held → Type 0
+WithinFed n m at (Continue h) = Within n h
+WithinFed n m at (Break c) = (c.length ≤ n) × (at < c.next) × (c.next ≤ m)
 
-pub record ScannedTo (before : List ℕ) (h : Held) (chunk : List ℕ) (at : ℕ) (r : Fed) (after : List ℕ) : Type 0 where
+pub record ScannedTo (before : List ℕ) (h : Held) (chunk : List ℕ) (at : ℕ) (r : ControlFlow Closed Held) (after : List ℕ) : Type 0 where
   pub answer : scanned_as after chunk r ≡ scanned (length before) (kept before h) (drop at chunk)
   pub within : WithinFed (length before) (length chunk) at r
 

@@ -3,33 +3,30 @@
 #![tactic(auto)]
 
 ghost use Rattle.std.specs.Prelude.{◌≡◌, ◌≤◌, length};
-ghost use Rattle.stream.specs.Steps.{counted, Within, Fresh, Put, Stepped, ScannedTo};
+ghost use Rattle.stream.specs.Steps.{minus_signs, counted, Within, Fresh, Put, Stepped, ScannedTo};
+
+use std::ops::ControlFlow;
+
+// A minus sign.
+const MINUS: u8 = b'-';
 
 // The minus signs of a closing line.
 const MINUSES: usize = 39;
 
 // What is known of a sheet that is not closed yet: how many of its bytes the room holds, how many of these stand before the line that has begun,
-// and how many minus signs that line is; 40 where it is something else.
+// and how many minus signs that line is; none where it is something else.
 #[derive(Clone, Copy)]
 pub struct Held {
     pub length: usize,
     pub begun: usize,
-    pub minuses: usize,
+    pub minuses: Option<usize>,
 }
 
-// What a byte does: the sheet goes on, or it is closed and the room holds so many bytes of it.
+// A sheet that a chunk closes: how many of its bytes the room holds, and at which place of the chunk the next sheet begins.
 #[derive(Clone, Copy)]
-enum Step {
-    On(Held),
-    Closed(usize),
-}
-
-// What the bytes of a chunk do: the sheet goes on after all of them, or it is closed, the room holds so many bytes of it, and the next sheet begins at
-// a place of the chunk.
-#[derive(Clone, Copy)]
-pub enum Fed {
-    On(Held),
-    Closed(usize, usize),
+pub struct Closed {
+    pub length: usize,
+    pub next: usize,
 }
 
 // Nothing of a sheet yet.
@@ -39,56 +36,52 @@ pub fn fresh() -> Held
     Held {
         length: 0,
         begun: 0,
-        minuses: 0,
+        minuses: Some(0),
     }
 }
 
-// The bytes of a chunk from a place on, up to the first closing line.
-pub fn feed(room: &mut [u8], held: Held, chunk: &[u8], from: usize) -> Fed
+// The bytes of a chunk from a place on, up to the first closing line: the sheet goes on after all of them, or it is closed.
+pub fn feed(room: &mut [u8], held: Held, chunk: &[u8], from: usize) -> ControlFlow<Closed, Held>
     requires within { Within (length room.old) held }
     requires from_in_bounds { from ≤ length chunk.now }
     ensures { ScannedTo room.old held chunk.now from result room.new }
 {
     let mut h = held;
-    let mut i = from;
-    while i < chunk.len() {
-        let s = next_byte(room, h, chunk[i]);
-        match s {
-            Step::Closed(n) => return Fed::Closed(n, i + 1),
-            Step::On(k) => {
-                h = k;
+    for i in from..chunk.len() {
+        match next_byte(room, h, chunk[i]) {
+            ControlFlow::Break(n) => {
+                return ControlFlow::Break(Closed {
+                    length: n,
+                    next: i + 1,
+                });
             }
+            ControlFlow::Continue(k) => h = k,
         }
-        i += 1;
     }
-    Fed::On(h)
+    ControlFlow::Continue(h)
 }
 
-// A byte of the stream.
-fn next_byte(room: &mut [u8], held: Held, b: u8) -> Step
+// A byte of the stream: the sheet goes on, or it is closed and the room holds so many bytes of it.
+fn next_byte(room: &mut [u8], held: Held, b: u8) -> ControlFlow<usize, Held>
     requires { Within (length room.old) held }
     ensures { Stepped room.old held b result room.new }
 {
-    let length = held.length;
-    let begun = held.begun;
-    let minuses = held.minuses;
     if b == b'\n' {
-        if minuses == MINUSES {
-            return Step::Closed(begun);
+        if held.minuses == Some(MINUSES) {
+            return ControlFlow::Break(held.begun);
         }
-        let n = put(room, length, b);
-        return Step::On(Held {
-            length: n,
-            begun: n,
-            minuses: 0,
+        let length = put(room, held.length, b);
+        return ControlFlow::Continue(Held {
+            length,
+            begun: length,
+            minuses: Some(0),
         });
     }
-    let n = put(room, length, b);
-    let m = count(minuses, b);
-    Step::On(Held {
-        length: n,
-        begun,
-        minuses: m,
+    let length = put(room, held.length, b);
+    ControlFlow::Continue(Held {
+        length,
+        begun: held.begun,
+        minuses: count(held.minuses, b),
     })
 }
 
@@ -105,14 +98,11 @@ fn put(room: &mut [u8], at: usize, b: u8) -> usize
 }
 
 // The minus signs of a line that has a byte more.
-fn count(minuses: usize, b: u8) -> usize
-    ensures { result ≡ counted minuses b }
+fn count(minuses: Option<usize>, b: u8) -> Option<usize>
+    ensures { minus_signs result ≡ counted (minus_signs minuses) b }
 {
-    if b != b'-' {
-        return MINUSES + 1;
+    match minuses {
+        Some(m) if b == MINUS && m < MINUSES => Some(m + 1),
+        _ => None,
     }
-    if minuses < MINUSES {
-        return minuses + 1;
-    }
-    MINUSES + 1
 }

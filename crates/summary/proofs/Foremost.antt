@@ -5,12 +5,34 @@ use mathlib.Core.List.{List, [], ◌∷◌, ◌++◌, append_assoc, append-nil}
 use Prim.Native.Nat.{ℕ, ◌≤◌, ◌<◌}
 use native.Mathlib.Omega.{arith}
 use borrow.Author.Tests.{ltb-true, ltb-false}
+use lib.Dec.{ltb}
 use lib.Seq.{append_snoc}
+use Rattle.std.specs.Prelude.{cond}
+use Rattle.std.specs.Ordering.{is_lt, nat_cmp, on, ord_min, ord_max}
+use Rattle.std.specs.declared.cmp.Ordering.TheVariants.{Less, Equal, Greater}
+use Rattle.search.specs.Pick.{pick}
 use Rattle.search.specs.Each.{Each}
 use Rattle.search.proofs.Picks.{by_test}
 use Rattle.search.proofs.Eaches.{each_append}
 use Rattle.summary.specs.Together.{leading, foremost, smaller, larger, FirstBest}
 use Rattle.summary.specs.declared.Accepted.{Accepted}
+
+-- ---- the library's smaller and larger of two by their buffers
+
+led_lem : (t u : Bool) (a b : Accepted) → cond (is_lt (cond t Less (cond u Equal Greater))) b a ≡ pick t b a
+unfolding pick
+led_lem true u a b = refl
+led_lem false true a b = refl
+led_lem false false a b = refl
+
+pub smaller_is : (a b : Accepted) → ord_min (on (λ (x : Accepted). x.buffer) nat_cmp) a b ≡ leading smaller a b
+smaller_is a b = led_lem (ltb b.buffer a.buffer) _ a b
+
+-- of equal ones the second
+pub larger_is : (a b : Accepted) → ord_max (on (λ (x : Accepted). x.buffer) nat_cmp) b a ≡ leading larger a b
+larger_is a b = led_lem (ltb a.buffer b.buffer) _ a b
+
+-- ---- sheet after sheet
 
 -- one sheet more, behind the others
 pub foremost_more : (before : ℕ → ℕ → Bool) (a : Accepted) (bs : List Accepted) (b : Accepted) → foremost before a (bs ++ (b ∷ [])) ≡ leading before (foremost before a bs) b

@@ -3,8 +3,10 @@
 #![tactic(auto)]
 
 ghost use Rattle.std.specs.Prelude.{◌≡◌, List, ◌∷◌, [], ◌++◌, ◌+◌, ◌^◌, ◌<◌};
-ghost use Rattle.summary.specs.Together.{leading, smaller, larger, summary_of, items_of};
+ghost use Rattle.summary.specs.Together.{summary_of, items_of};
 ghost use Rattle.summary.specs.declared.Accepted.{Accepted};
+
+use std::cmp::{max_by_key, min_by_key};
 
 // An accepted sheet: its number, and its buffer.
 #[derive(Clone, Copy)]
@@ -14,6 +16,7 @@ pub struct Accepted {
 }
 
 // What is known of the accepted sheets so far; zeros where there is none.
+// Kept: zeros and not an Option, since they are what is printed where none is accepted.
 #[derive(Clone, Copy)]
 pub struct Summary {
     pub count: u64,
@@ -56,53 +59,29 @@ pub fn with_sheet(s: Summary, a: Accepted) -> Summary
     }
     Summary {
         count: s.count + 1,
-        smallest: smaller_of(s.smallest, a),
-        largest: larger_of(s.largest, a),
+        smallest: min_by_key(s.smallest, a, |x| x.buffer),
+        // of equal ones this gives the second
+        largest: max_by_key(a, s.largest, |x| x.buffer),
         total: s.total + a.buffer,
     }
-}
-
-// The one with the smaller buffer, the first of equal ones.
-fn smaller_of(a: Accepted, b: Accepted) -> Accepted
-    ensures { result ≡ leading smaller a b }
-{
-    if b.buffer < a.buffer {
-        return b;
-    }
-    a
-}
-
-// The one with the larger buffer, the first of equal ones.
-fn larger_of(a: Accepted, b: Accepted) -> Accepted
-    ensures { result ≡ leading larger a b }
-{
-    if a.buffer < b.buffer {
-        return b;
-    }
-    a
 }
 
 // Items 1 to 8, in order.
 pub fn items(s: Summary) -> [u64; SUMMARY_ITEMS]
     ensures { result ≡ items_of s }
 {
-    let count = s.count;
-    let total = s.total;
-    let smallest = s.smallest;
-    let largest = s.largest;
-    let mut mean = 0;
-    let mut remainder = 0;
-    if count != 0 {
-        mean = total / count;
-        remainder = total % count;
-    }
+    let (mean, remainder) = if s.count == 0 {
+        (0, 0)
+    } else {
+        (s.total / s.count, s.total % s.count)
+    };
     [
-        count,
-        smallest.buffer,
-        smallest.sheet,
-        largest.buffer,
-        largest.sheet,
-        total,
+        s.count,
+        s.smallest.buffer,
+        s.smallest.sheet,
+        s.largest.buffer,
+        s.largest.sheet,
+        s.total,
         mean,
         remainder,
     ]

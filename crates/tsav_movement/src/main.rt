@@ -2,42 +2,45 @@
 // of the refusal. A read or a write that fails is said on standard error; an input that could not be read gets neither.
 #![tactic(auto)]
 
+ghost use Rattle.std.specs.Prelude.{◌≡◌};
+ghost use Rattle.printing.specs.Printing.{printout};
+ghost use Rattle.movement.specs.Call.{movements};
+ghost use Rattle.stdio.specs.Answered.{Prints};
+
 use movement::MOVEMENT_BYTES;
 use movement_input::INPUT_BYTES;
 use std::io;
-use stdio::Got;
+use std::io::{Read, Write};
+use stdio::Failure;
 
 // One byte more than the input has, so that one that is too long is seen to be.
 const INPUT_ROOM: usize = INPUT_BYTES + 1;
 
-// Reads, has it answered, and writes.
+// Has the input answered, or says what kept it from its answer.
 fn main(rt: HostRuntime) {
-    let mut input = [0u8; INPUT_ROOM];
-    match stdio::read_all(&mut rt.stdin(), &mut input) {
-        Got::Bytes(n) => answer(&rt, &input, n),
-        Got::Failed => say_unread(&rt),
+    if let Err(failure) = answer(&mut rt.stdin(), &mut io::writer(&rt)) {
+        let _ = rt.eprintln(match failure {
+            Failure::Unread => "tsav-movement: the input cannot be read",
+            Failure::Unwritten => "tsav-movement: the movements cannot be written",
+        });
     }
 }
 
-// Said where the input could not be read.
-fn say_unread(rt: &impl Eprint) {
-    let _ = rt.eprintln("tsav-movement: the input cannot be read");
-}
-
-// The first n bytes are the input; what is printed of it is fixed by `print_movement`.
-fn answer(rt: &(impl Print + Eprint), bytes: &[u8], n: usize) {
-    if bytes.len() < n {
-        return say_unread(rt);
-    }
-    let mut room = [0u8; MOVEMENT_BYTES];
-    let length = movement::print_movement(&bytes[0..n], &mut room);
-    put_room(rt, &room, length);
-}
-
-// The first n bytes of the room.
-fn put_room(rt: &(impl Print + Eprint), room: &[u8; MOVEMENT_BYTES], n: usize) {
-    if stdio::put(&mut io::writer(rt), room, n) {
-        return;
-    }
-    let _ = rt.eprintln("tsav-movement: the movements cannot be written");
+// Of an input of any bytes and any length, the lines of the movements or the line of its refusal.
+fn answer<R: Read, W: Write>(input: &mut R, output: &mut W) -> Result<(), Failure>
+    ensures { Prints (λ s. printout (movements s)) (R.remaining input.old) (W.contents output.old) (W.contents output.new) result }
+{
+    let mut numbers = [0u8; INPUT_ROOM];
+    let mut lines = [0u8; MOVEMENT_BYTES];
+    stdio::answer(
+        input,
+        output,
+        &mut numbers,
+        |numbers: &[u8]| -> &[u8]
+            ensures { result.now ≡ printout (movements numbers.now) }
+        {
+            let length = movement::print_movement(numbers, &mut lines);
+            &lines[..length]
+        },
+    )
 }

@@ -2,62 +2,56 @@
 // write that fails is said on standard error; an input that could not be read to its end gets no line.
 #![tactic(auto)]
 
-ghost use Rattle.std.specs.Prelude.{◌<◌};
+ghost use Rattle.quarter_lines.specs.Printout.{quarter_text};
+ghost use Rattle.stdio.specs.Answered.{Prints};
+ghost use Rattle.tsav_quarter.specs.Input.{TakenAll};
 
-use quarter::{OUTPUT_ROOM, SHEET_ROOM};
+use quarter::{OUTPUT_ROOM, Quarter, SHEET_ROOM};
 use std::io;
-use stdio::Got;
+use std::io::{Read, Write};
+use stdio::Failure;
 
 // How many bytes are read at a time.
 const CHUNK: usize = 4096;
 
-// More reads than any input needs.
-const MOST_READS: u64 = 0xFFFF_FFFF_FFFF_FFFF;
-
-// Reads some bytes at a time and has them taken, and writes what the whole input comes to.
+// Has the sheets answered, or says what kept them from their answer.
 fn main(rt: HostRuntime) {
-    let mut input = rt.stdin();
+    if let Err(failure) = answer(&mut rt.stdin(), &mut io::writer(&rt)) {
+        let _ = rt.eprintln(match failure {
+            Failure::Unread => "tsav-quarter: the sheets cannot be read",
+            Failure::Unwritten => "tsav-quarter: the lines cannot be written",
+        });
+    }
+}
+
+// Of an input of any bytes and any length, its lines.
+fn answer<R: Read, W: Write>(input: &mut R, output: &mut W) -> Result<(), Failure>
+    ensures { Prints quarter_text (R.remaining input.old) (W.contents output.old) (W.contents output.new) result }
+{
     let mut room = [0u8; SHEET_ROOM];
     let mut out = [0u8; OUTPUT_ROOM];
+    let q = take_input(input, &mut room, &mut out)?;
+    let n = quarter::finish(&mut out, q);
+    stdio::put(output, &out, n)
+}
+
+// Takes the input a chunk at a time: to its end, or until it has too many sheets, whatever follows. One that does not end within as many reads as a
+// machine can count cannot be read.
+fn take_input<R: Read>(
+    input: &mut R,
+    room: &mut [u8; SHEET_ROOM],
+    out: &mut [u8; OUTPUT_ROOM],
+) -> Result<Quarter, Failure>
+    ensures { TakenAll (R.remaining input.old) room.new out.new result }
+{
     let mut chunk = [0u8; CHUNK];
     let mut q = quarter::start();
-    let mut left = MOST_READS;
-    while 0 < left {
-        match stdio::read_some(&mut input, &mut chunk) {
-            Got::Failed => return say_unread(&rt),
-            Got::Bytes(n) => {
-                q = quarter::take_chunk(&mut room, &mut out, q, &chunk[..n]);
-                left = reads_left(left, n, q.over);
-            }
+    for _ in 0..u64::MAX {
+        let n = stdio::read_some(input, &mut chunk)?;
+        q = quarter::take_chunk(room, out, q, &chunk[..n]);
+        if n == 0 || q.over {
+            return Ok(q);
         }
     }
-    let n = quarter::finish(&mut out, q);
-    put_room(&rt, &out, n);
-}
-
-// How many reads may follow one that gave n bytes: none at the end of the input, nor once the input has too many sheets, whatever follows.
-fn reads_left(left: u64, n: usize, over: bool) -> u64
-    requires { 0 < left }
-    ensures { result < left }
-{
-    if n == 0 {
-        return 0;
-    }
-    if over {
-        return 0;
-    }
-    left - 1
-}
-
-// Said where the sheets could not be read.
-fn say_unread(rt: &impl Eprint) {
-    let _ = rt.eprintln("tsav-quarter: the sheets cannot be read");
-}
-
-// The first n bytes of the room.
-fn put_room(rt: &(impl Print + Eprint), room: &[u8; OUTPUT_ROOM], n: usize) {
-    if stdio::put(&mut io::writer(rt), room, n) {
-        return;
-    }
-    let _ = rt.eprintln("tsav-quarter: the lines cannot be written");
+    Err(Failure::Unread)
 }

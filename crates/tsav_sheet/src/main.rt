@@ -2,42 +2,46 @@
 // said on standard error; a sheet that could not be read gets neither a report nor a refusal.
 #![tactic(auto)]
 
+ghost use Rattle.std.specs.Prelude.{◌≡◌};
+ghost use Rattle.judgement.specs.Judgement.{judgement};
+ghost use Rattle.printing.specs.Printing.{printout};
+ghost use Rattle.aggregate.specs.Call.{answer_to};
+ghost use Rattle.stdio.specs.Answered.{Prints};
+
 use report::LONGEST_REPORT;
 use sheet_length::LONGEST_SHEET;
 use std::io;
-use stdio::Got;
+use std::io::{Read, Write};
+use stdio::Failure;
 
 // One byte more than the longest sheet, so that a sheet that is too long is seen to be.
 const SHEET_ROOM: usize = LONGEST_SHEET + 1;
 
-// Reads, has it answered, and writes.
+// Has the sheet answered, or says what kept it from its answer.
 fn main(rt: HostRuntime) {
+    if let Err(failure) = answer(&mut rt.stdin(), &mut io::writer(&rt)) {
+        let _ = rt.eprintln(match failure {
+            Failure::Unread => "tsav-sheet: the sheet cannot be read",
+            Failure::Unwritten => "tsav-sheet: the report cannot be written",
+        });
+    }
+}
+
+// Of a sheet of any bytes and any length, its report or the line of its refusal.
+fn answer<R: Read, W: Write>(input: &mut R, output: &mut W) -> Result<(), Failure>
+    ensures { Prints (λ s. printout (answer_to (judgement s))) (R.remaining input.old) (W.contents output.old) (W.contents output.new) result }
+{
     let mut sheet = [0u8; SHEET_ROOM];
-    match stdio::read_all(&mut rt.stdin(), &mut sheet) {
-        Got::Bytes(n) => answer(&rt, &sheet, n),
-        Got::Failed => say_unread(&rt),
-    }
-}
-
-// Said where a sheet could not be read.
-fn say_unread(rt: &impl Eprint) {
-    let _ = rt.eprintln("tsav-sheet: the sheet cannot be read");
-}
-
-// The first n bytes are the sheet; what is printed of it is fixed by `print_sheet`.
-fn answer(rt: &(impl Print + Eprint), bytes: &[u8], n: usize) {
-    if bytes.len() < n {
-        return say_unread(rt);
-    }
-    let mut room = [0u8; LONGEST_REPORT];
-    let length = aggregate::print_sheet(&bytes[0..n], &mut room);
-    put_room(rt, &room, length);
-}
-
-// The first n bytes of the room.
-fn put_room(rt: &(impl Print + Eprint), room: &[u8; LONGEST_REPORT], n: usize) {
-    if stdio::put(&mut io::writer(rt), room, n) {
-        return;
-    }
-    let _ = rt.eprintln("tsav-sheet: the report cannot be written");
+    let mut report = [0u8; LONGEST_REPORT];
+    stdio::answer(
+        input,
+        output,
+        &mut sheet,
+        |sheet: &[u8]| -> &[u8]
+            ensures { result.now ≡ printout (answer_to (judgement sheet.now)) }
+        {
+            let length = aggregate::print_sheet(sheet, &mut report);
+            &report[..length]
+        },
+    )
 }

@@ -1,23 +1,18 @@
--- What tables are asked for: the RSK lines of a block one after the other, and a companion, which a line that tables can hold has. Assumes nothing.
+-- What tables are asked for: the RSK lines of a block, and a companion, which a line that tables can hold has. Assumes nothing.
+use Rattle.std.specs.Prelude.{Option, Some, None}
 use mathlib.Core.Path.{◌≡◌, refl, sym, ap, ◌∙◌}
 use mathlib.Core.Bool.{Bool, true, false, not}
-use Prim.Native.Nat.{ℕ, suc, ◌+◌, ◌≤◌, ◌<◌}
-use native.Mathlib.Numerals.{add-one}
+use Prim.Native.Nat.{ℕ, ◌≤◌}
 use native.Mathlib.Omega.{arith}
-use lib.Dec.{ltb}
-use borrow.Author.Tests.{lt-ltb, le-ltb, eqb-false}
-use Rattle.search.specs.First.{any_to}
+use borrow.Author.Tests.{eqb-false}
 use Rattle.search.proofs.Picks.{if_true, if_false, by_test, never}
-use Rattle.search.proofs.Anys.{next_decides, goes_on}
 use Rattle.guideline.specs.Sizes.{blocks}
 use Rattle.codes.specs.Codes.{risk_classes, guarantee_class, Key}
 use Rattle.codes.specs.declared.Code.{Code}
 use Rattle.codes.specs.declared.Code.TheVariants.{Rsk, Oth, Mor, Vol, Acq, Gen, Crd}
 use Rattle.order.proofs.Indexes.{block_most}
-use Rattle.needs.specs.Needs.{label, mortality_class, volume_need, credit_need, need_for, need_of, some_risk, counts, met, all_zero, unmet_with, unmet_by}
+use Rattle.needs.specs.Needs.{label, mortality_class, volume_need, credit_need, need_for, need_of, counts, met, all_zero, unmet_with, unmet_by}
 use Rattle.needs.specs.declared.Label.{Label}
-use Rattle.needs.specs.declared.Need.{Need}
-use Rattle.needs.specs.declared.Need.TheVariants.{Nothing, Companion}
 use Rattle.unmet.specs.Asked.{Asked}
 
 -- ---- the RSK lines of a block
@@ -25,41 +20,28 @@ use Rattle.unmet.specs.Asked.{Asked}
 pub risk_key : (b c : ℕ) → (1 ≤ b) × (b ≤ blocks) → 1 ≤ c → c ≤ risk_classes → Key Rsk b c
 risk_key b c h l k = record { low = h.0; high = h.1; one = l; most = k }
 
-module _ (first : Code → ℕ → ℕ → ℕ) (b : ℕ) where
-  -- whether one of the first n classes counts
-  abbrev pub some_of : ℕ → Bool
-  some_of n = any_to (λ c. ltb 0 (first Rsk b c)) n
-
-  module _ (c : ℕ) (h : c < risk_classes) (none : some_of c ≡ false) {x : ℕ} (e : x ≡ first Rsk b (c + 1)) where
-    pub some_more : x ≤ 0 → some_of (c + 1) ≡ false
-    some_more l = rw (add-one c) (next_decides _ c none ∙ rw (← add-one c, ← e) (le-ltb 0 x l))
-
-    pub some_found : 0 < x → true ≡ some_risk first b
-    unfolding some_risk
-    some_found l = sym (goes_on _ (suc c) risk_classes (omega arith) (next_decides _ c none ∙ rw (← add-one c, ← e) (lt-ltb 0 x l)))
-
 -- ---- a companion
 
 module _ {m : Label} where
-  volume_asked : (c : ℕ) → volume_need c ≡ Companion m → Asked m
+  volume_asked : (c : ℕ) → volume_need c ≡ Some m → Asked m
   unfolding volume_need
   volume_asked c =
-      by_test (λ n. n ≡ Companion m → Asked m) _ _ _
+      by_test (λ n. n ≡ Some m → Asked m) _ _ _
       (λ t q.
       let e : label Gen 0 guarantee_class ≡ m = cc in
       rw (← e) (record { a_block = λ z. absurd (omega arith); a_class = λ z. record { low = omega arith; high = omega arith; one = omega arith; most = omega arith } }))
       (λ t q. never (cc))
 
-  credit_asked : (b c : ℕ) → Key Crd b c → credit_need b ≡ Companion m → Asked m
+  credit_asked : (b c : ℕ) → Key Crd b c → credit_need b ≡ Some m → Asked m
   unfolding credit_need
   credit_asked b c v =
-      by_test (λ n. n ≡ Companion m → Asked m) _ _ _ (λ t q. never (cc))
+      by_test (λ n. n ≡ Some m → Asked m) _ _ _ (λ t q. never (cc))
       (λ t q.
       let e : label Rsk b 0 ≡ m = cc in
       let n = eqb-false b 0 t in
       rw (← e) (record { a_block = λ z. (omega (arith, n), omega (arith, v.high, block_most Crd b)); a_class = λ z. absurd (z refl) }))
 
-  pub companion_asked : (k : Code) (b c : ℕ) → Key k b c → need_for k b c ≡ Companion m → Asked m
+  pub companion_asked : (k : Code) (b c : ℕ) → Key k b c → need_for k b c ≡ Some m → Asked m
   companion_asked Rsk b c v q = never (cc)
   companion_asked Oth b c v q = never (cc)
   companion_asked Gen b c v q = never (cc)
@@ -87,13 +69,13 @@ module _ (first second : Code → ℕ → ℕ → ℕ) (l : Label) {x y : ℕ} (
   unfolding unmet_with
   all_zero_met z = sym (if_true _ (rw (p, q) at z))
 
-  module _ (z : all_zero x y ≡ false) {n : Need} (w : n ≡ need_of l) where
+  module _ (z : all_zero x y ≡ false) {n : Option Label} (w : n ≡ need_of l) where
     by_need : unmet_by first second l ≡ not (met first n)
     unfolding unmet_with
-    by_need = if_false _ (rw (p, q) at z) ∙ ap (λ (v : Need). not (met first v)) (sym w)
+    by_need = if_false _ (rw (p, q) at z) ∙ ap (λ (v : Option Label). not (met first v)) (sym w)
 
-    pub nothing_met : n ≡ Nothing → false ≡ unmet_by first second l
-    nothing_met e = sym (by_need ∙ ap (λ (v : Need). not (met first v)) e)
+    pub nothing_met : n ≡ None → false ≡ unmet_by first second l
+    nothing_met e = sym (by_need ∙ ap (λ (v : Option Label). not (met first v)) e)
 
-    pub companion_met : {m : Label} {t : Bool} → n ≡ Companion m → t ≡ counts first m → not t ≡ unmet_by first second l
-    companion_met e u = sym (by_need ∙ ap (λ (v : Need). not (met first v)) e ∙ ap not (sym u))
+    pub companion_met : {m : Label} {t : Bool} → n ≡ Some m → t ≡ counts first m → not t ≡ unmet_by first second l
+    companion_met e u = sym (by_need ∙ ap (λ (v : Option Label). not (met first v)) e ∙ ap not (sym u))

@@ -1,4 +1,5 @@
 -- What tables that hold a sheet's lines tell of a need is what the lines do. Assumes nothing.
+use Rattle.std.specs.Prelude.{Option, Some, None}
 use mathlib.Core.Path.{◌≡◌, refl, sym, ap, ◌∙◌}
 use mathlib.Core.Bool.{Bool, false, not}
 use mathlib.Core.List.{List}
@@ -14,12 +15,10 @@ use Rattle.codes.specs.declared.Code.TheVariants.{Rsk}
 use Rattle.sheet_line.specs.declared.Entry.{Entry}
 use Rattle.order.specs.Entries.{lookup, first_of, second_of}
 use Rattle.order.specs.Places.{tabled}
-use Rattle.ledger.specs.Tables.{Holds}
+use Rattle.ledger.specs.Tables.{Held}
 use Rattle.ledger.proofs.Tables.{amount_is}
 use Rattle.needs.specs.Needs.{need_of, some_risk, counts, met, all_zero, unmet_with, unmet_by}
 use Rattle.needs.specs.declared.Label.{Label}
-use Rattle.needs.specs.declared.Need.{Need}
-use Rattle.needs.specs.declared.Need.TheVariants.{Nothing, Companion}
 use Rattle.unmet.specs.Asked.{Asked}
 use Rattle.unmet.proofs.Asking.{risk_key, companion_asked}
 
@@ -29,7 +28,7 @@ unfolding any_to
 any_same P Q zero h = refl
 any_same P Q (suc n) h = rw (any_same P Q n (λ c l k. h c l (omega arith)), h (suc n) (omega arith) (omega arith))
 
-module _ {es : List Entry} {f s m : List ℕ} (H : Holds es f s m) where
+module _ {es : List Entry} {f s m : List ℕ} (H : Held es f s m) where
   same_counts : (l : Label) → Asked l → counts (tabled f) l ≡ counts (lookup first_of es) l
   unfolding counts some_risk
   same_counts l a =
@@ -41,9 +40,9 @@ module _ {es : List Entry} {f s m : List ℕ} (H : Holds es f s m) where
         | no e ↦ if_ne _ e ∙ ap (λ (n : ℕ). ltb 0 n) (amount_is H l.code l.block l.class (a.a_class e)).0 ∙ sym (if_ne _ e)
       ]
 
-  same_met : (n : Need) → ((l : Label) → n ≡ Companion l → Asked l) → met (tabled f) n ≡ met (lookup first_of es) n
-  same_met Nothing h = refl
-  same_met (Companion l) h = same_counts l (h l refl)
+  same_met : (n : Option Label) → ((l : Label) → n ≡ Some l → Asked l) → met (tabled f) n ≡ met (lookup first_of es) n
+  same_met None h = refl
+  same_met (Some l) h = same_counts l (h l refl)
 
   pub same_unmet : (l : Label) → Key l.code l.block l.class
       → unmet_by (tabled f) (tabled s) l ≡ unmet_by (lookup first_of es) (lookup second_of es) l

@@ -9,7 +9,7 @@ ghost use Rattle.needs.specs.Needs.{some_risk, counts, all_zero, unmet_by};
 ghost use Rattle.unmet.specs.Asked.{Asked};
 
 use codes::{Code, RISK_CLASSES};
-use needs::{Label, Need};
+use needs::Label;
 use order::PLACES;
 
 // Whether the need of a line is unmet.
@@ -24,7 +24,7 @@ pub fn unmet(firsts: &[u64; PLACES], seconds: &[u64; PLACES], l: Label) -> bool
         return false;
     }
     let need = needs::need_of(l);
-    let Need::Companion(companion) = need else {
+    let Some(companion) = need else {
         return false;
     };
     !counts(firsts, companion)
@@ -34,10 +34,7 @@ pub fn unmet(firsts: &[u64; PLACES], seconds: &[u64; PLACES], l: Label) -> bool
 fn all_zero(first: u64, second: u64) -> bool
     ensures { result ≡ all_zero first second }
 {
-    if first != 0 {
-        return false;
-    }
-    second == 0
+    first == 0 && second == 0
 }
 
 // Whether a companion is there and its first amount isn't 0.
@@ -57,12 +54,5 @@ fn some_risk(firsts: &[u64; PLACES], block: usize) -> bool
     requires { (1 ≤ block) × (block ≤ blocks) }
     ensures { result ≡ some_risk (tabled firsts.now) block }
 {
-    let mut class = 0;
-    while class < RISK_CLASSES {
-        class += 1;
-        if 0 < ledger::amount_of(firsts, Code::Rsk, block, class) {
-            return true;
-        }
-    }
-    false
+    (0..RISK_CLASSES).any(|i| 0 < ledger::amount_of(firsts, Code::Rsk, block, i + 1))
 }

@@ -1,1 +1,4 @@
--- The laws of the module `words` stand in its folder.
+-- What the proofs of the operations on two words share: laws of numbers of two digits.
+pub mod Digits
+pub mod Difference
+pub mod Limits

@@ -6,4 +6,4 @@ use Rattle.aggregate.proofs.print_sheet.Goals as goal
 
 pub returns : goal.returns
 returns c =
-    printed_text _ _ _ (λ es e. never_longer es) (omega (arith, c.sheet_call-arg-1.given)) c.sheet_call-answer.result c.sheet_call-answer.ensures.answer c.print_answer.ensures
+    printed_text _ _ _ (λ es e. never_longer es) (omega arith) c.sheet_call-answer.result c.sheet_call-answer.ensures.answer c.print_answer.ensures

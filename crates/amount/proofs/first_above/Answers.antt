@@ -1,22 +1,14 @@
--- A loop that stands at i has found none before it; the first that passes ends it, and the end where none does. Assumes nothing.
-use mathlib.Core.Path.{sym}
-use borrow.Author.Tests.{lt-ltb, le-ltb}
-use Rattle.search.proofs.Firsts.{sought_start, sought_more, sought_found, sought_none}
-use Rattle.amount.specs.Amount.{first_above}
+-- What `position` gives of the slice's items is the first that passes, and none where none does. Assumes nothing.
+use Prim.Native.Nat.{◌≤◌, ◌<◌}
+use borrow.Author.Rules.{rules}
+use borrow.Author.Tests.{tests}
+use Rattle.std.proofs.lemmas.Iterator.{IsFirst-from_position, YieldsList-from_slice}
+use Rattle.amount.specs.Amount.{limit}
+use Rattle.amount.proofs.Amounts.{first_at}
 use Rattle.amount.proofs.first_above.Goals as goal
 
-pub loop-i-init : goal.loop-i-init
-loop-i-init c = sought_start _ _
-
-pub returns-then-amounts-i-gt-LARGEST_AMOUNT : goal.returns-then-amounts-i-gt-LARGEST_AMOUNT
-unfolding first_above
-returns-then-amounts-i-gt-LARGEST_AMOUNT c =
-    sym (sought_found _ _ _ c.loop-i-test.true (lt-ltb _ _ c.if-amounts-i-gt-LARGEST_AMOUNT.true) c.loop-i.invariant)
-
-pub loop-i-preserved : goal.loop-i-preserved
-loop-i-preserved c =
-    sought_more _ _ _ c.loop-i-test.true (le-ltb _ _ c.if-amounts-i-gt-LARGEST_AMOUNT.false) c.loop-i.invariant
-
 pub returns : goal.returns
-unfolding first_above
-returns c = sym (sought_none _ _ _ c.loop-i-test.false c.loop-i.invariant)
+returns c =
+    first_at _ _
+    (IsFirst-from_position _ _ _ (λ x. limit < x) (λ x. x ≤ limit) c.position.ensures.ran (YieldsList-from_slice _ c.iter.ensures.rest)
+    (λ x q k. search (rules, tests)) (λ x q k. search (rules, tests)))

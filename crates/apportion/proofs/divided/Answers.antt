@@ -1,6 +1,7 @@
 -- Whenever the loop's test is reached, the first parts are divided, and what is left of K is K less their quotients. Assumes nothing.
 use mathlib.Core.Path.{◌≡◌, refl}
 use native.Mathlib.Omega.{arith}
+use Rattle.std.proofs.lemmas.List.{map-set}
 use Rattle.search.specs.Total.{sum_to}
 use Rattle.search.proofs.Ascents.{listed_start, listed_more, listed_all}
 use Rattle.guideline.specs.Sizes.{parts}
@@ -28,13 +29,15 @@ loop-part-preserved c =
     let i = c.loop-part.invariant in
     let e = c.part_of-by.ensures in
     let q = base_is _ _ _ p _ _ e.0 in
-    (listed_more _ _ _ _ _ w q i.0, listed_more _ _ _ _ _ w (remainder_is _ _ _ p _ _ e.1) i.1, left_after _ _ _ p _ _ _ w q i.2)
+    let l = c.loop-part in (
+      rw (map-set (λ d. d.quotient) l.shares l.part c.part_of-by.result) (listed_more _ _ _ _ _ w q i.0),
+      rw (map-set (λ d. d.rest) l.shares l.part c.part_of-by.result) (listed_more _ _ _ _ _ w (remainder_is _ _ _ p _ _ e.1) i.1),
+      left_after _ _ _ p _ _ _ w q i.2,
+    )
 
-pub returns : goal.returns
-returns c =
+pub returns-clause-quotients : goal.returns-clause-quotients
+returns-clause-quotients c =
     let l = c.loop-part in
     let w = c.loop-part-test.false in
-    let e : l.part ≡ parts = omega (arith, w, l.invariant.0.within) in record {
-      quotients = (listed_all _ _ _ _ w l.invariant.0, left_all _ _ _ c.requires _ (rw e at l.invariant.2));
-      remainders = listed_all _ _ _ _ w l.invariant.1;
-    }
+    let e : l.part ≡ parts = omega (arith, w, l.invariant.0.within) in
+    (listed_all _ _ _ _ w l.invariant.0, left_all _ _ _ c.requires _ (rw e at l.invariant.2))

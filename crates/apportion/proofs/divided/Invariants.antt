@@ -1,16 +1,14 @@
 use mathlib.Core.Path.{◌≡◌}
-use Prim.Native.Nat.{◌+◌, ◌-◌}
+use Prim.Native.Nat.{◌+◌}
 use Rattle.search.specs.Total.{sum_to}
 use Rattle.search.proofs.Ascents.{Listed}
 use Rattle.guideline.specs.Sizes.{parts}
 use Rattle.apportion.specs.Shares.{value_of_part, base, remainder}
+use Rattle.apportion.specs.Steps.{quotients, rests}
 use Rattle.apportion.proofs.divided.Given as goal
 
 abbrev pub invariant-loop-part : goal.invariant-loop-part
 invariant-loop-part l =
-    Listed (base l.k (value_of_part l.margins)) parts l.quotients l.part
-    × Listed (remainder l.k (value_of_part l.margins)) parts l.rests l.part
+    Listed (base l.k (value_of_part l.margins)) parts (quotients l.shares) l.part
+    × Listed (remainder l.k (value_of_part l.margins)) parts (rests l.shares) l.part
     × (l.left + sum_to (base l.k (value_of_part l.margins)) l.part ≡ l.k)
-
-abbrev pub decreases-loop-part : goal.decreases-loop-part
-decreases-loop-part l = parts - l.part

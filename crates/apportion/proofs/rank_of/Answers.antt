@@ -6,33 +6,34 @@ use Rattle.search.specs.Total.{sum_to, one, count_to}
 use Rattle.search.proofs.Totals.{sum_step, count_most}
 use Rattle.guideline.specs.Sizes.{parts}
 use Rattle.apportion.specs.Shares.{value_of_part, before, rank}
+use Rattle.apportion.specs.Steps.{rests}
 use Rattle.apportion.proofs.Parts.{counted}
 use Rattle.apportion.proofs.rank_of.Goals.{After-one_before-before}
 use Rattle.apportion.proofs.rank_of.Goals as goal
 
 pub loop-other-init : goal.loop-other-init
 unfolding sum_to
-loop-other-init c = (omega arith, refl)
+loop-other-init c = refl
 
 -- with the next part
 next : (c : After-one_before-before) →
     let a = c.args in
-    c.loop-other.before + c.one_before-before.result ≡ count_to (λ q. before (value_of_part a.rests.now) q a.part) (c.loop-other.other + 1)
+    c.loop-other.before + c.one_before-before.result ≡ count_to (λ q. before (value_of_part (rests a.divided.now)) q a.part) (c.loop-other.other + 1)
 next c =
-    let e = counted c.args.rests.now c.loop-other.other c.args.part c.requires.0 in
-    omega (arith, c.loop-other.invariant.1, c.one_before-before.ensures, e, sum_step (λ q. one (before (value_of_part c.args.rests.now) q c.args.part)) c.loop-other.other)
+    let e = counted c.args.divided.now c.loop-other.other c.args.part c.requires.0 in
+    omega (arith, c.loop-other.invariant, c.one_before-before.ensures, e, sum_step (λ q. one (before (value_of_part (rests c.args.divided.now)) q c.args.part)) c.loop-other.other)
 
 pub overflow_add-before : goal.overflow_add-before
 overflow_add-before c =
     let a = c.args in
-    omega (arith, next c, count_most (λ q. before (value_of_part a.rests.now) q a.part) (c.loop-other.other + 1), c.loop-other-test.true)
+    omega (arith, next c, count_most (λ q. before (value_of_part (rests a.divided.now)) q a.part) (c.loop-other.other + 1), c.loop-other-test.true)
 
 pub loop-other-preserved : goal.loop-other-preserved
-loop-other-preserved c = (omega (arith, c.loop-other-test.true), next c)
+loop-other-preserved c = next c
 
 pub returns : goal.returns
 unfolding rank
 returns c =
     let l = c.loop-other in
-    let e : l.other ≡ parts = omega (arith, c.loop-other-test.false, l.invariant.0) in
-    rw e at l.invariant.1
+    let e : l.other ≡ parts = omega (arith, c.loop-other-test.false, l.auto.other-end) in
+    rw e at l.invariant

@@ -4,10 +4,11 @@ use Prim.Native.Nat.{◌+◌}
 use native.Mathlib.Omega.{arith}
 use lib.Dec.{ltb}
 use Rattle.search.proofs.Totals.{one_most}
-use Rattle.search.proofs.Ascents.{listed_start, listed_more, listed_all}
+use Rattle.search.proofs.Ascents.{listed_start, listed_more}
 use Rattle.guideline.specs.Sizes.{parts}
 use Rattle.apportion.specs.Shares.{value_of_part, rank}
-use Rattle.apportion.proofs.Parts.{part_at, part_within}
+use Rattle.apportion.specs.Steps.{quotients, rests}
+use Rattle.apportion.proofs.Parts.{quotient_at, part_within}
 use Rattle.apportion.proofs.with_cents.Goals as goal
 
 pub loop-part-init : goal.loop-part-init
@@ -16,12 +17,9 @@ loop-part-init c = listed_start _ _ _ refl
 pub overflow_add-shares : goal.overflow_add-shares
 overflow_add-shares c =
     let i = c.loop-part.part in
-    let within = part_within (value_of_part c.args.quotients.now) i c.loop-part-test.true in
-    omega (arith, c.requires, within, part_at c.args.quotients.now i, c.cent.ensures, one_most (ltb (rank (value_of_part c.args.rests.now) parts (i + 1)) c.args.left))
+    let within = part_within (value_of_part (quotients c.args.divided.now)) i c.loop-part-test.true in
+    omega (arith, c.requires, within, quotient_at c.args.divided.now i, c.cent.ensures, one_most (ltb (rank (value_of_part (rests c.args.divided.now)) parts (i + 1)) c.args.left))
 
 pub loop-part-preserved : goal.loop-part-preserved
 loop-part-preserved c =
-    listed_more _ _ _ _ _ c.loop-part-test.true (λ j. sym (part_at c.args.quotients.now c.loop-part.part) j + c.cent.ensures j) c.loop-part.invariant
-
-pub returns : goal.returns
-returns c = listed_all _ _ _ _ c.loop-part-test.false c.loop-part.invariant
+    listed_more _ _ _ _ _ c.loop-part-test.true (λ j. sym (quotient_at c.args.divided.now c.loop-part.part) j + c.cent.ensures j) c.loop-part.invariant

@@ -1,14 +1,12 @@
-use Prim.Native.Nat.{◌+◌, ◌-◌}
+use Prim.Native.Nat.{◌+◌}
 use lib.Dec.{ltb}
 use Rattle.search.specs.Total.{one}
 use Rattle.search.proofs.Ascents.{Listed}
 use Rattle.guideline.specs.Sizes.{parts}
 use Rattle.apportion.specs.Shares.{value_of_part, rank}
+use Rattle.apportion.specs.Steps.{quotients, rests}
 use Rattle.apportion.proofs.with_cents.Given as goal
 
 abbrev pub invariant-loop-part : goal.invariant-loop-part
 invariant-loop-part l =
-    Listed (λ p. value_of_part l.quotients p + one (ltb (rank (value_of_part l.rests) parts p) l.left)) parts l.shares l.part
-
-abbrev pub decreases-loop-part : goal.decreases-loop-part
-decreases-loop-part l = parts - l.part
+    Listed (λ p. value_of_part (quotients l.divided) p + one (ltb (rank (value_of_part (rests l.divided)) parts p) l.left)) parts l.shares l.part

@@ -12,17 +12,17 @@ pub admit-admitted-requires : goal.admit-admitted-requires
 admit-admitted-requires c =
     rw (← c.read_in-read.ensures) at (lent_keyed (reads _) c.loop-i.invariant.read c.loop-i-test.true)
 
-pub returns-in-Refused : goal.returns-in-Refused
-returns-in-Refused c =
-    test_turned c.loop-i.invariant c.loop-i-test.true (rw c.read_in-read.ensures at c.admit-admitted.ensures) c.convertible-line.ensures c.in-Refused.is
+pub returns-in-Err : goal.returns-in-Err
+returns-in-Err c =
+    test_turned c.loop-i.invariant c.loop-i-test.true (rw c.read_in-read.ensures at c.admit-admitted.ensures) c.convertible-line.ensures c.in-Err.is
 
 pub key_of-last-requires : goal.key_of-last-requires
 key_of-last-requires c =
-    test_key c.loop-i.invariant c.loop-i-test.true (rw c.read_in-read.ensures at c.admit-admitted.ensures) c.convertible-line.ensures c.in-Good.is
+    test_key c.loop-i.invariant c.loop-i-test.true (rw c.read_in-read.ensures at c.admit-admitted.ensures) c.convertible-line.ensures c.in-Ok.is
 
 pub loop-i-preserved : goal.loop-i-preserved
 loop-i-preserved c =
-    test_again c.loop-i.invariant c.loop-i-test.true (rw c.read_in-read.ensures at c.admit-admitted.ensures) c.convertible-line.ensures c.in-Good.is c.key_of-last.ensures
+    test_again c.loop-i.invariant c.loop-i-test.true (rw c.read_in-read.ensures at c.admit-admitted.ensures) c.convertible-line.ensures c.in-Ok.is c.key_of-last.ensures
 
 pub returns : goal.returns
 returns c =

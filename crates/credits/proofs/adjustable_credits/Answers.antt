@@ -9,26 +9,27 @@ use Rattle.guideline.specs.Sizes.{adjustable_products}
 use Rattle.codes.specs.declared.Code.TheVariants.{Crd}
 use Rattle.ledger.specs.Numbers.{adjustable_credit}
 use Rattle.ledger.proofs.Bounds.{first_most}
+use Rattle.std.proofs.Props.{props}
+use Rattle.ledger.proofs.Tables.{of_lines}
 use Rattle.credits.proofs.Credits.{adjustable_key, next_adjustable}
-use borrow.Author.Rules.{rules}
 use Rattle.credits.proofs.adjustable_credits.Goals as goal
 
 pub loop-i-init : goal.loop-i-init
 unfolding sum_to
-loop-i-init c = (search rules, λ es H. refl)
+loop-i-init c es H = refl
 
-pub amount_of-sum-requires : goal.amount_of-sum-requires
-amount_of-sum-requires c = adjustable_key _ (omega arith) (omega (arith, c.loop-i-test.true))
+pub amounts-sum-requires : goal.amounts-sum-requires
+amounts-sum-requires c = adjustable_key _ (omega arith) (omega (arith, c.loop-i-test.true))
 
 pub overflow_add-sum : goal.overflow_add-sum
 overflow_add-sum c =
-    let l = c.requires in
-    let next = next_adjustable l.1 c.loop-i-test.true (c.loop-i.invariant.1 l.0 l.1) c.amount_of-sum.ensures in
-    omega (arith, next, sum_most (adjustable_credit l.0) limit (λ b. first_most l.0 l.1.lines Crd 0 b) (c.loop-i.i + 1), c.loop-i-test.true)
+    of_lines c.args.ledger.now (hlevel props)
+    (λ es H.
+    let next = next_adjustable H c.loop-i-test.true (c.loop-i.invariant es H) c.amounts-sum.ensures.first in
+    omega (arith, next, sum_most (adjustable_credit es) limit (λ b. first_most es H.lines Crd 0 b) (c.loop-i.i + 1), c.loop-i-test.true))
 
 pub loop-i-preserved : goal.loop-i-preserved
-loop-i-preserved c =
-    (search rules, λ es H. next_adjustable H c.loop-i-test.true (c.loop-i.invariant.1 es H) c.amount_of-sum.ensures)
+loop-i-preserved c es H = next_adjustable H c.loop-i-test.true (c.loop-i.invariant es H) c.amounts-sum.ensures.first
 
 pub returns : goal.returns
-returns c es H = let l = c.loop-i in let e : l.i ≡ adjustable_products = omega (arith, c.loop-i-test.false) in rw e at (l.invariant.1 es H)
+returns c es H = let l = c.loop-i in let e : l.i ≡ adjustable_products = omega (arith, l.auto.i-end, c.loop-i-test.false) in rw e at (l.invariant es H)

@@ -1,39 +1,20 @@
--- Whenever the loop's test is reached, no credit of blocks 1 to i is above its block's LT(1). Assumes nothing.
-use mathlib.Core.Path.{◌≡◌, sym, ◌∙◌}
-use Prim.Native.Nat.{suc}
-use native.Mathlib.Numerals.{add-one}
-use native.Mathlib.Omega.{arith}
-use borrow.Author.Tests.{lt-ltb, le-ltb}
-use Rattle.search.proofs.Anys.{none_yet, next_decides, goes_on}
+-- The test of i is that of block i + 1, so the chain tells whether one of blocks 1 to 16 passes it. Assumes nothing.
+use Rattle.std.proofs.Common.{rules, ◌≡◌, ℕ, ◌+◌, Bool, true, false, refl, get_or, add-one}
+use Rattle.std.proofs.lemmas.Iterator.{cases_from_any, YieldsList-from_range}
+use borrow.Author.Tests.{tests}
+use lib.Dec.{ltb}
+use Rattle.codes.specs.declared.Code.TheVariants.{Rsk}
+use Rattle.order.specs.Places.{tabled}
 use Rattle.guideline.specs.Sizes.{non_participating}
+use Rattle.ledger.proofs.Ranges.{any_below}
 use Rattle.credits.specs.Credits.{credit_above}
-use Rattle.credits.proofs.Credits.{trend_key, above_is}
-use borrow.Author.Rules.{rules}
+use Rattle.credits.proofs.Credits.{above_is}
 use Rattle.credits.proofs.any_credit_above.Goals as goal
 
-pub loop-i-init : goal.loop-i-init
-loop-i-init c = (search rules, λ es H. none_yet _)
-
-pub amount_of-requires : goal.amount_of-requires
-amount_of-requires c = trend_key _ c.loop-i-test.true
-
-pub returns-then-amount_of-credits : goal.returns-then-amount_of-credits
-returns-then-amount_of-credits c es H =
-    let i = c.loop-i.i in
-    let s = c.requires in
-    let above = above_is H c.loop-i-test.true _ _ c.amount_of.ensures (s.credited es H _ c.loop-i-test.true) ∙ lt-ltb _ _ c.if-amount_of-credits.true in
-    sym (goes_on (credit_above es) (suc i) non_participating (omega (arith, c.loop-i-test.true)) (next_decides _ i (c.loop-i.invariant.1 es H) ∙ rw (← add-one i) above))
-
-pub loop-i-preserved : goal.loop-i-preserved
-loop-i-preserved c =
-    let i = c.loop-i.i in
-    let s = c.requires in (
-      search rules,
-      λ es H.
-          rw (add-one i)
-          (next_decides (credit_above es) i (c.loop-i.invariant.1 es H) ∙ rw (← add-one i)
-          (above_is H c.loop-i-test.true _ _ c.amount_of.ensures (s.credited es H _ c.loop-i-test.true) ∙ le-ltb _ _ c.if-amount_of-credits.false)),
-    )
-
 pub returns : goal.returns
-returns c es H = let l = c.loop-i in let e : l.i ≡ non_participating = omega (arith, c.loop-i-test.false) in sym (rw e at (l.invariant.1 es H))
+returns c es H =
+    let T : ℕ → Bool = λ i. ltb (tabled c.args.ledger.now.seconds Rsk (i + 1) 1) (get_or c.args.credits.now i 0) in
+    any_below T (credit_above es) non_participating
+    (λ i l. rw (← add-one i) (above_is H l _ _ refl (c.requires.credited es H i l))) c.any.result
+    (cases_from_any _ _ _ (λ i. T i ≡ true) (λ i. T i ≡ false) c.any.ensures.ran (YieldsList-from_range 0 non_participating non_participating refl refl)
+    (λ x q k. search (rules, tests)) (λ x q k. search (rules, tests)))

@@ -9,9 +9,9 @@ use Rattle.credits.proofs.dividend_credit.Goals as goal
 pub returns-then-block-le-NON_PARTICIPATING : goal.returns-then-block-le-NON_PARTICIPATING
 returns-then-block-le-NON_PARTICIPATING c es H = sym (no_dividend es H.lines _ c.if-block-le-NON_PARTICIPATING.true c.requires.block_number.0).0
 
-pub amount_of-requires : goal.amount_of-requires
-amount_of-requires c = dividend_key _ c.if-block-le-NON_PARTICIPATING.false c.requires.block_number.1
+pub amounts-requires : goal.amounts-requires
+amounts-requires c = dividend_key _ c.if-block-le-NON_PARTICIPATING.false c.requires.block_number.1
 
 pub returns : goal.returns
 returns c es H =
-    c.amount_of.ensures ∙ (amount_is H Crd _ 1 (dividend_key _ c.if-block-le-NON_PARTICIPATING.false c.requires.block_number.1)).0
+    c.amounts.ensures.first ∙ (amount_is H Crd _ 1 (dividend_key _ c.if-block-le-NON_PARTICIPATING.false c.requires.block_number.1)).0

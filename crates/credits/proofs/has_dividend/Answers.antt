@@ -9,9 +9,9 @@ use Rattle.credits.proofs.has_dividend.Goals as goal
 pub returns-then-block-le-NON_PARTICIPATING : goal.returns-then-block-le-NON_PARTICIPATING
 returns-then-block-le-NON_PARTICIPATING c es H = sym (no_dividend es H.lines _ c.if-block-le-NON_PARTICIPATING.true c.requires.block_number.0).1
 
-pub has_mark-requires : goal.has_mark-requires
-has_mark-requires c = dividend_key _ c.if-block-le-NON_PARTICIPATING.false c.requires.block_number.1
+pub has_line-requires : goal.has_line-requires
+has_line-requires c = dividend_key _ c.if-block-le-NON_PARTICIPATING.false c.requires.block_number.1
 
 pub returns : goal.returns
 returns c es H =
-    c.has_mark.ensures ∙ mark_is H Crd _ 1 (dividend_key _ c.if-block-le-NON_PARTICIPATING.false c.requires.block_number.1)
+    c.has_line.ensures ∙ mark_is H Crd _ 1 (dividend_key _ c.if-block-le-NON_PARTICIPATING.false c.requires.block_number.1)

@@ -5,15 +5,16 @@ use Rattle.mortality.specs.Credit.{lowered}
 use Rattle.sheet_line.specs.declared.Entry.{Entry}
 use Rattle.ledger.specs.Numbers.{block_of}
 use Rattle.credits.specs.Credits.{credit_of, after_credit}
-use Rattle.ledger.specs.Tables.{Holds}
-use Rattle.ledger.proofs.Tables.{numbers_are}
+use Rattle.ledger.specs.Lines.{Holds}
+use Rattle.std.proofs.Props.{props}
+use Rattle.ledger.proofs.Tables.{of_lines, numbers_are}
 use Rattle.credits.proofs.Accepted.{entered_accepted}
 use Rattle.credits.proofs.numbers_after_credit.Goals.{After-credit_of}
 use Rattle.credits.proofs.numbers_after_credit.Goals as goal
 
 -- the numbers and the credit
 read : (c : After-credit_of) (es : List Entry) →
-    Holds es c.args.firsts.now c.args.seconds.now c.args.marks.now
+    Holds es c.args.ledger.now
     → (c.block_numbers-entered.result ≡ block_of es c.args.block) × (c.credit_of.result ≡ credit_of es c.args.block)
 read c es H =
     let p = c.requires in
@@ -21,10 +22,10 @@ read c es H =
 
 pub lowered-requires : goal.lowered-requires
 lowered-requires c =
-    let p = c.requires in
-    let l = p.ledger in
-    let r = read c l.0 l.1 in
-    rw (r.0, r.1) ((p.credited l.0 l.1).covered _, (entered_accepted l.0 l.1.lines _).lt_within.0)
+    of_lines c.args.ledger.now (hlevel props)
+    (λ es H.
+    let r = read c es H in
+    rw (r.0, r.1) ((c.requires.credited es H).covered _, (entered_accepted es H.lines _).lt_within.0))
 
 pub returns : goal.returns
 unfolding after_credit

@@ -2,15 +2,12 @@
 -- down what is left. Assumes nothing.
 use native.Mathlib.Omega.{arith}
 use lib.Count.{count_leading_zeros}
-use Rattle.division.proofs.Quotients.{Width, width_of, fewer, start, narrower, step, last}
+use Rattle.division.proofs.Quotients.{Width, width_of, fewer, narrower, step}
 use Rattle.division.proofs.divide_lower.Goals.{Start}
 use Rattle.division.proofs.divide_lower.Goals as goal
 
 width : (c : Start) → Width c.args.d (count_leading_zeros 64 c.args.d)
 width c = width_of _ (omega (arith, c.requires.0)) c.requires.1
-
-pub loop-left-init : goal.loop-left-init
-loop-left-init c = (omega arith, start _ _ _ c.requires.0 (omega arith))
 
 pub divide_step-held-requires : goal.divide_step-held-requires
 divide_step-held-requires c =
@@ -31,15 +28,7 @@ loop-left-preserved c =
     let e = c.divide_step-held.ensures in
     (omega (arith, l.invariant.0), step _ _ _ _ _ _ _ _ _ (omega arith) l.invariant.1 e.below.0 e.below.1 e.value)
 
-pub divide_step-requires : goal.divide_step-requires
-divide_step-requires c =
-    let w = width (goal.at.divide_step-requires c).Start in
-    let l = c.loop-left in record {
-      widths = (omega arith, omega (arith, w.below, c.loop-left-test.false), fewer _ _ _ w c.loop-left-test.false);
-      room = (l.invariant.1.small, l.invariant.1.room);
-    }
-
-pub returns : goal.returns
-returns c =
-    let e = c.divide_step.ensures in
-    (e.below.0, last _ _ _ _ _ _ _ c.loop-left.invariant.1 e.value)
+pub divide_step-requires-clause-widths : goal.divide_step-requires-clause-widths
+divide_step-requires-clause-widths c =
+    let w = width (goal.at.divide_step-requires-clause-widths c).Start in
+    (omega arith, omega (arith, w.below, c.loop-left-test.false), fewer _ _ _ w c.loop-left-test.false)

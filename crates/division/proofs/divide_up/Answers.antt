@@ -1,31 +1,15 @@
--- A quotient that fits a word is its lower word; it is rounded up by its rest. Assumes nothing.
-use mathlib.Core.Path.{◌≡◌, ap, ◌∙◌}
-use Prim.Native.Nat.{ℕ, ◌+◌}
+-- A quotient that fits a word is its lower word. Assumes nothing.
+use mathlib.Core.Path.{◌≡◌, ◌∙◌}
 use native.Mathlib.Omega.{arith}
 use Rattle.wide.specs.Value.{value}
-use Rattle.division.proofs.Quotients.{quotient_below, exact_quotient, quotient_room, next_quotient}
-use borrow.Author.Rules.{rules}
-use Rattle.division.proofs.divide_up.Goals.{After-divide-by}
+use Rattle.division.proofs.Quotients.{up_most, up_least}
+use Rattle.division.proofs.divide_up.Goals.{After-quotient_up}
 use Rattle.division.proofs.divide_up.Goals as goal
 
 -- the quotient is its lower word
-low_word : (c : After-divide-by) → c.divide-by.result.quotient.low ≡ value c.divide-by.result.quotient
+low_word : (c : After-quotient_up) → c.quotient_up.result.low ≡ value c.quotient_up.result
 unfolding value
-low_word c =
-    let e = c.divide-by.ensures in
-    omega (arith, quotient_below _ _ _ _ e.1 e.0 c.requires.2)
+low_word c = omega (arith, c.quotient_up.ensures, up_most _ _ c.requires.0 _ c.requires.2)
 
-pub overflow_add-result : goal.overflow_add-result
-overflow_add-result c =
-    let e = c.divide-by.ensures in
-    omega (arith, low_word (goal.at.overflow_add-result c).After-divide-by, quotient_room _ _ _ _ e.1 e.0 c.requires.2 (search rules))
-
-pub returns-then-rest-eq0 : goal.returns-then-rest-eq0
-returns-then-rest-eq0 c =
-    let e = c.divide-by.ensures in
-    low_word (goal.at.returns-then-rest-eq0 c).After-divide-by ∙ exact_quotient _ _ _ _ e.1 e.0 c.requires.2 (search rules)
-
-pub returns-else-rest-eq0 : goal.returns-else-rest-eq0
-returns-else-rest-eq0 c =
-    let e = c.divide-by.ensures in
-    ap (λ (x : ℕ). x + 1) (low_word (goal.at.returns-else-rest-eq0 c).After-divide-by) ∙ next_quotient _ _ _ _ e.1 e.0 c.requires.2 (search rules)
+pub returns : goal.returns
+returns c = low_word (goal.at.returns c).After-quotient_up ∙ c.quotient_up.ensures ∙ up_least _ _ c.requires.0 c.requires.2

@@ -1,11 +1,8 @@
 use mathlib.Core.Path.{◌≡◌}
-use Prim.Native.Nat.{◌≤◌, ◌<◌, ◌-◌, ◌^◌}
-use lib.ListN.{length, drop}
+use Prim.Native.Nat.{◌<◌, ◌^◌}
+use lib.ListN.{drop}
 use Rattle.field.specs.Field.{digits}
 use Rattle.field.proofs.digits_from.Given as goal
 
-abbrev pub invariant-loop-i : goal.invariant-loop-i
-invariant-loop-i l = (l.i ≤ length l.s) × ((l.v < 10 ^ l.i) × (digits l.v (drop l.i l.s) ≡ digits 0 (drop l.from l.s)))
-
-abbrev pub decreases-loop-i : goal.decreases-loop-i
-decreases-loop-i l = length l.s - l.i
+abbrev pub invariant-loop-b : goal.invariant-loop-b
+invariant-loop-b l = (l.v < 10 ^ l.b-index) × (digits l.v (drop l.b-index l.s) ≡ digits 0 l.s)

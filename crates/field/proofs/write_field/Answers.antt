@@ -3,7 +3,6 @@
 use mathlib.Core.Path.{◌∙◌}
 use lib.ListN.{length-set}
 use Rattle.field.proofs.Writing.{last_written, next_written, all_written}
-use borrow.Author.Rules.{rules}
 use Rattle.field.proofs.write_field.Goals as goal
 
 pub loop-i-init : goal.loop-i-init
@@ -12,11 +11,5 @@ loop-i-init c = rw c.digit.ensures (last_written c.args.out.now _ c.requires)
 pub loop-i-preserved : goal.loop-i-preserved
 loop-i-preserved c = rw c.digit_or_space.ensures (next_written c.loop-i.invariant c.loop-i-test.true)
 
-pub shape_of-out : goal.shape_of-out
-shape_of-out c = c.loop-i.invariant.long ∙ simp length-set
-
 pub returns : goal.returns
 returns c = all_written c.loop-i.invariant c.loop-i-test.false ∙ simp length-set
-
-pub bounds-out-i-in-loop-i : goal.bounds-out-i-in-loop-i
-bounds-out-i-in-loop-i c = search rules

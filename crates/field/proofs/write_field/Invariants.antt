@@ -4,6 +4,3 @@ use Rattle.field.proofs.write_field.Given as goal
 
 abbrev pub invariant-loop-i : goal.invariant-loop-i
 invariant-loop-i l = Written (length l.initial.out) l.v l.out l.i l.left
-
-abbrev pub decreases-loop-i : goal.decreases-loop-i
-decreases-loop-i l = l.i

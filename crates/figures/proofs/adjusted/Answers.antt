@@ -1,5 +1,4 @@
--- Where U is 0, K is. Else the two products come to the numerator of K, M being a product of two differences; U reaches it, so that it fits two
--- words, and its quotient by 600,000 and then by V is a word. Assumes nothing.
+-- Where U is 0, K is. Else the two products come to the numerator of K, M being a product of two differences. Assumes nothing.
 use mathlib.Core.Path.{◌≡◌, sym, ap, ◌∙◌}
 use Prim.Native.Nat.{ℕ, ◌+◌, ◌-◌, ◌*◌, ◌<◌}
 use native.Mathlib.Omega.{arith}
@@ -7,7 +6,7 @@ use Rattle.guideline.specs.Sizes.{fineness}
 use Rattle.guideline.specs.Block.{fine_numerator}
 use Rattle.guideline.proofs.Figures.{requirement_none}
 use Rattle.wide.specs.Value.{value}
-use Rattle.figures.proofs.Numerator.{numerator_is, numerator_small, quotient_divides, requirement_is}
+use Rattle.figures.proofs.Numerator.{numerator_is, requirement_is}
 use Rattle.figures.proofs.adjusted.Goals.{After-add-numerator, After-product, Else-u-eq0}
 use Rattle.figures.proofs.adjusted.Goals as goal
 
@@ -24,9 +23,6 @@ both c =
     numerator_is a.u a.lt a.d c.requires _ _ c.product.ensures
     (c.product-m.ensures ∙ ap (λ (x : ℕ). (3 * a.d - fineness * v) * x) c.excess.ensures)
 
-pub add-numerator-requires : goal.add-numerator-requires
-add-numerator-requires c = rw (both c) (numerator_small _ _ _ c.requires)
-
 numerator : (c : After-add-numerator) →
     let s = c.args in
     value c.add-numerator.result ≡ fine_numerator s.u s.lt (2 * s.u - s.lt) s.d
@@ -34,12 +30,6 @@ numerator c = c.add-numerator.ensures ∙ both (goal.at.After-add-numerator c).A
 
 positive : (c : Else-u-eq0) → 0 < c.args.u
 positive c = omega (arith, c.if-u-eq0.false)
-
-pub divide_up-requires : goal.divide_up-requires
-divide_up-requires c =
-    let u_eq0 = (goal.at.divide_up-requires c).Else-u-eq0 in
-    let add_numerator = (goal.at.divide_up-requires c).After-add-numerator in
-    quotient_divides _ _ _ c.requires (positive u_eq0) _ _ (numerator add_numerator) c.quotient_up.ensures
 
 pub returns : goal.returns
 returns c =

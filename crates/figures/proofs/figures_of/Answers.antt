@@ -2,4 +2,4 @@
 use Rattle.figures.proofs.figures_of.Goals as goal
 
 pub returns : goal.returns
-returns c = c.worked_out-worked.ensures.0
+returns c = c.worked_out.ensures.0

@@ -1,6 +1,13 @@
 -- A quotient by 100, rounded up. Assumes nothing.
+use mathlib.Core.Path.{◌≡◌, ◌∙◌}
+use Prim.Native.Nat.{◌+◌, ◌-◌, ◌/◌}
+use native.Mathlib.Omega.{arith}
+use Rattle.guideline.specs.Sizes.{fineness}
 use Rattle.figures.proofs.Joint.{reported_is}
 use Rattle.figures.proofs.in_half_cents.Goals as goal
 
 pub returns : goal.returns
-returns c = reported_is _ c.requires
+returns c =
+    let x = c.args.x in
+    let e : c.div_ceil.result ≡ (x + (fineness - 1)) / fineness = omega (arith, c.div_ceil.ensures) in
+    e ∙ reported_is x c.requires

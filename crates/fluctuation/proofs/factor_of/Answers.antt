@@ -4,15 +4,15 @@ use Prim.Native.Nat.{ℕ, ◌*◌, ◌≤◌, ◌<◌}
 use native.Mathlib.Omega.{arith}
 use Rattle.fluctuation.specs.Rows.{rows, row_of, base_of}
 use Rattle.fluctuation.specs.Parts.{factor_for}
-use Rattle.fluctuation.specs.declared.Factor.TheVariants.{One, Falling}
-use Rattle.fluctuation.proofs.Rows.{picks_one, picks_falling}
+use Rattle.std.proofs.Common.{Some, None}
+use Rattle.fluctuation.proofs.Rows.{own, picks_one, picks_falling}
 use Rattle.fluctuation.proofs.factor_of.Goals as goal
 
 module _ (k : ℕ) {n : ℕ} (b face : ℕ) (e : n ≡ k) where
-  one : base_of (row_of k) b face ≤ 100 * (row_of k).threshold → One ≡ factor_for (row_of n) b face
+  one : base_of (row_of k) b face ≤ 100 * (row_of k).threshold → None ≡ factor_for (row_of n) b face
   one h = picks_one _ _ _ h ∙ ap (λ (m : ℕ). factor_for (row_of m) b face) (sym e)
 
-  falling : 100 * (row_of k).threshold < base_of (row_of k) b face → Falling (row_of k).first (row_of k).second (base_of (row_of k) b face) ≡ factor_for (row_of n) b face
+  falling : 100 * (row_of k).threshold < base_of (row_of k) b face → Some (own (row_of k) b face) ≡ factor_for (row_of n) b face
   falling h = picks_falling _ _ _ h ∙ ap (λ (m : ℕ). factor_for (row_of m) b face) (sym e)
 
 pub returns-in-0-to-4200000000 : goal.returns-in-0-to-4200000000

@@ -29,18 +29,13 @@ after_18 : (c : Else-row-gt-ROWS) →
     fluctuation_call a.row a.requirement a.face ≡ rule7 a.row a.requirement a.face
 after_18 c = passed_18 _ _ _ c.if-row-lt1.false (omega (arith, c.if-row-gt-ROWS.false))
 
-pub returns-then-above-lt2 : goal.returns-then-above-lt2
-returns-then-above-lt2 c =
-    let row_gt_rows = (goal.at.returns-then-above-lt2 c).Else-row-gt-ROWS in
-    record {
-      outcome = sym (after_18 row_gt_rows ∙ refused_7 _ _ _ c.first_above-above.ensures (omega (arith, c.if-above-lt2.true)));
-      accuracy = tt;
-    }
+pub returns-in-Some-clause-outcome : goal.returns-in-Some-clause-outcome
+returns-in-Some-clause-outcome c = sym (after_18 (goal.at.returns-in-Some-clause-outcome c).Else-row-gt-ROWS ∙ refused_7 _ _ _ c.in-Some.ensures)
 
 pub fluctuation-requires : goal.fluctuation-requires
 fluctuation-requires c =
     let s = c.args in
-    let a = within_limit s.requirement s.face (omega (arith, c.first_above-above.ensures, c.if-above-lt2.false)) in
+    let a = within_limit s.requirement s.face c.in_default.ensures in
     record { first_row = c.if-row-lt1.false; last_row = omega (arith, c.if-row-gt-ROWS.false); requirement = a.0; face_within = a.1 }
 
 pub returns : goal.returns
@@ -48,7 +43,7 @@ returns c =
     let row_gt_rows = (goal.at.returns c).Else-row-gt-ROWS in
     let e =
     ap (λ (x : ℕ). accepted (x ∷ [])) c.fluctuation.ensures
-    ∙ sym (after_18 row_gt_rows ∙ passed_7 _ _ _ c.first_above-above.ensures (omega (arith, c.if-above-lt2.false))) in record {
+    ∙ sym (after_18 row_gt_rows ∙ passed_7 _ _ _ c.in_default.ensures) in record {
       outcome = e;
       accuracy = fluctuation_demanded _ _ _ _ e;
     }

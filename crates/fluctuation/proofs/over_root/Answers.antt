@@ -9,7 +9,7 @@ use Rattle.wide.specs.Value.{value}
 use Rattle.fluctuation.specs.Result.{scale}
 use Rattle.fluctuation.specs.Parts.{most_twentieths}
 use Rattle.fluctuation.proofs.Radicand.{radicand, radicand_within, root_same, in_root, in_words}
-use Rattle.fluctuation.proofs.over_root.Goals.{After-divide_up-part, After-times}
+use Rattle.fluctuation.proofs.over_root.Goals.{After-divide_up-part, After-from}
 use Rattle.fluctuation.proofs.over_root.Goals as goal
 
 pub divide-by-requires : goal.divide-by-requires
@@ -38,31 +38,27 @@ module _ (c : After-divide_up-part) where
   radicand_small : own_radicand ≤ most_twentieths * most_twentieths
   radicand_small = radicand_within _ _ _ _ _ small whole part_is _ c.requires.within
 
-pub times-requires : goal.times-requires
-times-requires c = in_words _ (omega (arith, radicand_small (goal.at.times-requires c).After-divide_up-part))
-
-one_word : (n : ℕ) → value (record { high = 0; low = n }) ≡ n
-unfolding value
-one_word n = omega arith
+pub mul-requires : goal.mul-requires
+mul-requires c = in_words _ (omega (arith, radicand_small (goal.at.mul-requires c).After-divide_up-part))
 
 -- the sum is the radicand
-sum_is : (c : After-times) → value c.times.result + value (record { high = 0; low = c.divide_up-part.result }) ≡ own_radicand (goal.at.After-times c).After-divide_up-part
-sum_is c = omega (arith, c.times.ensures, one_word c.divide_up-part.result)
+sum_is : (c : After-from) → value c.mul.result + value c.from.result ≡ own_radicand (goal.at.After-from c).After-divide_up-part
+sum_is c = omega (arith, c.mul.ensures, c.from.ensures)
 
-pub add-radicand-requires : goal.add-radicand-requires
-add-radicand-requires c =
-    let times = (goal.at.add-radicand-requires c).After-times in
-    let divide_up_part = (goal.at.add-radicand-requires c).After-divide_up-part in
-    in_words _ (omega (arith, sum_is times, radicand_small divide_up_part))
+pub add-requires : goal.add-requires
+add-requires c =
+    let from = (goal.at.add-requires c).After-from in
+    let divide_up_part = (goal.at.add-requires c).After-divide_up-part in
+    in_words _ (omega (arith, sum_is from, radicand_small divide_up_part))
 
 pub root_up-requires : goal.root_up-requires
 root_up-requires c =
-    let times = (goal.at.root_up-requires c).After-times in
+    let from = (goal.at.root_up-requires c).After-from in
     let divide_up_part = (goal.at.root_up-requires c).After-divide_up-part in
-    in_root _ (omega (arith, c.add-radicand.ensures, sum_is times, radicand_small divide_up_part))
+    in_root _ (omega (arith, c.add.ensures, sum_is from, radicand_small divide_up_part))
 
 pub returns : goal.returns
 returns c =
-    let e = c.add-radicand.ensures ∙ sum_is (goal.at.returns c).After-times in
+    let e = c.add.ensures ∙ sum_is (goal.at.returns c).After-from in
     let d = (goal.at.returns c).After-divide_up-part in
     c.root_up.ensures ∙ (λ i. least (λ x. leb (e i) (x * x))) ∙ root_same _ _ _ _ _ (small d) (whole d) (part_is d)

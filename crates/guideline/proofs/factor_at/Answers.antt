@@ -1,11 +1,11 @@
 -- The constant is the list of the table's factors, row by row, as it computes; each is at most 4 in size, so that its byte and its word read back
 -- as it is. Assumes nothing.
-use mathlib.Core.Path.{◌≡◌, sym, ap, subst, ◌∙◌}
+use mathlib.Core.Path.{◌≡◌, ap, ◌∙◌}
 use Prim.Native.Nat.{ℕ, ◌<◌}
 use lib.ListN.{get_or}
 use lib.IntN.{ℤ, pos}
 use mir.Syntax.{w8, w64}
-use mir.Val.{SFits, to_z, of_z}
+use mir.Val.{to_z, of_z}
 use mir.ValLaws.{to_z-of_z}
 use Rattle.search.proofs.Values.{values, values_at}
 use Rattle.guideline.specs.Sizes.{products}
@@ -18,14 +18,8 @@ entry : (k : ℕ) → k < products → to_z w8 (of_z w8 (get_or (values factor p
 entry k h =
     ap (λ (z : ℤ). to_z w8 (of_z w8 z)) (values_at factor (pos 0) products k h) ∙ to_z-of_z w8 (factor k) (small_fits (factor k) (factor_small k)).0
 
-pub overflow_cast-result : goal.overflow_cast-result
-unfolding factor factors values
-overflow_cast-result c =
-    let k : ℕ = c.args.k in
-    subst (λ (z : ℤ). SFits w64 z) (sym (entry k c.requires)) (small_fits (factor k) (factor_small k)).1
-
 pub returns : goal.returns
 unfolding factor factors values
 returns c =
     let k : ℕ = c.args.k in
-    ap (λ (z : ℤ). to_z w64 (of_z w64 z)) (entry k c.requires) ∙ to_z-of_z w64 (factor k) (small_fits (factor k) (factor_small k)).1
+    ap (λ (z : ℤ). to_z w64 (of_z w64 z)) (c.from.ensures ∙ entry k c.requires) ∙ to_z-of_z w64 (factor k) (small_fits (factor k) (factor_small k)).1

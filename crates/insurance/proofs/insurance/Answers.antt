@@ -11,28 +11,28 @@ use Rattle.root.specs.Steps.{steps}
 use Rattle.correlation.specs.Products.{SmallYs}
 use Rattle.insurance.specs.Radicand.{radicand_i}
 use Rattle.insurance.proofs.Radicand.{largest_radicand, in_root, radicand_found, root_found, ys_fit, radicand_small, product_fits, floor_found, floor_room}
-use Rattle.insurance.proofs.insurance.Goals.{After-root_and_steps-found, After-times}
+use Rattle.insurance.proofs.insurance.Goals.{After-root_and_steps-found, After-mul}
 use Rattle.insurance.proofs.insurance.Goals as goal
 
 pub correlated-sum-requires : goal.correlated-sum-requires
 correlated-sum-requires c = subst (λ (l : List ℕ). SmallYs l) (sym c.half_cents-y.ensures) (ys_fit _ c.requires)
 
-pub times-requires : goal.times-requires
-times-requires c =
+pub mul-requires : goal.mul-requires
+mul-requires c =
     product_fits _ c.requires _ _ c.half_cents-y.ensures c.correlated-sum.ensures
 
 -- 10,000 × Q
-radicand : (c : After-times) → value c.times.result ≡ radicand_i c.args.b.now
+radicand : (c : After-mul) → value c.mul.result ≡ radicand_i c.args.b.now
 radicand c =
-    radicand_found _ _ _ _ c.half_cents-y.ensures c.correlated-sum.ensures c.times.ensures
+    radicand_found _ _ _ _ c.half_cents-y.ensures c.correlated-sum.ensures c.mul.ensures
 
 pub root_and_steps-found-requires : goal.root_and_steps-found-requires
 root_and_steps-found-requires c =
-    let h : value c.times.result ≤ largest_radicand = omega (arith, radicand c, radicand_small _ c.requires) in
+    let h : value c.mul.result ≤ largest_radicand = omega (arith, radicand c, radicand_small _ c.requires) in
     in_root _ h
 
 rooted : (c : After-root_and_steps-found) → c.root_and_steps-found.result.root ≡ root c.args.b.now
-rooted c = root_found _ _ _ (radicand (goal.at.After-root_and_steps-found c).After-times) c.root_and_steps-found.ensures.0
+rooted c = root_found _ _ _ (radicand (goal.at.After-root_and_steps-found c).After-mul) c.root_and_steps-found.ensures.0
 
 -- the larger of the root and the largest y(i), as the block has them
 floor : (c : After-root_and_steps-found) →
@@ -48,5 +48,5 @@ pub returns : goal.returns
 unfolding fine_i
 returns c = (
   c.floor_then_pc.ensures ∙ ap (λ (n : ℕ). n + fineness * (2 * PC c.args.b.now)) (floor (goal.at.returns c).After-root_and_steps-found),
-  c.root_and_steps-found.ensures.1 ∙ ap steps (radicand (goal.at.returns c).After-times),
+  c.root_and_steps-found.ensures.1 ∙ ap steps (radicand (goal.at.returns c).After-mul),
 )

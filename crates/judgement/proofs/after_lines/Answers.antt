@@ -9,7 +9,7 @@ use Rattle.codes.specs.declared.Code.TheVariants.{Gen}
 use Rattle.sheet_line.specs.declared.Entry.{Entry}
 use Rattle.order.specs.Entries.{has_line}
 use Rattle.credits.specs.Credits.{credit_above}
-use Rattle.ledger.specs.Tables.{Holds}
+use Rattle.ledger.specs.Lines.{Holds}
 use Rattle.ledger.proofs.Tables.{scalar_is}
 use Rattle.credits.proofs.Accepted.{all_covered}
 use Rattle.judgement.proofs.Rules.{no_scalar, credit_above_lem, credits_pass}
@@ -18,7 +18,7 @@ use Rattle.judgement.proofs.after_lines.Goals as goal
 
 -- the tables hold these lines
 abbrev Lines : Start → List Entry → Type 0
-Lines s es = Holds es s.args.firsts.now s.args.seconds.now s.args.marks.now
+Lines s es = Holds es s.args.ledger.now
 
 pub returns-then-not-has_scalar : goal.returns-then-not-has_scalar
 returns-then-not-has_scalar c = record {
@@ -30,10 +30,7 @@ has_scalar_line : (c : Else-not-has_scalar) (es : List Entry) → Lines (goal.at
 has_scalar_line c es H = sym (scalar_is H) ∙ sym c.has_scalar.ensures ∙ c.if-not-has_scalar.false
 
 pub any_credit_above-requires : goal.any_credit_above-requires
-any_credit_above-requires c = record {
-  ledger = c.requires;
-  credited = c.credits_of-credits.ensures;
-}
+any_credit_above-requires c = record { credited = c.credits_of-credits.ensures }
 
 pub returns-then-any_credit_above : goal.returns-then-any_credit_above
 returns-then-any_credit_above c =
@@ -53,7 +50,6 @@ rule_17-requires c =
     let not_has_scalar = (goal.at.rule_17-requires c).Else-not-has_scalar in
     let any_credit_above = (goal.at.rule_17-requires c).Else-any_credit_above in
     record {
-      ledger = c.requires;
       credited = λ es H.
           record { scalar = has_scalar_line not_has_scalar es H; each = c.credits_of-credits.ensures es H; covered = all_covered es H.lines (none_above any_credit_above es H) };
     }

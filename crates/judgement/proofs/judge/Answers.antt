@@ -1,36 +1,28 @@
 -- The length and the lines in turn; the tables of good lines hold them, and rules 12 and 13 are told of these. Assumes nothing.
 use mathlib.Core.Path.{sym, ◌∙◌}
+use Rattle.std.proofs.lemmas.Result.{err_from_is_err_and}
 use Rattle.judgement.proofs.Rules.{length_refused, bad_line, holds, good_lines, no_lines, lines_held}
 use Rattle.judgement.proofs.judge.Goals as goal
 
-pub returns-in-Refused : goal.returns-in-Refused
-returns-in-Refused c =
-    let n = no_lines _ _ _ _ (length_refused c.args.sheet.now _ _ (sym c.measure-length.ensures ∙ c.in-Refused.is)) in record {
-      findings = n.0;
-      tables = n.1;
-      behind_rows = tt;
-    }
+pub returns-in_err-length : goal.returns-in_err-length
+returns-in_err-length c =
+    let p = err_from_is_err_and c.from_residual.result c.from_residual.ensures.1 in
+    let n = no_lines _ c.args.ledger.now (length_refused c.args.sheet.now _ (sym c.measure-length.ensures ∙ c.in_err-length.was)) in
+    rw (p.1, p.2) (record { findings = n.0; tables = n.1; behind_rows = tt })
 
-pub returns-in-Refused-read : goal.returns-in-Refused-read
-returns-in-Refused-read c =
+pub returns-in_err-read : goal.returns-in_err-read
+returns-in_err-read c =
     let s = c.args.sheet.now in
-    let n = no_lines _ _ _ _ (bad_line s (sym c.measure-length.ensures ∙ c.in_default.is) _ _ _ _ c.read_lines-read.ensures _ _ c.in-Refused-read.is) in record {
-      findings = n.0;
-      tables = n.1;
-      behind_rows = tt;
-    }
+    let p = err_from_is_err_and c.from_residual-in_err-read.result c.from_residual-in_err-read.ensures.1 in
+    let n = no_lines _ c.read_lines-read.new.ledger (bad_line s (sym c.measure-length.ensures ∙ c.in_ok-length.was) _ c.read_lines-read.new.ledger c.read_lines-read.ensures _ c.in_err-read.was) in
+    rw (p.1, p.2) (record { findings = n.0; tables = n.1; behind_rows = tt })
 
-pub after_lines-requires : goal.after_lines-requires
-after_lines-requires c =
+pub returns : goal.returns
+returns c =
     let s = c.args.sheet.now in
-    (_, holds s (sym c.measure-length.ensures ∙ c.in_default.is) _ _ _ _ c.read_lines-read.ensures _ c.in-Accepted.is)
-
-pub returns-in-Accepted : goal.returns-in-Accepted
-returns-in-Accepted c =
-    let s = c.args.sheet.now in
-    let w = sym c.measure-length.ensures ∙ c.in_default.is in
-    let h = holds s w _ _ _ _ c.read_lines-read.ensures _ c.in-Accepted.is in record {
-      findings = c.after_lines.ensures.findings _ h ∙ good_lines s w _ _ _ _ c.read_lines-read.ensures _ c.in-Accepted.is;
-      tables = lines_held s _ _ _ h;
+    let w = sym c.measure-length.ensures ∙ c.in_ok-length.was in
+    let h = holds s w _ c.read_lines-read.new.ledger c.read_lines-read.ensures _ c.in_ok-read.was in record {
+      findings = c.after_lines.ensures.findings _ h ∙ good_lines s w _ c.read_lines-read.new.ledger c.read_lines-read.ensures _ c.in_ok-read.was;
+      tables = lines_held s c.read_lines-read.new.ledger h;
       behind_rows = c.after_lines.ensures.behind_rows;
     }

@@ -6,14 +6,15 @@ use Rattle.codes.specs.Codes.{gross_class, guarantee_class, ceded_class}
 use Rattle.sheet_line.specs.declared.Entry.{Entry}
 use Rattle.ledger.specs.Numbers.{general_amount}
 use Rattle.judgement.specs.Sheet.{sheet_of}
-use Rattle.ledger.specs.Tables.{Holds}
-use Rattle.ledger.proofs.Tables.{joined_small, volumes_are, general_is}
+use Rattle.ledger.specs.Lines.{Holds}
+use Rattle.std.proofs.Props.{props}
+use Rattle.ledger.proofs.Tables.{of_lines, volumes_are, general_is}
 use Rattle.judgement.proofs.Accepted.{amounts_within}
 use Rattle.judgement.proofs.operational_figure.Goals.{After-general_amount-3}
 use Rattle.judgement.proofs.operational_figure.Goals as goal
 
 taken : (c : After-general_amount-3) →
-    (es : List Entry) → Holds es c.args.firsts.now c.args.seconds.now c.args.marks.now
+    (es : List Entry) → Holds es c.args.ledger.now
     → (c.volume_numbers-volumes.result ≡ (sheet_of es).volumes)
     × (c.general_amount.result ∷ c.general_amount-2.result ∷ c.general_amount-3.result ∷ [] ≡ (sheet_of es).general)
 unfolding sheet_of
@@ -25,12 +26,10 @@ taken c es H =
 
 pub operational-requires : goal.operational-requires
 operational-requires c =
-    let l = c.requires in
-    let t = taken (goal.at.operational-requires c).After-general_amount-3 l.0 l.1 in
-    rw (t.0, t.1) (amounts_within l.0 l.1.lines)
+    of_lines c.args.ledger.now (hlevel props)
+    (λ es H.
+    let t = taken (goal.at.operational-requires c).After-general_amount-3 es H in
+    rw (t.0, t.1) (amounts_within es H.lines))
 
 pub returns : goal.returns
 returns c es H = let t = taken (goal.at.returns c).After-general_amount-3 es H in c.operational.ensures ∙ rw (t.0, t.1)
-
-pub volume_numbers-volumes-requires : goal.volume_numbers-volumes-requires
-volume_numbers-volumes-requires c = joined_small c.requires.1

@@ -10,8 +10,9 @@ use Rattle.guideline.specs.Buffer.{free, available, most_available}
 use Rattle.sheet_line.specs.declared.Entry.{Entry}
 use Rattle.judgement.specs.Sheet.{sheet_of}
 use Rattle.sheet_blocks.specs.Blocks.{dividend_barred}
-use Rattle.ledger.specs.Tables.{Holds}
-use Rattle.ledger.proofs.Tables.{general_is}
+use Rattle.ledger.specs.Lines.{Holds}
+use Rattle.std.proofs.Props.{props}
+use Rattle.ledger.proofs.Tables.{of_lines, general_is}
 use Rattle.judgement.proofs.Accepted.{dividends_most, available_small, free_small, scalar_ranged}
 use Rattle.judgement.proofs.Available.{available_is, buffer_is}
 use Rattle.judgement.proofs.Rules.{dividend_above, credits_above, passes, figured}
@@ -20,7 +21,7 @@ use Rattle.judgement.proofs.rule_17.Goals as goal
 
 -- the tables hold these lines
 abbrev Lines : Start → List Entry → Type 0
-Lines s es = Holds es s.args.firsts.now s.args.seconds.now s.args.marks.now
+Lines s es = Holds es s.args.ledger.now
 
 pub returns-then-w : goal.returns-then-w
 returns-then-w c = record {
@@ -35,9 +36,10 @@ none_barred c es H = sym (c.work_out-w.ensures.worked_out es H).barred ∙ c.if-
 -- so they can be taken off the sum of K
 pub overflow_sub-available : goal.overflow_sub-available
 overflow_sub-available c =
-    let l = c.requires.ledger in
-    let e = c.work_out-w.ensures.worked_out l.0 l.1 in
-    omega (arith, e.sum, e.dividends, dividends_most l.0 l.1.lines blocks (none_barred (goal.at.overflow_sub-available c).Else-w l.0 l.1))
+    of_lines c.args.ledger.now (hlevel props)
+    (λ es H.
+    let e = c.work_out-w.ensures.worked_out es H in
+    omega (arith, e.sum, e.dividends, dividends_most es H.lines blocks (none_barred (goal.at.overflow_sub-available c).Else-w es H)))
 
 -- what rule 13 compares the credits with
 total : (c : After-general_amount) →
@@ -54,9 +56,8 @@ small : (c : After-general_amount) →
     let w = c.work_out-w.result in
     w.sum - w.dividends + c.general_amount.result + c.operational_figure-ro.result ≤ most_available
 small c =
-    let p = c.requires in
-    let l = p.ledger in
-    omega (arith, total c l.0 l.1, available_small l.0 l.1.lines (p.credited l.0 l.1).covered)
+    of_lines c.args.ledger.now (hlevel props)
+    (λ es H. omega (arith, total c es H, available_small es H.lines (c.requires.credited es H).covered))
 
 -- the credits that belong to no block
 free_is : (c : After-general_amount-2) (es : List Entry) → Lines (goal.at.After-general_amount-2 c).Start es
@@ -68,7 +69,7 @@ free_is c es H =
     λ i. a i + g i
 
 pub overflow_add-free : goal.overflow_add-free
-overflow_add-free c = let l = c.requires.ledger in omega (arith, free_is c l.0 l.1, free_small l.0 l.1.lines)
+overflow_add-free c = of_lines c.args.ledger.now (hlevel props) (λ es H. omega (arith, free_is c es H, free_small es H.lines))
 
 pub returns-then-available-free : goal.returns-then-available-free
 returns-then-available-free c =
@@ -88,9 +89,8 @@ scalar_is_g c es H = c.general_amount-3.ensures ∙ general_is H 4 (omega arith,
 pub scaled-buffer-requires : goal.scaled-buffer-requires
 scaled-buffer-requires c =
     let general_amount = (goal.at.scaled-buffer-requires c).After-general_amount in
-    let p = c.requires in
-    let l = p.ledger in
-    (omega (arith, scalar_is_g c l.0 l.1, (scalar_ranged l.0 l.1.lines (p.credited l.0 l.1).scalar).1), omega (arith, small general_amount))
+    of_lines c.args.ledger.now (hlevel props)
+    (λ es H. (omega (arith, scalar_is_g c es H, (scalar_ranged es H.lines (c.requires.credited es H).scalar).1), omega (arith, small general_amount)))
 
 pub returns : goal.returns
 unfolding sheet_of

@@ -1,87 +1,36 @@
--- Where the separators are right, the layout is that of the four fields, each read from its own columns. Assumes nothing.
-use mathlib.Core.Path.{◌∙◌}
-use Rattle.search.proofs.Sides.{side_true, tests}
+-- Where the separators are right, the layout is that of the four fields, each read from its own columns; the first that holds no number breaks it.
+-- Assumes nothing.
+use mathlib.Core.Path.{sym, ◌∙◌}
+use Rattle.search.proofs.Picks.{if_false}
 use Rattle.layout.specs.Columns.{layout_of}
+use Rattle.layout.proofs.Laid.{fields_laid}
 use Rattle.layout.proofs.read_layout.Goals as goal
-
-pub separated-requires : goal.separated-requires
-unfolding layout_of
-separated-requires c = search tests
 
 pub returns-then-not-separated : goal.returns-then-not-separated
 unfolding layout_of
-returns-then-not-separated c = search tests
+returns-then-not-separated c = sym (if_false _ (sym c.separated.ensures ∙ c.if-not-separated.true))
 
-pub slice_bounds-read_field-count : goal.slice_bounds-read_field-count
-unfolding layout_of
-slice_bounds-read_field-count c = search tests
+pub returns-in_err-block : goal.returns-in_err-block
+returns-in_err-block c =
+    fields_laid _ (sym c.separated.ensures ∙ c.if-not-separated.false)
+    (c.from_residual.ensures ∙ rw (← c.read_field.ensures, c.in_err-block.was))
 
-pub slice_bounds-read_field-start : goal.slice_bounds-read_field-start
-unfolding layout_of
-slice_bounds-read_field-start c = search tests
+pub returns-in_err-class : goal.returns-in_err-class
+returns-in_err-class c =
+    fields_laid _ (sym c.separated.ensures ∙ c.if-not-separated.false)
+    (c.from_residual-in_err-class.ensures ∙ rw (← c.read_field.ensures, c.in_ok-block.was, ← c.read_field-2.ensures, c.in_err-class.was))
 
-pub slice_bounds-read_field-end : goal.slice_bounds-read_field-end
-unfolding layout_of
-slice_bounds-read_field-end c = search tests
+pub returns-in_err-first : goal.returns-in_err-first
+returns-in_err-first c =
+    fields_laid _ (sym c.separated.ensures ∙ c.if-not-separated.false)
+    (c.from_residual-in_err-first.ensures ∙ rw (← c.read_field.ensures, c.in_ok-block.was, ← c.read_field-2.ensures, c.in_ok-class.was, ← c.read_field-3.ensures, c.in_err-first.was))
 
-pub read_field-block-requires : goal.read_field-block-requires
-unfolding layout_of
-read_field-block-requires c = search tests
-
-pub slice_bounds-read_field-count-2 : goal.slice_bounds-read_field-count-2
-unfolding layout_of
-slice_bounds-read_field-count-2 c = search tests
-
-pub slice_bounds-read_field-start-2 : goal.slice_bounds-read_field-start-2
-unfolding layout_of
-slice_bounds-read_field-start-2 c = search tests
-
-pub slice_bounds-read_field-end-2 : goal.slice_bounds-read_field-end-2
-unfolding layout_of
-slice_bounds-read_field-end-2 c = search tests
-
-pub read_field-class-requires : goal.read_field-class-requires
-unfolding layout_of
-read_field-class-requires c = search tests
-
-pub slice_bounds-read_field-count-3 : goal.slice_bounds-read_field-count-3
-unfolding layout_of
-slice_bounds-read_field-count-3 c = search tests
-
-pub slice_bounds-read_field-start-3 : goal.slice_bounds-read_field-start-3
-unfolding layout_of
-slice_bounds-read_field-start-3 c = search tests
-
-pub slice_bounds-read_field-end-3 : goal.slice_bounds-read_field-end-3
-unfolding layout_of
-slice_bounds-read_field-end-3 c = search tests
-
-pub read_field-first-requires : goal.read_field-first-requires
-unfolding layout_of
-read_field-first-requires c = search tests
-
-pub slice_bounds-read_field-count-4 : goal.slice_bounds-read_field-count-4
-unfolding layout_of
-slice_bounds-read_field-count-4 c = search tests
-
-pub slice_bounds-read_field-start-4 : goal.slice_bounds-read_field-start-4
-unfolding layout_of
-slice_bounds-read_field-start-4 c = search tests
-
-pub slice_bounds-read_field-end-4 : goal.slice_bounds-read_field-end-4
-unfolding layout_of
-slice_bounds-read_field-end-4 c = search tests
-
-pub read_field-second-requires : goal.read_field-second-requires
-unfolding layout_of
-read_field-second-requires c = search tests
-
-pub fields_of-requires : goal.fields_of-requires
-unfolding layout_of
-fields_of-requires c = search tests
+pub returns-in_err-second : goal.returns-in_err-second
+returns-in_err-second c =
+    fields_laid _ (sym c.separated.ensures ∙ c.if-not-separated.false)
+    (c.from_residual-in_err-second.ensures ∙ rw (← c.read_field.ensures, c.in_ok-block.was, ← c.read_field-2.ensures, c.in_ok-class.was, ← c.read_field-3.ensures, c.in_ok-first.was, ← c.read_field-4.ensures, c.in_err-second.was))
 
 pub returns : goal.returns
-unfolding layout_of
 returns c =
-    side_true _ _ _ _ _ c.separated.ensures c.if-not-separated.false
-    (c.fields_of.ensures ∙ rw (c.read_field-block.ensures, c.read_field-class.ensures, c.read_field-first.ensures, c.read_field-second.ensures))
+    fields_laid _ (sym c.separated.ensures ∙ c.if-not-separated.false)
+    (rw (← c.read_field.ensures, c.in_ok-block.was, ← c.read_field-2.ensures, c.in_ok-class.was, ← c.read_field-3.ensures, c.in_ok-first.was, ← c.read_field-4.ensures, c.in_ok-second.was))

@@ -8,14 +8,14 @@ use Rattle.ledger.proofs.block_numbers.Goals as goal
 pub loop-i-preserved : goal.loop-i-preserved
 loop-i-preserved c =
     let e = c.index_of-at.ensures.0 in
-    (search rules, next_pair c.loop-i.invariant.1 (search rules) (rw e) (rw e))
+    next_pair c.loop-i.invariant (search rules) (rw e) (rw e)
 
 pub returns : goal.returns
 returns c =
     let l = c.loop-i.invariant in
     let a = c.args in
-    block_written _ a.firsts.now a.seconds.now refl l.1 (omega (arith, l.0, c.loop-i-test.false)) (rw c.index_of.ensures.0) (rw c.index_of-2.ensures.0)
+    block_written _ a.firsts.now a.seconds.now refl l (omega (arith, c.loop-i.auto.i-end, c.loop-i-test.false)) (rw c.index_of.ensures.0) (rw c.index_of-2.ensures.0)
     (rw c.index_of-3.ensures.0)
 
 pub loop-i-init : goal.loop-i-init
-loop-i-init c = (search rules, no_pair)
+loop-i-init c = no_pair

@@ -1,12 +1,8 @@
-use Prim.Native.Nat.{◌+◌, ◌-◌, ◌≤◌}
-use Rattle.codes.specs.Codes.{risk_classes}
+use Prim.Native.Nat.{◌+◌}
 use Rattle.codes.specs.declared.Code.TheVariants.{Rsk}
 use Rattle.order.specs.Places.{tabled}
 use Rattle.ledger.proofs.Numbers.{Copied}
 use Rattle.ledger.proofs.block_numbers.Given as goal
 
 abbrev pub invariant-loop-i : goal.invariant-loop-i
-invariant-loop-i l = (l.i ≤ risk_classes) × Copied (λ j. tabled l.firsts Rsk l.block (j + 1)) (λ j. tabled l.seconds Rsk l.block (j + 1)) l.initial.numbers l.i l.numbers
-
-abbrev pub decreases-loop-i : goal.decreases-loop-i
-decreases-loop-i l = risk_classes - l.i
+invariant-loop-i l = Copied (λ j. tabled l.firsts Rsk l.block (j + 1)) (λ j. tabled l.seconds Rsk l.block (j + 1)) l.initial.numbers l.i l.numbers

@@ -13,13 +13,13 @@ overflow_add-numbers c =
 pub loop-i-preserved : goal.loop-i-preserved
 loop-i-preserved c =
     let p = c.index_of-at.ensures.0 in
-    (search rules, next_pair c.loop-i.invariant.1 (search rules) (rw p) (rw (p, c.index_of.ensures.0)))
+    next_pair c.loop-i.invariant (search rules) (rw p) (rw (p, c.index_of.ensures.0))
 
 pub returns : goal.returns
 returns c =
     let l = c.loop-i.invariant in
     let a = c.args in
-    volumes_written a.firsts.now a.seconds.now refl l.1 (omega (arith, l.0, c.loop-i-test.false))
+    volumes_written a.firsts.now a.seconds.now refl l (omega (arith, c.loop-i.auto.i-end, c.loop-i-test.false))
 
 pub loop-i-init : goal.loop-i-init
-loop-i-init c = (search rules, no_pair)
+loop-i-init c = no_pair

@@ -1,18 +1,16 @@
 -- Whenever the loop's test is reached, the numbers of the first i lines stand in front. Assumes nothing.
 use mathlib.Core.Path.{refl}
-use native.Mathlib.Omega.{arith}
 use Rattle.search.proofs.Stretches.{nothing}
 use Rattle.movement_input.specs.Reading.{numbers_to}
 use Rattle.movement_input.proofs.Numbers.{next_number, all_numbers}
-use borrow.Author.Rules.{rules}
 use Rattle.movement_input.proofs.block_of.Goals as goal
 
 pub loop-i-init : goal.loop-i-init
 unfolding numbers_to
-loop-i-init c = (omega arith, (refl, nothing _))
+loop-i-init c = (refl, nothing _)
 
 pub loop-i-preserved : goal.loop-i-preserved
-loop-i-preserved c = (search rules, next_number _ c.loop-i.invariant.1 c.loop-i-test.true c.number_at.ensures)
+loop-i-preserved c = next_number _ c.loop-i.invariant c.loop-i-test.true c.number_at.ensures
 
 pub returns : goal.returns
-returns c = let l = c.loop-i.invariant in all_numbers _ l.1 l.0 c.loop-i-test.false
+returns c = all_numbers _ c.loop-i.invariant c.loop-i.auto.i-end c.loop-i-test.false

@@ -7,6 +7,6 @@ pub returns-then-block-eq0 : goal.returns-then-block-eq0
 unfolding credit_need
 returns-then-block-eq0 c = search tests
 
-pub returns : goal.returns
+pub returns-else-block-eq0 : goal.returns-else-block-eq0
 unfolding credit_need
-returns c = search tests
+returns-else-block-eq0 c = search tests

@@ -15,6 +15,6 @@ pub returns-then-n-gt-LAST_MOR : goal.returns-then-n-gt-LAST_MOR
 unfolding needing
 returns-then-n-gt-LAST_MOR c = search tests
 
-pub returns : goal.returns
+pub returns-else-n-gt-LAST_MOR : goal.returns-else-n-gt-LAST_MOR
 unfolding needing
-returns c = search tests
+returns-else-n-gt-LAST_MOR c = search tests

@@ -3,10 +3,10 @@ use Rattle.search.proofs.Sides.{tests}
 use Rattle.needs.specs.Needs.{volume_need}
 use Rattle.needs.proofs.volume_need.Goals as goal
 
-pub returns-then-class-ne-SEGREGATED_CLASS : goal.returns-then-class-ne-SEGREGATED_CLASS
+pub returns-then-class-eq-SEGREGATED_CLASS : goal.returns-then-class-eq-SEGREGATED_CLASS
 unfolding volume_need
-returns-then-class-ne-SEGREGATED_CLASS c = search tests
+returns-then-class-eq-SEGREGATED_CLASS c = search tests
 
-pub returns : goal.returns
+pub returns-else-class-eq-SEGREGATED_CLASS : goal.returns-else-class-eq-SEGREGATED_CLASS
 unfolding volume_need
-returns c = search tests
+returns-else-class-eq-SEGREGATED_CLASS c = search tests

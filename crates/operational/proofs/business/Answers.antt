@@ -10,7 +10,7 @@ use Rattle.operational.proofs.business.Goals.{After-charge-sum}
 use Rattle.operational.proofs.business.Goals as goal
 
 pub loop-k-init : goal.loop-k-init
-loop-k-init c = (omega arith, sym (charged_none _))
+loop-k-init c = sym (charged_none _)
 
 pub charge-sum-requires : goal.charge-sum-requires
 charge-sum-requires c =
@@ -25,7 +25,7 @@ grown c =
     let v = c.args.volumes.now in
     let k = c.loop-k.k in
     let e = c.charge-sum.ensures ∙ ap (λ (x : ℕ). x * (5 * current v k + (5 * current v k - 6 * prior v k))) c.volume_factor.ensures in
-    omega (arith, c.loop-k.invariant.1, e, charged_more v k)
+    omega (arith, c.loop-k.invariant, e, charged_more v k)
 
 pub overflow_add-sum : goal.overflow_add-sum
 overflow_add-sum c =
@@ -34,11 +34,10 @@ overflow_add-sum c =
     omega (arith, grown c, charged_fits c.args.volumes.now c.requires.within_limit.0 (l.k + 1) k)
 
 pub loop-k-preserved : goal.loop-k-preserved
-loop-k-preserved c = (omega (arith, c.loop-k-test.true), grown c)
+loop-k-preserved c = grown c
 
 pub returns : goal.returns
 returns c =
-    let l = c.loop-k in
     let v = c.args.volumes.now in
-    let e : l.k ≡ length v / 2 = omega (arith, c.loop-k-test.false, l.invariant.0) in
-    l.invariant.1 ∙ ap (charged v) e ∙ charged_all v
+    let e : c.loop-k.k ≡ length v / 2 = omega (arith, c.loop-k-test.false) in
+    c.loop-k.invariant ∙ ap (charged v) e ∙ charged_all v

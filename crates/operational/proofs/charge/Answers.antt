@@ -1,6 +1,5 @@
 -- Current volume and excess come to at most ten times the limit, and the largest factor times that fits a word. Assumes nothing.
-use mathlib.Core.Path.{ap}
-use Prim.Native.Nat.{ℕ, ◌+◌, ◌*◌, ◌≤◌}
+use Prim.Native.Nat.{◌+◌, ◌*◌, ◌≤◌}
 use native.Mathlib.Nat.{mul-le-mul}
 use native.Mathlib.Omega.{arith}
 use Rattle.amount.specs.Amount.{limit}
@@ -10,6 +9,3 @@ pub overflow_mul-result-2 : goal.overflow_mul-result-2
 overflow_mul-result-2 c =
     let b : 5 * c.args.current + c.excess.result ≤ 10 * limit = omega (arith, c.excess.ensures) in
     omega (arith, mul-le-mul c.requires.0 b)
-
-pub returns : goal.returns
-returns c = ap (λ (e : ℕ). c.args.factor * (5 * c.args.current + e)) c.excess.ensures

@@ -9,15 +9,6 @@ use Rattle.guideline.proofs.Charges.{numerator_fits}
 use Rattle.operational.proofs.operational.Goals.{After-general_requirement}
 use Rattle.operational.proofs.operational.Goals as goal
 
-pub business-requires : goal.business-requires
-business-requires c = let a = c.requires in record {
-  most_volumes = a.short;
-  within_limit = (a.currents, a.priors);
-}
-
-pub general_requirement-requires : goal.general_requirement-requires
-general_requirement-requires c = let a = c.requires in (a.gross, a.guarantee, a.ceded)
-
 -- with the room that rounding needs
 small : (c : After-general_requirement) → c.business.result + 5 * c.general_requirement.result + operational_denominator ≤ 2 ^ 64
 small c =
@@ -30,11 +21,5 @@ returns c =
     c.rounded_up.ensures
     ∙ (λ i. least (λ x. leb (c.business.ensures i + 5 * c.general_requirement.ensures i) (operational_denominator * x)))
 
-pub overflow_mul-general_requirement : goal.overflow_mul-general_requirement
-overflow_mul-general_requirement c = omega (arith, small c)
-
 pub overflow_add-business : goal.overflow_add-business
 overflow_add-business c = omega (arith, small c)
-
-pub rounded_up-requires : goal.rounded_up-requires
-rounded_up-requires c = small c

@@ -3,7 +3,6 @@
 use mathlib.Core.Path.{◌≡◌, sym, ap, ◌∙◌}
 use mathlib.Core.List.{[], ◌∷◌}
 use Prim.Native.Nat.{ℕ}
-use native.Mathlib.Omega.{arith}
 use Rattle.search.proofs.Picks.{if_lt, if_ge, if_ne}
 use Rattle.refusal.specs.Outcome.Outcome.{accepted}
 use Rattle.operational.specs.Call.{rule7, operational_call}
@@ -25,20 +24,18 @@ pub returns-then-n-ne0 : goal.returns-then-n-ne0
 unfolding operational_call
 returns-then-n-ne0 c = sym (if_ge _ c.if-n-gt-VOLUME_NUMBERS.false ∙ if_ne _ c.if-n-ne0.true)
 
-pub returns-then-above-n : goal.returns-then-above-n
-returns-then-above-n c = sym (after_15 (goal.at.returns-then-above-n c).Else-n-ne0 ∙ in_volumes _ _ c.first_above-above.ensures c.if-above-n.true)
+pub returns-in-Some : goal.returns-in-Some
+returns-in-Some c = sym (after_15 (goal.at.returns-in-Some c).Else-n-ne0 ∙ in_volumes _ _ c.in-Some.ensures)
 
-pub returns-then-after-lt-GENERAL_FIGURES : goal.returns-then-after-lt-GENERAL_FIGURES
-returns-then-after-lt-GENERAL_FIGURES c =
-    let n_ne0 = (goal.at.returns-then-after-lt-GENERAL_FIGURES c).Else-n-ne0 in
-    sym (after_15 n_ne0 ∙ in_general _ _ c.first_above-above.ensures c.if-above-n.false c.first_above-after.ensures (omega arith))
+pub returns-in-Some-first_above : goal.returns-in-Some-first_above
+returns-in-Some-first_above c =
+    let n_ne0 = (goal.at.returns-in-Some-first_above c).Else-n-ne0 in
+    sym (after_15 n_ne0 ∙ in_general _ _ c.in_default.ensures c.in-Some-first_above.ensures)
 
 pub operational-requires : goal.operational-requires
-operational-requires c =
-    amounts _ _ c.first_above-above.ensures c.if-above-n.false c.first_above-after.ensures c.if-n-gt-VOLUME_NUMBERS.false (omega arith)
+operational-requires c = amounts _ _ c.in_default.ensures c.if-n-gt-VOLUME_NUMBERS.false c.in_default-first_above.ensures
 
 pub returns : goal.returns
 returns c =
     let n_ne0 = (goal.at.returns c).Else-n-ne0 in
-    ap (λ (x : ℕ). accepted (x ∷ [])) c.operational.ensures
-    ∙ sym (after_15 n_ne0 ∙ passed_7 _ _ c.first_above-above.ensures c.if-above-n.false c.first_above-after.ensures (omega arith))
+    ap (λ (x : ℕ). accepted (x ∷ [])) c.operational.ensures ∙ sym (after_15 n_ne0 ∙ passed_7 _ _ c.in_default.ensures c.in_default-first_above.ensures)

@@ -1,23 +1,17 @@
 -- A good line's mark is read at its entry's index, and its key is compared with the last one. Assumes nothing.
 use mathlib.Core.Path.{refl}
 use native.Mathlib.Omega.{arith}
-use Rattle.order.proofs.Admission.{keyed_good, stands_marked, comes_before, comes_after}
+use Rattle.order.proofs.Admission.{stands_marked, comes_before, comes_after}
 use Rattle.order.proofs.admit.Goals as goal
-
-pub index_for-at-requires : goal.index_for-at-requires
-index_for-at-requires c = keyed_good c.requires c.in-Good.is
 
 pub returns-then-marks-at-gt0 : goal.returns-then-marks-at-gt0
 returns-then-marks-at-gt0 c =
-    stands_marked c.in-Good.is _ _ c.index_for-at.ensures.0 refl c.if-marks-at-gt0.true
-
-pub key_of-requires : goal.key_of-requires
-key_of-requires c = keyed_good c.requires c.in-Good.is
+    stands_marked c.in_ok-e.was _ _ c.index_for-at.ensures.0 refl c.if-marks-at-gt0.true
 
 pub returns-then-key_of-last : goal.returns-then-key_of-last
 returns-then-key_of-last c =
-    comes_before c.in-Good.is _ _ c.index_for-at.ensures.0 c.key_of.ensures c.if-marks-at-gt0.false (omega (arith, c.if-key_of-last.true))
+    comes_before c.in_ok-e.was _ _ c.index_for-at.ensures.0 c.key_of.ensures c.if-marks-at-gt0.false (omega (arith, c.if-key_of-last.true))
 
 pub returns : goal.returns
 returns c =
-    comes_after c.in-Good.is _ _ c.index_for-at.ensures.0 c.key_of.ensures c.if-marks-at-gt0.false (omega (arith, c.if-key_of-last.false))
+    comes_after c.in_ok-e.was _ _ c.index_for-at.ensures.0 c.key_of.ensures c.if-marks-at-gt0.false (omega (arith, c.if-key_of-last.false))

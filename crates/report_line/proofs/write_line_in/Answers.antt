@@ -1,4 +1,4 @@
--- Columns 1–10 and the number's are put back where they were lent, and the line feed is stored behind them. Assumes nothing.
+-- Columns 1–9 and the number's are put back where they were lent, with a space stored between them and the line feed behind. Assumes nothing.
 use lib.ListN.{length-set}
 use Rattle.report_line.proofs.Filled.{line_filled}
 use borrow.Author.Rules.{rules}

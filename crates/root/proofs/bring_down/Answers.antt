@@ -1,9 +1,7 @@
 -- Four times a word is its two upper binary digits, in the word above, and the rest of it. Assumes nothing.
 use mathlib.Core.Path.{◌≡◌, ap}
 use Prim.Native.Nat.{ℕ, ◌+◌, ◌*◌, ◌/◌, ◌%◌, ◌^◌, ◌<◌}
-use native.Mathlib.Nat.{mod-lt}
 use native.Mathlib.Omega.{arith}
-use lib.Pow.{pow_pos}
 use Rattle.wide.specs.Value.{value}
 use Rattle.root.proofs.bring_down.Goals as goal
 
@@ -12,21 +10,6 @@ quadrupled x h = omega arith
 
 moved : (P h l q X t Y : ℕ) → 4 * h ≡ q * P + X → 4 * l ≡ t * P + Y → (X + t) * P + Y + q * (P * P) ≡ 4 * (h * P + l)
 moved P h l q X t Y e f = omega (arith, ap (λ (x : ℕ). x * P) e)
-
-below : (R m X t : ℕ) → X ≡ 4 * m → m < R → t < 4 → X + t < 4 * R
-below R m X t e h k = omega arith
-
-lower : (h : ℕ) → h * 4 % 2 ^ 64 ≡ 4 * (h % 2 ^ 62)
-lower h = omega arith
-
-upper : (l : ℕ) → l < 2 ^ 64 → l / 2 ^ 62 < 4
-upper l q = omega arith
-
-pub overflow_add-result : goal.overflow_add-result
-overflow_add-result c =
-    let h = c.args.window.high in
-    let l = c.args.window.low in
-    record { fits = below (2 ^ 62) (h % 2 ^ 62) (h * 4 % 2 ^ 64) (l / 2 ^ 62) (lower h) (mod-lt h (pow_pos 62)) (upper l (omega arith)) }
 
 pub returns : goal.returns
 unfolding value

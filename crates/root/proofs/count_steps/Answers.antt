@@ -1,17 +1,10 @@
 -- The leading zeros of the first word that is not 0 give the place of its first binary digit, and that the number of steps. Assumes nothing.
 use mathlib.Core.Path.{ap, ◌∙◌}
 use native.Mathlib.Omega.{arith}
-use lib.Count.{leading_le}
 use Rattle.wide.specs.Value.{value}
 use Rattle.root.specs.Steps.{steps}
 use Rattle.root.proofs.Lengths.{one_word, two_words}
 use Rattle.root.proofs.count_steps.Goals as goal
-
-pub overflow_sub-result : goal.overflow_sub-result
-overflow_sub-result c = omega (arith, leading_le 64 c.args.n.low)
-
-pub overflow_sub-result-else-high-eq0 : goal.overflow_sub-result-else-high-eq0
-overflow_sub-result-else-high-eq0 c = omega (arith, leading_le 64 c.args.n.high)
 
 pub returns-then-high-eq0 : goal.returns-then-high-eq0
 unfolding value

@@ -1,5 +1,5 @@
 -- A test as a number. Assumes nothing.
-use mathlib.Core.Path.{◌≡◌, refl}
+use mathlib.Core.Path.{◌≡◌, refl, ◌∙◌}
 use mathlib.Core.Bool.{Bool, true, false}
 use mir.Val.{bool_byte}
 use Rattle.search.specs.Pick.{pick}
@@ -11,4 +11,4 @@ as_number true = refl
 as_number false = refl
 
 pub returns : goal.returns
-returns c = as_number _
+returns c = c.from.ensures ∙ as_number _

@@ -13,7 +13,7 @@ k_without-less-requires c = (c.requires.0, omega arith, omega (arith, c.loop-par
 
 pub returns-then-k-less : goal.returns-then-k-less
 returns-then-k-less c =
-    found_negative _ _ _ c.requires.1 _ c.k_without-less.ensures _ _ c.loop-part.invariant c.loop-part-test.true _ _ (omega (arith, c.if-k-less.true))
+    found_negative _ _ _ c.requires.1 _ c.k_without-less.ensures _ _ c.loop-part.invariant c.loop-part-test.true (omega (arith, c.if-k-less.true))
 
 pub overflow_add-sum : goal.overflow_add-sum
 overflow_add-sum c =

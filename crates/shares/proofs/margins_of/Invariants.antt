@@ -1,10 +1,5 @@
-use Prim.Native.Nat.{◌-◌}
-use Rattle.guideline.specs.Sizes.{parts}
 use Rattle.shares.proofs.Margins.{FoundTo}
 use Rattle.shares.proofs.margins_of.Given as goal
 
 abbrev pub invariant-loop-part : goal.invariant-loop-part
 invariant-loop-part l = FoundTo l.b l.each l.sum l.part
-
-abbrev pub decreases-loop-part : goal.decreases-loop-part
-decreases-loop-part l = parts - l.part

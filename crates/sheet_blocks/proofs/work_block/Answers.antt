@@ -11,8 +11,9 @@ use Rattle.sheet_line.specs.declared.Entry.{Entry}
 use Rattle.order.specs.Entries.{exists}
 use Rattle.ledger.specs.Numbers.{dividend_credit}
 use Rattle.credits.specs.Credits.{after_credit}
-use Rattle.ledger.specs.Tables.{Holds}
-use Rattle.ledger.proofs.Tables.{exists_is}
+use Rattle.ledger.specs.Lines.{Holds}
+use Rattle.std.proofs.Props.{props}
+use Rattle.ledger.proofs.Tables.{of_lines, exists_is}
 use Rattle.credits.proofs.Accepted.{block_accepted}
 use Rattle.sheet_blocks.proofs.Figured.{row_behind, absent, present, fits, dividends_fit}
 use Rattle.sheet_blocks.proofs.work_block.Goals.{After-block_exists, After-figures_of-f, Start}
@@ -20,18 +21,16 @@ use Rattle.sheet_blocks.proofs.work_block.Goals as goal
 
 -- the tables hold these lines
 abbrev Lines : Start → List Entry → Type 0
-Lines s es = Holds es s.args.firsts.now s.args.seconds.now s.args.marks.now
+Lines s es = Holds es s.args.ledger.now
 
 -- there is room for a row more, and the sums with its K and its dividend credit fit
-room : (c : Start) →
-    let es = c.requires.ledger.0 in
+room : (c : Start) (es : List Entry) → Lines c es →
     (c.args.w.count < blocks) × (c.args.w.sum + K (after_credit es c.args.block) ≤ 10 * limit * blocks)
     × (c.args.w.dividends + dividend_credit es c.args.block ≤ limit * blocks)
-room c =
-    let l = c.requires.ledger in
-    let w = c.requires.worked_before l.0 l.1 in
-    let f = fits l.0 c.requires.block_number.0 w c.requires.block_number.1 l.1.lines (c.requires.credited l.0 l.1).covered in
-    (f.0, f.1, dividends_fit l.0 c.requires.block_number.0 w c.requires.block_number.1 l.1.lines)
+room c es H =
+    let w = c.requires.worked_before es H in
+    let f = fits es c.requires.block_number.0 w c.requires.block_number.1 H.lines (c.requires.credited es H).covered in
+    (f.0, f.1, dividends_fit es c.requires.block_number.0 w c.requires.block_number.1 H.lines)
 
 -- the test tells whether the block exists
 existence : (c : After-block_exists) (es : List Entry) →
@@ -40,7 +39,8 @@ existence c es H = c.block_exists.ensures ∙ exists_is H _ c.requires.block_num
 
 pub joined-requires : goal.joined-requires
 joined-requires c =
-    omega (arith, room (goal.at.joined-requires c).Start, c.dividend_credit-dividend.ensures c.requires.ledger.0 c.requires.ledger.1)
+    of_lines c.args.ledger.now (hlevel props)
+    (λ es H. omega (arith, room (goal.at.joined-requires c).Start es H, c.dividend_credit-dividend.ensures es H))
 
 pub returns-then-not-block_exists : goal.returns-then-not-block_exists
 returns-then-not-block_exists c =
@@ -56,14 +56,13 @@ returns-then-not-block_exists c =
 
 pub figures_of-f-requires : goal.figures_of-f-requires
 figures_of-f-requires c =
-    let s = c.requires in
-    let l = s.ledger in
-    rw (c.numbers_after_credit-numbers.ensures l.0 l.1) (block_accepted l.0 l.1.lines (s.credited l.0 l.1).covered _)
+    of_lines c.args.ledger.now (hlevel props)
+    (λ es H. rw (c.numbers_after_credit-numbers.ensures es H) (block_accepted es H.lines (c.requires.credited es H).covered _))
 
 pub store-requires : goal.store-requires
 store-requires c =
-    let l = c.requires.ledger in
-    omega (arith, (room (goal.at.store-requires c).Start).0, (c.requires.worked_before l.0 l.1).long)
+    of_lines c.args.ledger.now (hlevel props)
+    (λ es H. omega (arith, (room (goal.at.store-requires c).Start es H).0, (c.requires.worked_before es H).long))
 
 -- the block's numbers are those of the lines, and so are its figures
 figured : (c : After-figures_of-f) →
@@ -78,25 +77,27 @@ pub joined-requires-2 : goal.joined-requires-2
 joined-requires-2 c =
     let start = (goal.at.joined-requires-2 c).Start in
     let figures_of_f = (goal.at.joined-requires-2 c).After-figures_of-f in
-    let l = c.requires.ledger in
-    omega (arith, room start, (figured figures_of_f l.0 l.1).1, c.dividend_credit-dividend.ensures l.0 l.1)
+    of_lines c.args.ledger.now (hlevel props)
+    (λ es H. omega (arith, room start es H, (figured figures_of_f es H).1, c.dividend_credit-dividend.ensures es H))
 
 pub returns : goal.returns
 returns c =
     let start = (goal.at.returns c).Start in
-    let block_exists = (goal.at.returns c).After-block_exists in
-    let l = c.requires.ledger in record {
+    let block_exists = (goal.at.returns c).After-block_exists in record {
       worked_out = λ es H.
           let w = figured (goal.at.returns c).After-figures_of-f es H in
           rw (c.joined-2.ensures, c.store.ensures)
-          (present es c.requires.block_number.0 (c.requires.worked_before es H) (room start).0 (sym (existence block_exists es H) ∙ c.if-not-block_exists.false) _ _ _ w.0 w.1
+          (present es c.requires.block_number.0 (c.requires.worked_before es H) (room start es H).0 (sym (existence block_exists es H) ∙ c.if-not-block_exists.false) _ _ _ w.0 w.1
           (c.dividend_credit-dividend.ensures es H));
       rest_kept = rw (c.joined-2.ensures, c.store.ensures) (
         omega arith,
-        row_behind c.args.rows.now c.args.w.count (c.args.block ∷ figure_list c.figures_of-f.result)
-            (omega (arith, (room start).0, (c.requires.worked_before l.0 l.1).long)) refl,
+        of_lines c.args.ledger.now (hlevel props)
+            (λ es H.
+            row_behind c.args.rows.now c.args.w.count (c.args.block ∷ figure_list c.figures_of-f.result)
+            (omega (arith, (room start es H).0, (c.requires.worked_before es H).long)) refl),
       );
     }
 
 pub overflow_mul-w : goal.overflow_mul-w
-overflow_mul-w c = omega (arith, (room (goal.at.overflow_mul-w c).Start).0)
+overflow_mul-w c =
+    of_lines c.args.ledger.now (hlevel props) (λ es H. omega (arith, (room (goal.at.overflow_mul-w c).Start es H).0))

@@ -13,13 +13,13 @@ use Rattle.sheet_check.proofs.list.Goals.{After-count_unmet-length}
 use Rattle.sheet_check.proofs.list.Goals as goal
 
 -- the length that is worked out is the listing's
-long : (c : After-count_unmet-length) → listed_bytes * c.count_unmet-length.result ≡ length (walked c.args.firsts.now c.args.seconds.now)
+long : (c : After-count_unmet-length) → listed_bytes * c.count_unmet-length.result ≡ length (walked c.args.ledger.now.firsts c.args.ledger.now.seconds)
 long c =
-    ap (λ (n : ℕ). listed_bytes * n) c.count_unmet-length.ensures ∙ sym (counted_long c.args.firsts.now c.args.seconds.now most_listed)
+    ap (λ (n : ℕ). listed_bytes * n) c.count_unmet-length.ensures ∙ sym (counted_long c.args.ledger.now.firsts c.args.ledger.now.seconds most_listed)
 
 pub overflow_mul-length : goal.overflow_mul-length
 overflow_mul-length c =
-    omega (arith, c.count_unmet-length.ensures, count_most c.args.firsts.now c.args.seconds.now most_listed)
+    omega (arith, c.count_unmet-length.ensures, count_most c.args.ledger.now.firsts c.args.ledger.now.seconds most_listed)
 
 pub returns-then-room-length : goal.returns-then-room-length
 returns-then-room-length c =
@@ -34,4 +34,4 @@ returns c =
     let count_unmet_length = (goal.at.returns c).After-count_unmet-length in
     let h : listed_bytes * c.count_unmet-length.result ≤ length c.args.room.now = omega (arith, c.if-room-length.false) in
     lent_filled _ _ refl (long count_unmet_length) h
-    (c.write_listing.ensures ∙ ap (λ (n : ℕ). walked c.args.firsts.now c.args.seconds.now ++ drop n c.args.room.now) (sym (long count_unmet_length)))
+    (c.write_listing.ensures ∙ ap (λ (n : ℕ). walked c.args.ledger.now.firsts c.args.ledger.now.seconds ++ drop n c.args.room.now) (sym (long count_unmet_length)))

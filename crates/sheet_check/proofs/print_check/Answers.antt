@@ -6,4 +6,4 @@ use Rattle.sheet_check.proofs.print_check.Goals as goal
 
 pub returns : goal.returns
 returns c =
-    printed_text _ _ _ (never_longer _) (omega (arith, c.check_call-arg-1.given)) c.check_call-answer.result c.check_call-answer.ensures.answer c.print_answer.ensures
+    printed_text _ _ _ (never_longer _) (omega arith) c.check_call-answer.result c.check_call-answer.ensures.answer c.print_answer.ensures

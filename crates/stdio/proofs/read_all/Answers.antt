@@ -4,7 +4,7 @@ use Rattle.std.proofs.Common.{take-add, drop_at, length-take-le}
 use Rattle.std.proofs.lemmas.List.{take-append-le}
 use borrow.Rule.Slice.PartMut.{put_mid, post_of, take_put}
 use Rattle.std.specs.Io.KnownBytes.{Consumes}
-use Rattle.std.proofs.KnownBytes.{Consumes-kept, Consumes-trans}
+use Rattle.std.proofs.KnownBytes.{Consumes-trans}
 use Rattle.stdio.proofs.read_all.Goals as goal
 
 taken_more : (a k n : ℕ) (room part : List ℕ) → a ≤ length room → n ≤ length part
@@ -20,12 +20,6 @@ loop-at-preserved g c = record {
   within = search rules;
   kept = search rules;
   taken =
-      subst (Consumes _ _) (taken_more c.loop-at.at _ c.in-Bytes.n c.loop-at.room c.read_some.new.room c.loop-at.invariant.within (search rules))
-      (Consumes-trans _ _ _ _ _ c.loop-at.invariant.taken c.in-Bytes.ensures.taken.0);
+      subst (Consumes _ _) (taken_more c.loop-at.at _ c.in_ok-n.n c.loop-at.room c.read_some.new.room c.loop-at.invariant.within (search rules))
+      (Consumes-trans _ _ _ _ _ c.loop-at.invariant.taken c.in_ok-n.ensures.taken.0);
 }
-
-pub returns-in-Failed-clause-taken : goal.returns-in-Failed-clause-taken
-returns-in-Failed-clause-taken g c =
-    let front = take_put c.loop-at.at _ c.loop-at.room c.read_some.new.room c.loop-at.invariant.within in
-    let kept = Consumes-kept _ _ _ _ c.loop-at.invariant.taken c.in-Failed.ensures.taken in
-    (c.loop-at.at, search rules, subst (Consumes _ _) (sym front) kept)

@@ -1,13 +1,16 @@
--- Minus signs are counted up to 39, and 40 is anything else. Assumes nothing.
+-- Minus signs are counted up to 39; anything else is none of them, and stays so. Assumes nothing.
 use mathlib.Core.Path.{sym}
-use Rattle.stream.proofs.Room.{no_minus, minus_more, minus_past}
+use Rattle.stream.proofs.Room.{no_minus, minus_more, minus_past, other_counted}
 use Rattle.stream.proofs.count.Goals as goal
 
-pub returns-then-b-ne45 : goal.returns-then-b-ne45
-returns-then-b-ne45 c = sym (no_minus _ _ c.if-b-ne45.true)
+pub returns-in-Some : goal.returns-in-Some
+returns-in-Some c = rw c.in-Some.is (sym (minus_more _ _ c.if-b-eq-MINUS.true c.if-m-lt-MINUSES.true))
 
-pub returns-then-minuses-lt-MINUSES : goal.returns-then-minuses-lt-MINUSES
-returns-then-minuses-lt-MINUSES c = sym (minus_more _ _ c.if-b-ne45.false c.if-minuses-lt-MINUSES.true)
+pub returns-in_default : goal.returns-in_default
+returns-in_default c = rw c.in-Some.is (sym (minus_past _ _ c.if-b-eq-MINUS.true c.if-m-lt-MINUSES.false))
 
-pub returns : goal.returns
-returns c = sym (minus_past _ _ c.if-b-ne45.false c.if-minuses-lt-MINUSES.false)
+pub returns-in_default-2 : goal.returns-in_default-2
+returns-in_default-2 c = rw c.in-Some.is (sym (no_minus _ _ c.if-b-eq-MINUS.false))
+
+pub returns-in_default-3 : goal.returns-in_default-3
+returns-in_default-3 c = rw c.in_default.is (sym (other_counted _))

@@ -2,8 +2,8 @@
 use Rattle.summary.proofs.Summaries.{mean_some, mean_none}
 use Rattle.summary.proofs.items.Goals as goal
 
-pub returns-then-count-ne0 : goal.returns-then-count-ne0
-returns-then-count-ne0 c = let m = mean_some c.args.s c.if-count-ne0.true in rw (m.0, m.1)
+pub returns-then-s-eq0 : goal.returns-then-s-eq0
+returns-then-s-eq0 c = let m = mean_none c.args.s c.if-s-eq0.true in rw (← m.0, ← m.1)
 
-pub returns-else-count-ne0 : goal.returns-else-count-ne0
-returns-else-count-ne0 c = let m = mean_none c.args.s c.if-count-ne0.false in rw (← m.0, ← m.1)
+pub returns-else-s-eq0 : goal.returns-else-s-eq0
+returns-else-s-eq0 c = let m = mean_some c.args.s c.if-s-eq0.false in rw (m.0, m.1)

@@ -3,10 +3,10 @@ use Rattle.search.proofs.Sides.{tests}
 use Rattle.needs.specs.Needs.{all_zero}
 use Rattle.unmet.proofs.all_zero.Goals as goal
 
-pub returns-then-first-ne0 : goal.returns-then-first-ne0
+pub returns-then-first-eq0 : goal.returns-then-first-eq0
 unfolding all_zero
-returns-then-first-ne0 c = search tests
+returns-then-first-eq0 c = search tests
 
-pub returns : goal.returns
+pub returns-else-first-eq0 : goal.returns-else-first-eq0
 unfolding all_zero
-returns c = search tests
+returns-else-first-eq0 c = search tests

@@ -1,31 +1,19 @@
--- Whenever the loop's test is reached, none of the first classes has a first amount above 0. Assumes nothing.
-use mathlib.Core.Path.{◌≡◌, sym}
-use native.Mathlib.Omega.{arith}
-use Rattle.search.proofs.Anys.{none_yet}
+-- The test of i is that of class i + 1, so the chain tells whether one of the classes passes it. Assumes nothing.
+use Rattle.std.proofs.Common.{rules, ◌≡◌, ℕ, ◌+◌, Bool, true, false, refl, add-one}
+use Rattle.std.proofs.lemmas.Iterator.{cases_from_any, YieldsList-from_range}
+use borrow.Author.Tests.{tests}
+use lib.Dec.{ltb}
 use Rattle.codes.specs.Codes.{risk_classes}
+use Rattle.codes.specs.declared.Code.TheVariants.{Rsk}
 use Rattle.order.specs.Places.{tabled}
+use Rattle.ledger.proofs.Ranges.{any_below}
 use Rattle.needs.specs.Needs.{some_risk}
-use Rattle.unmet.proofs.Asking.{risk_key, some_more, some_found}
-use borrow.Author.Rules.{rules}
 use Rattle.unmet.proofs.some_risk.Goals as goal
-
-pub loop-class-init : goal.loop-class-init
-loop-class-init c = (search rules, none_yet _)
-
-pub amount_of-requires : goal.amount_of-requires
-amount_of-requires c = risk_key _ _ c.requires (omega arith) (omega (arith, c.loop-class-test.true))
-
-pub returns-then-amount_of-gt0 : goal.returns-then-amount_of-gt0
-returns-then-amount_of-gt0 c =
-    some_found _ _ _ (omega (arith, c.loop-class-test.true)) c.loop-class.invariant.1 c.amount_of.ensures c.if-amount_of-gt0.true
-
-pub loop-class-preserved : goal.loop-class-preserved
-loop-class-preserved c = (
-  search rules,
-  some_more (tabled c.args.firsts.now) c.args.block _ (omega (arith, c.loop-class-test.true))
-      c.loop-class.invariant.1 c.amount_of.ensures c.if-amount_of-gt0.false,
-)
 
 pub returns : goal.returns
 unfolding some_risk
-returns c = let l = c.loop-class in let e : l.class ≡ risk_classes = omega (arith, c.loop-class-test.false) in sym (rw e at l.invariant.1)
+returns c =
+    let T : ℕ → Bool = λ i. ltb 0 (tabled c.args.firsts.now Rsk c.args.block (i + 1)) in
+    any_below T (λ k. ltb 0 (tabled c.args.firsts.now Rsk c.args.block k)) risk_classes (λ i l. rw (add-one i)) c.any.result
+    (cases_from_any _ _ _ (λ i. T i ≡ true) (λ i. T i ≡ false) c.any.ensures.ran (YieldsList-from_range 0 risk_classes risk_classes refl refl)
+    (λ x q k. search (rules, tests)) (λ x q k. search (rules, tests)))

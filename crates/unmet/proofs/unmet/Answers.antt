@@ -15,9 +15,9 @@ returns-in_default c =
 
 pub counts-requires : goal.counts-requires
 counts-requires c =
-    companion_asked _ _ _ c.requires (sym c.need_of-need.ensures ∙ c.in-Companion.is)
+    companion_asked _ _ _ c.requires (sym c.need_of-need.ensures ∙ c.in-Some.is)
 
 pub returns : goal.returns
 returns c =
     companion_met (tabled c.args.firsts.now) (tabled c.args.seconds.now) _ c.amount_of-first.ensures c.amount_of-second.ensures
-    (sym c.all_zero.ensures ∙ c.if-all_zero.false) c.need_of-need.ensures c.in-Companion.is c.counts.ensures
+    (sym c.all_zero.ensures ∙ c.if-all_zero.false) c.need_of-need.ensures c.in-Some.is c.counts.ensures

@@ -1,10 +1,5 @@
-use Prim.Native.Nat.{◌-◌}
-use Rattle.guideline.specs.Sizes.{risks}
 use Rattle.movement.proofs.Lines.{Lines}
 use Rattle.movement.proofs.moves.write_movements.Given as goal
 
 abbrev pub invariant-loop-i : goal.invariant-loop-i
 invariant-loop-i l = Lines l.block l.raise l.initial.room l.i l.room
-
-abbrev pub decreases-loop-i : goal.decreases-loop-i
-decreases-loop-i l = risks - l.i

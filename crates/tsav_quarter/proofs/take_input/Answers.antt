@@ -1,0 +1,49 @@
+-- What is known is that of no bytes at first, and of a chunk's bytes more once it is taken; at the end of the input these are all of its bytes, and after
+-- too many sheets the bytes that follow change nothing. Assumes nothing.
+use Rattle.std.proofs.Common.{◌≡◌, ℕ, List, [], ◌++◌, true, refl, sym, ap, ◌∙◌, subst, append-nil, rules, arith}
+use Rattle.std.specs.Prelude.{Option, None, Some, Ok}
+use Rattle.std.specs.Io.KnownBytes.{Consumes, IsAtEnd}
+use Rattle.std.proofs.KnownBytes.{Consumes-nil, Consumes-trans}
+use Rattle.quarter.specs.declared.Quarter.{Quarter}
+use Rattle.quarter.specs.Steps.{After}
+use Rattle.quarter.proofs.Taking.{taken_over}
+use Rattle.tsav_quarter.specs.Input.{TakenAll}
+use Rattle.tsav_quarter.proofs.take_input.Goals.{then-n-eq0-via-then-n-eq0, then-n-eq0-via-else-n-eq0+then-q}
+use Rattle.tsav_quarter.proofs.take_input.Goals as goal
+
+too_many : (left rest : Option (List ℕ)) (s room out : List ℕ) (q : Quarter) → Consumes left rest s → After s room out q → q.over ≡ true
+    → TakenAll left room out (Ok q)
+too_many None rest s room out q took known over = (s, known)
+too_many (Some xs) None s room out q took known over = absurd took
+too_many (Some xs) (Some ys) s room out q took known over =
+    subst (λ u. After u room out q) (sym took) ((taken_over room out ys q over).after s known)
+
+all_taken : (left rest : Option (List ℕ)) (s room out : List ℕ) (q : Quarter) → Consumes left rest s → After s room out q → IsAtEnd rest
+    → TakenAll left room out (Ok q)
+all_taken None rest s room out q took known end = (s, known)
+all_taken (Some xs) None s room out q took known end = absurd took
+all_taken (Some xs) (Some ys) s room out q took known end =
+    subst (λ u. After u room out q) (sym (took ∙ ap (λ l. s ++ l) end ∙ append-nil s)) known
+
+pub loop-init : goal.loop-init
+loop-init g c = record { begun = ([], Consumes-nil _, c.start-q.ensures _ _ (search rules) (search rules)); chunk_long = refl }
+
+pub loop-preserved : goal.loop-preserved
+loop-preserved g c =
+    let (s, took, known) = c.loop.invariant.begun in
+    record {
+      begun = (s ++ _, Consumes-trans _ _ _ _ _ took c.in_ok-n.ensures.taken.0, search (rules, c.take_chunk-q.ensures.after s known));
+      chunk_long = search rules;
+    }
+
+pub returns-then-n-eq0 : goal.returns-then-n-eq0
+returns-then-n-eq0 g c =
+    let (s, took, known) = c.loop.invariant.begun in
+    let more = Consumes-trans _ _ _ _ _ took c.in_ok-n.ensures.taken.0 in
+    let after = c.take_chunk-q.ensures.after s known in
+    elim c.then-n-eq0.branch [
+      | then-n-eq0-via-then-n-eq0 w ↦
+          all_taken _ _ _ _ _ _ more after
+          (c.in_ok-n.ensures.taken.1 w.if-n-eq0.true (omega (arith, c.in_ok-n.ensures.within.1, c.loop.invariant.chunk_long)))
+      | then-n-eq0-via-else-n-eq0+then-q w ↦ too_many _ _ _ _ _ _ more after w.if-q.true
+    ]

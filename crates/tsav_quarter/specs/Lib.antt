@@ -1,0 +1,2 @@
+-- What is known once an input was taken.
+pub mod Input
