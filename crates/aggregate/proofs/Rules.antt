@@ -2,19 +2,19 @@
 -- is never longer than the longest report. Assumes nothing.
 use mathlib.Core.Path.{◌≡◌, refl, sym, ap, ◌∙◌}
 use mathlib.Core.List.{List, [], ◌∷◌, ◌++◌}
-use Prim.Native.Nat.{ℕ, ◌*◌, ◌≤◌, ◌<◌}
+use Prim.Native.Nat.{ℕ, ◌≤◌, ◌<◌}
 use native.Mathlib.Omega.{arith}
-use lib.ListN.{length, take, drop}
+use lib.ListN.{length, drop}
 use Rattle.refusal.specs.Outcome.Outcome.{accepted, refused}
 use Rattle.refusal.specs.declared.Place.{Place}
 use Rattle.refusal.specs.declared.Place.TheVariants.{Nowhere}
-use Rattle.guideline.specs.Sizes.{blocks, row_numbers}
+use Rattle.guideline.specs.Sizes.{blocks}
 use Rattle.report_line.specs.Line.{print_rows}
 use Rattle.sheet_line.specs.declared.Entry.{Entry}
 use Rattle.printing.specs.Lent.{Done, untouched, lent}
 use Rattle.printing.specs.Lent.Text.{bytes}
 use Rattle.printing.proofs.Lent.{lent_short, lent_filled}
-use Rattle.report.specs.Rows.{total_rows, report_bytes, report_length, longest_report}
+use Rattle.report.specs.Rows.{total_rows, table_rows, report_bytes, report_length, longest_report}
 use Rattle.judgement.specs.Sheet.{sheet_of}
 use Rattle.judgement.specs.Judgement.{judgement, findings}
 use Rattle.judgement.specs.Judgement.Findings.{figures}
@@ -25,7 +25,7 @@ use Rattle.judged_text.proofs.Judged.{of_lines}
 use Rattle.aggregate.specs.Call.{report_of, sheet_call}
 use Rattle.aggregate.proofs.Rows.{table_lines, report_long}
 
-module _ (s r : List ℕ) (n : ℕ) (rows : List ℕ) (sum ro x : ℕ) (e : figures n (take (row_numbers * n) rows) sum ro x ≡ findings (judgement s)) where
+module _ (s r : List ℕ) (n : ℕ) (rows : List (ℕ × List ℕ)) (sum ro x : ℕ) (e : figures n rows sum ro x ≡ findings (judgement s)) where
   pub few : n ≤ blocks
   unfolding sheet_of
   few = let f = findings_figures (judgement s) e in omega (arith, f.2.count_is, few_blocks f.0 blocks)
@@ -43,12 +43,12 @@ module _ (s r : List ℕ) (n : ℕ) (rows : List ℕ) (sum ro x : ℕ) (e : figu
   pub too_short : {m : ℕ} → m ≡ report_length n → length r < m → untouched 14 Nowhere r ≡ sheet_call s r
   too_short l h = lent_short _ r refl (long l) h ∙ is_call
 
-  pub reported : {m : ℕ} {r' : List ℕ} → m ≡ report_length n → m ≤ length r → r' ≡ report_bytes rows n sum ro x ++ drop (report_length n) r
+  pub reported : {m : ℕ} {r' : List ℕ} → m ≡ report_length n → m ≤ length r → r' ≡ report_bytes rows (sum ∷ ro ∷ x ∷ []) ++ drop (report_length n) r
       → ◌≡◌ {A = Done} (record { outcome = accepted (m ∷ []); room = r' }) (sheet_call s r)
   unfolding report_bytes
   reported l h q =
       let F = (findings_figures (judgement s) e).2 in
-      let t = table_lines lines rows n F.count_is F.rows_are in
+      let t = ap table_rows F.rows_are ∙ table_lines lines in
       let w = q ∙ (λ i. print_rows (t i ++ total_rows (F.sum_is i) (F.ro_is i) (F.buffer_is i)) ++ drop (sym l i) r) in
       lent_filled _ r refl (long l) h w ∙ is_call
 

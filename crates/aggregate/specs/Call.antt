@@ -7,7 +7,8 @@ use Rattle.guideline.specs.Sizes.{blocks}
 use Rattle.guideline.specs.Block.{figures_of}
 use Rattle.guideline.specs.Operational.{RO}
 use Rattle.guideline.specs.Buffer.{sum_k, buffer}
-use Rattle.report_line.specs.Line.{Row, print_rows}
+use Rattle.report_line.specs.declared.Row.{Row}
+use Rattle.report_line.specs.Line.{print_rows}
 use Rattle.sheet_line.specs.declared.Entry.{Entry}
 use Rattle.order.specs.Entries.{exists}
 use Rattle.report.specs.Rows.{block_rows, total_rows}

@@ -8,7 +8,8 @@ ghost use Rattle.judgement.specs.Judgement.{judgement};
 ghost use Rattle.aggregate.specs.Call.{answer_to, sheet_call};
 ghost use Rattle.aggregate.specs.Demand.{Demand3};
 
-use guideline::TABLE_NUMBERS;
+use figures::NumberedFigures;
+use guideline::BLOCKS;
 use ledger::Ledger;
 use refusal::{Place, Refusal, Rule};
 use report::LONGEST_REPORT;
@@ -19,18 +20,19 @@ pub fn sheet_call(sheet: &[u8], report: &mut [u8]) -> Result<usize, Refusal>
     ensures demand3 { Demand3 sheet.now (stated result) report.new }
 {
     let mut ledger = Ledger::new();
-    let mut rows = [0u64; TABLE_NUMBERS];
+    let mut rows = [NumberedFigures::default(); BLOCKS];
     let t = judgement::judge(sheet, &mut ledger, &mut rows)?;
     let length = report::length_for(t.count);
     if report.len() < length {
         return Err(Refusal(Rule::RoomTooShort, Place::Nowhere));
     }
-    report::write_report(&rows, t.count, t.sum, t.ro, t.buffer, report);
+    report::write_report(&rows[..t.count], &[t.sum, t.ro, t.buffer], report);
     Ok(length)
 }
 
 // What tsav-sheet prints of a sheet of any bytes, from the room's start on: the report, or the line of the refusal. It gives how many
 // bytes that is. There is room for every report, so that 14 never comes.
+// Kept: two lines in each of four calls, as `printing::print_answer` says.
 pub fn print_sheet(sheet: &[u8], room: &mut [u8; LONGEST_REPORT]) -> usize
     ensures { Printed (printout (answer_to (judgement sheet.now))) result room.old room.new }
 {

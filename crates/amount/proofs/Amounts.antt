@@ -12,7 +12,8 @@ use Rattle.std.proofs.Common.{Option, Some, None}
 use Rattle.std.specs.Option.{MatchOption}
 use Rattle.std.specs.List.{AllWithin, HoldsAt}
 use Rattle.search.proofs.Firsts.{found_from, found_unique, none_passes, sought_found, sought_none}
-use Rattle.amount.specs.Amount.{limit, above, first_above, FoundAt}
+use Rattle.search.specs.First.{FoundAt}
+use Rattle.amount.specs.Amount.{limit, above, first_above}
 
 -- where the search for an amount above the limit finds none, there is none
 pub none_above : (l : List ℕ) → length l ≤ first_above l → (k : ℕ) → get_or l k 0 ≤ limit

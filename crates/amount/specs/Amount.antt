@@ -1,5 +1,5 @@
 -- Amounts and rule 7, 'a call's amount above the limit'. Assumes nothing.
-use Rattle.std.specs.Prelude.{◌≡◌, Bool, Option, Some, None, List, ℕ, ◌<◌, ◌≤◌, ltb, length, get_or}
+use Rattle.std.specs.Prelude.{Bool, List, ℕ, ltb, length, get_or}
 use Rattle.search.specs.First.{first}
 
 -- 'All amounts are whole cents, 0 to 99,999,999,999,999'
@@ -13,8 +13,3 @@ above l k = ltb limit (get_or l k 0)
 -- the position, from 0, of the first amount above the limit; the number of amounts where there is none
 unfoldable pub first_above : List ℕ → ℕ
 first_above l = first (above l) (length l)
-
--- what an Option says of such a first of n places: there is none, or it is k
-abbrev pub FoundAt : ℕ → ℕ → Option ℕ → Type 0
-FoundAt n first None = n ≤ first
-FoundAt n first (Some k) = (k ≡ first) × (k < n)

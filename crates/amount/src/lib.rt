@@ -2,7 +2,8 @@
 #![tactic(auto)]
 
 ghost use Rattle.std.specs.Prelude.{◌≡◌, ◌-◌, length};
-ghost use Rattle.amount.specs.Amount.{first_above, FoundAt};
+ghost use Rattle.search.specs.First.{FoundAt};
+ghost use Rattle.amount.specs.Amount.{first_above};
 
 // The largest amount, in cents.
 pub const LARGEST_AMOUNT: u64 = 99999999999999;

@@ -9,6 +9,7 @@ ghost use Rattle.answers.specs.Left.{Never0, Leaves};
 use refusal::Refusal;
 
 // Given by a call that is accepted. No refusal has this number.
+// Kept: a number, since the C interface has it: include/tsav.h says that 0 is accepted.
 pub const ACCEPTED: u64 = 0;
 
 // What a call has answered that gives N values: these are written, or its refusal is.

@@ -81,14 +81,15 @@ fn cent(divided: &[Division<u64>; PARTS], part: usize, left: u64) -> u64
 }
 
 // How many parts come before this one in the order of the rests.
+// Kept: the range of a part's number as a clause, here and in shares; a type would be opened at each use, as an index and as a number.
 fn rank_of(divided: &[Division<u64>; PARTS], part: usize) -> u64
     requires { (1 ≤ part) × (part ≤ parts) }
     ensures { result ≡ rank (value_of_part (rests divided.now)) parts part }
 {
     let rest = divided[part - 1].rest;
     let mut before = 0u64;
-    for other in 0..PARTS {
-        before += one_before(divided[other].rest, other + 1, rest, part);
+    for (other, share) in divided.iter().enumerate() {
+        before += one_before(share.rest, other + 1, rest, part);
     }
     before
 }

@@ -14,7 +14,8 @@ use Rattle.search.proofs.Picks.{if_lt, if_ge, if_eq, if_ne}
 use Rattle.search.proofs.Firsts.{none_passes, sought_found, sought_none}
 use Rattle.refusal.specs.Outcome.Outcome.{accepted, refused}
 use Rattle.refusal.specs.declared.Place.TheVariants.{Position}
-use Rattle.amount.specs.Amount.{limit, first_above, FoundAt}
+use Rattle.search.specs.First.{FoundAt}
+use Rattle.amount.specs.Amount.{limit, first_above}
 use Rattle.guideline.specs.Sizes.{risks}
 use Rattle.guideline.specs.Block.{AcceptedBlock, lt, figures_of}
 use Rattle.guideline.proofs.Figures.{accepted_of_lem}

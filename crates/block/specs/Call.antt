@@ -10,6 +10,7 @@ use Rattle.refusal.specs.Outcome.Outcome.{accepted, refused}
 use Rattle.refusal.specs.declared.Place.TheVariants.{Position}
 use Rattle.refusal.specs.declared.Refusal.{Refusal}
 use Rattle.guideline.specs.Sizes.{risks}
+use Rattle.guideline.specs.declared.Block.{Block}
 use Rattle.guideline.specs.Block.{lt, figures_of}
 use Rattle.figures.specs.declared.Worked.{Worked}
 use Rattle.figures.specs.Parts.{figure_list, step_list}
@@ -18,6 +19,10 @@ use Rattle.figures.specs.RootSteps.{steps_of}
 -- what the result says in document 01's numbers: the figures in its order and the steps, or the refusal's number and place
 abbrev pub stated : Result Worked Refusal → Outcome
 stated = stated_by (λ w. figure_list w.figures ++ step_list w.steps)
+
+-- the same of the block alone, by what is worked out of its numbers
+abbrev pub stated_block : Result Block Refusal → Outcome
+stated_block = stated_by (λ k. figures_of k.numbers ++ steps_of k.numbers)
 
 -- rule 9 at the pair i, counted from 0: its LT, at position 2i + 1, is above its IR
 abbrev pub lt_above : List ℕ → ℕ → Bool

@@ -1,14 +1,14 @@
 // The block call: chapter 11.2 for one block, behind rules 7, 8 and 9.
 #![tactic(auto)]
 
-ghost use Rattle.std.specs.Prelude.{◌≡◌};
-ghost use Rattle.amount.specs.Amount.{FoundAt};
+ghost use Rattle.std.specs.Prelude.{◌≡◌, IfOk};
+ghost use Rattle.search.specs.First.{FoundAt};
 ghost use Rattle.guideline.specs.Sizes.{risks};
-ghost use Rattle.block.specs.Call.{stated, block_call, first_lt_above};
+ghost use Rattle.block.specs.Call.{stated, stated_block, block_call, first_lt_above};
 ghost use Rattle.block.specs.Accepted.{BlockDemand3, FewSteps};
 
 use figures::Worked;
-use guideline::{BLOCK_NUMBERS, RISKS};
+use guideline::{BLOCK_NUMBERS, Block, RISKS};
 use refusal::{Place, Refusal, Rule};
 
 // A block of any 17 numbers: seven pairs IR, LT, then PC, credit, market. Where it is accepted, the figures meet demand 3,
@@ -17,6 +17,15 @@ pub fn block_call(b: &[u64; BLOCK_NUMBERS]) -> Result<Worked, Refusal>
     ensures outcome { stated result ≡ block_call b.now }
     ensures demand3 { BlockDemand3 b.now (stated result) }
     ensures few_steps { FewSteps (stated result) }
+{
+    let block = accepted_block(b)?;
+    Ok(figures::worked_out(&block))
+}
+
+// The block of any 17 numbers, where rules 7, 8 and 9 let them pass: what the block call accepts, and refuses otherwise.
+pub fn accepted_block(b: &[u64; BLOCK_NUMBERS]) -> Result<Block, Refusal>
+    ensures outcome { stated_block result ≡ block_call b.now }
+    ensures numbers { IfOk result (λ block. block.numbers ≡ b.now) }
 {
     if let Some(above) = amount::first_above(b) {
         return Err(Refusal(Rule::AmountAboveLimit, Place::Position(above)));
@@ -27,7 +36,7 @@ pub fn block_call(b: &[u64; BLOCK_NUMBERS]) -> Result<Worked, Refusal>
     if let Some(risk) = first_lt_above(b) {
         return Err(Refusal(Rule::TrendAboveComponent, Place::Position(2 * risk + 1)));
     }
-    Ok(figures::worked_out(b))
+    Ok(Block::new(*b))
 }
 
 // The first risk, counted from 0, whose level and trend part is above its component, where there is one.

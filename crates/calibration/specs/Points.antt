@@ -116,7 +116,10 @@ points =
       figures = I 157884172 ∷ D 191405437 ∷ U 176550000 ∷ LT 90400000 ∷ K 151765333 ∷ [];
     }
     -- all zeros
-    ∷ record { outcome = block_call (0 ∷ 0 ∷ 0 ∷ 0 ∷ 0 ∷ 0 ∷ 0 ∷ 0 ∷ 0 ∷ 0 ∷ 0 ∷ 0 ∷ 0 ∷ 0 ∷ 0 ∷ 0 ∷ 0 ∷ []); figures = I 0 ∷ D 0 ∷ U 0 ∷ LT 0 ∷ K 0 ∷ [] }
+    ∷ record {
+      outcome = block_call (0 ∷ 0 ∷ 0 ∷ 0 ∷ 0 ∷ 0 ∷ 0 ∷ 0 ∷ 0 ∷ 0 ∷ 0 ∷ 0 ∷ 0 ∷ 0 ∷ 0 ∷ 0 ∷ 0 ∷ []);
+      figures = I 0 ∷ D 0 ∷ U 0 ∷ LT 0 ∷ K 0 ∷ [];
+    }
     -- IR(1) 100
     ∷ record { outcome = block_call (100 ∷ 0 ∷ 0 ∷ 0 ∷ 0 ∷ 0 ∷ 0 ∷ 0 ∷ 0 ∷ 0 ∷ 0 ∷ 0 ∷ 0 ∷ 0 ∷ 0 ∷ 0 ∷ 0 ∷ []); figures = I 200 ∷ D 200 ∷ K 100 ∷ [] }
     -- IR(1) 100, LT(1) 100

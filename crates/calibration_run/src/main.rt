@@ -41,7 +41,7 @@ fn number(rt: &impl Print, n: u64) {
 }
 
 // A refusal: its number and its place.
-// Kept: a match in place of a Display, which only the crate of Place can have, for this program alone; a type round it would be longer.
+// Kept: a match in place of a Display, which would have as many arms in the crate of Place, and no contract, for this program alone.
 fn refused(rt: &impl Print, refusal: Refusal) {
     let n = refusal.0.number();
     let _ = match refusal.1 {
@@ -121,6 +121,7 @@ fn half_cents(ir: u64, lt: u64) -> u64 {
 }
 
 // The sum, or nothing where it does not fit.
+// Kept: 0 for nothing, as the sums of this program fit; an Option would be opened at once at each of them.
 fn plus(x: u64, y: u64) -> u64 {
     x.checked_add(y).unwrap_or(0)
 }
@@ -323,15 +324,9 @@ fn bad_fluctuations(rt: &impl Print) {
 // What the shares call gives, on a line.
 fn shares_row(rt: &impl Print, b: &[u64; BLOCK_NUMBERS]) {
     match shares::shares_call(b) {
-        Ok(s) => {
+        Ok(shares) => {
             say(rt, "shares:");
-            let risks = [
-                s.risk1, s.risk2, s.risk3, s.risk4, s.risk5, s.risk6, s.risk7,
-            ];
-            for share in risks {
-                number(rt, share);
-            }
-            for share in [s.pc, s.credit, s.market] {
+            for share in shares {
                 number(rt, share);
             }
             say(rt, "\n");
@@ -398,20 +393,21 @@ fn printed_illustration(rt: &impl Print) {
     coalition(rt, &b, &[8, 9]);
     coalition(rt, &b, &[10, 11]);
     coalition(rt, &b, &[12, 13]);
-    let Ok(s) = shares::shares_call(&b) else {
+    let Ok(shares) = shares::shares_call(&b) else {
         return;
     };
+    let [_, _, _, _, risk5, risk6, risk7, _, _, market] = shares;
     say(rt, "\nshares");
-    share_in_tenths(rt, s.market);
-    share_in_tenths(rt, s.risk5);
-    share_in_tenths(rt, s.risk6);
-    share_in_tenths(rt, s.risk7);
+    share_in_tenths(rt, market);
+    share_in_tenths(rt, risk5);
+    share_in_tenths(rt, risk6);
+    share_in_tenths(rt, risk7);
     say(rt, "\npercent");
-    let k = plus(plus(s.market, s.risk5), plus(s.risk6, s.risk7));
-    percentage(rt, s.market, k);
-    percentage(rt, s.risk5, k);
-    percentage(rt, s.risk6, k);
-    percentage(rt, s.risk7, k);
+    let k = plus(plus(market, risk5), plus(risk6, risk7));
+    percentage(rt, market, k);
+    percentage(rt, risk5, k);
+    percentage(rt, risk6, k);
+    percentage(rt, risk7, k);
     say(rt, "\n");
 }
 

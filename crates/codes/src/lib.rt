@@ -2,8 +2,9 @@
 #![tactic(auto)]
 
 ghost use Rattle.std.specs.Prelude.{◌≡◌, ◌≤◌, length};
-ghost use Rattle.codes.specs.Codes.{range_of, code_of};
+ghost use Rattle.codes.specs.Codes.{letters_of, range_of, code_of};
 
+use cast::word;
 use guideline::{
     ADJUSTABLE_PRODUCTS, BLOCKS, NON_PARTICIPATING, OTHER_AMOUNTS, RISKS, TERRITORIES,
     VOLUME_CLASSES,
@@ -84,6 +85,23 @@ pub fn read_code(s: &[u8]) -> Option<Code>
     }
 }
 
+// The letters of a code.
+impl From<Code> for [u8; 3] {
+    ghost from_gives = { λ code letters. letters ≡ letters_of code };
+
+    fn from(code: Code) -> [u8; 3] {
+        match code {
+            Code::Rsk => *b"RSK",
+            Code::Oth => *b"OTH",
+            Code::Mor => *b"MOR",
+            Code::Vol => *b"VOL",
+            Code::Acq => *b"ACQ",
+            Code::Gen => *b"GEN",
+            Code::Crd => *b"CRD",
+        }
+    }
+}
+
 // The range of a code that a block falls under.
 pub fn range_of(code: Code, block: u64) -> Range
     ensures { result ≡ range_of code block }
@@ -91,33 +109,33 @@ pub fn range_of(code: Code, block: u64) -> Range
     match code {
         Code::Rsk => Range {
             lowest: 1,
-            highest: BLOCKS as u64,
-            classes: RISK_CLASSES as u64,
+            highest: word(BLOCKS),
+            classes: word(RISK_CLASSES),
         },
         Code::Oth => Range {
             lowest: 1,
-            highest: BLOCKS as u64,
-            classes: OTHER_CLASSES as u64,
+            highest: word(BLOCKS),
+            classes: word(OTHER_CLASSES),
         },
         Code::Mor => Range {
             lowest: 1,
-            highest: NON_PARTICIPATING as u64,
-            classes: MORTALITY_CLASSES as u64,
+            highest: word(NON_PARTICIPATING),
+            classes: word(MORTALITY_CLASSES),
         },
         Code::Vol => Range {
             lowest: 1,
-            highest: TERRITORIES as u64,
-            classes: VOLUME_CLASSES as u64,
+            highest: word(TERRITORIES),
+            classes: word(VOLUME_CLASSES),
         },
         Code::Acq => Range {
             lowest: 1,
-            highest: TERRITORIES as u64,
-            classes: ACQUIRED_CLASSES as u64,
+            highest: word(TERRITORIES),
+            classes: word(ACQUIRED_CLASSES),
         },
         Code::Gen => Range {
             lowest: 0,
             highest: 0,
-            classes: GENERAL_CLASSES as u64,
+            classes: word(GENERAL_CLASSES),
         },
         Code::Crd => credit_range(block),
     }
@@ -131,12 +149,12 @@ fn credit_range(block: u64) -> Range
         return Range {
             lowest: 0,
             highest: 0,
-            classes: ADJUSTABLE_PRODUCTS as u64,
+            classes: word(ADJUSTABLE_PRODUCTS),
         };
     }
     Range {
-        lowest: NON_PARTICIPATING as u64 + 1,
-        highest: BLOCKS as u64,
-        classes: DIVIDEND_CLASSES as u64,
+        lowest: word(NON_PARTICIPATING) + 1,
+        highest: word(BLOCKS),
+        classes: word(DIVIDEND_CLASSES),
     }
 }

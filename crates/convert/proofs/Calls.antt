@@ -91,7 +91,8 @@ room_for s r room t e = omega (arith, room, same_length s t e, short_sheet s t e
 pub right_numbers : (s : List ℕ) → Numbered (conversion s)
 unfolding conversion
 right_numbers s n p =
-    by_length s (λ l. after_length l no_text (after_reading (scale_of s) (reading_in (scale_of s) s)) ≡ no_text n p → Judging n × FitsColumns (printed p))
+    by_length s
+    (λ l. after_length l no_text (after_reading (scale_of s) (reading_in (scale_of s) s)) ≡ no_text n p → Judging n × FitsColumns (printed p))
     (λ r j h q.
     let e : rule_number r.0 ≡ n = cc in
     let f : r.1 ≡ p = cc in

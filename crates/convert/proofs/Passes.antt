@@ -2,10 +2,11 @@
 -- Assumes nothing.
 use borrow.Rule.Slice.PartMut.{put_mid, same_len_mid}
 use mathlib.Core.Path.{◌≡◌, refl, sym, ap, ◌∙◌, subst}
+use mathlib.Core.Bool.{Bool}
 use mathlib.Core.List.{List, [], ◌∷◌, ◌++◌}
 use Prim.Native.Nat.{ℕ, ◌+◌, ◌-◌, ◌*◌, ◌%◌, ◌≤◌, ◌<◌}
 use native.Mathlib.Omega.{arith}
-use lib.ListN.{length, drop, length-drop}
+use lib.ListN.{length, take, drop, length-drop}
 use lib.Seq.{length-take-le}
 use Rattle.search.proofs.Picks.{never}
 use Rattle.search.proofs.Stretches.{Wrote, nothing, part}
@@ -14,15 +15,13 @@ use Rattle.refusal.specs.declared.Place.TheVariants as place
 use Rattle.codes.specs.Codes.{Key}
 use Rattle.layout.specs.Columns.{sheet_line_bytes}
 use Rattle.layout.specs.Whole.{whole_lines, line_at}
-use Rattle.layout.proofs.Lent.{lent, lent_is}
+use Rattle.layout.proofs.Lent.{length_line}
 use Rattle.sheet_line.specs.declared.Entry.{Entry}
 use Rattle.std.specs.Prelude.{Result, Ok, Err}
 use Rattle.refusal.specs.declared.Rule.{Rule}
 use Rattle.refusal.specs.Outcome.{rule_number}
-use Rattle.order.specs.Entries.{mark_of}
 use Rattle.order.specs.Marks.{Admits}
 use Rattle.order.specs.Order.{key_for}
-use Rattle.order.specs.Places.{table}
 use Rattle.order.specs.Reading.{line_after, read_from, outcome_of, print_by}
 use Rattle.order.specs.Reading.Reading.{complete}
 use Rattle.order.proofs.Lines as lines
@@ -39,20 +38,18 @@ use Rattle.convert.proofs.Reading.{reads}
 
 -- ---- the lines tested
 
-pub record TestedTo (d : Scale) (s m : List ℕ) (last i : ℕ) : Type 0 where
+pub record TestedTo (d : Scale) (s : List ℕ) (m : List Bool) (last i : ℕ) : Type 0 where
   pub seen : List Entry
   pub read : ReadTo (parse_in d) (convertible d) s m last i seen
 
-pub test_start : (d : Scale) {m : List ℕ} (s : List ℕ) → m ≡ table mark_of [] → TestedTo d s m 0 0
-test_start d s p = record { seen = []; read = lines.start (parse_in d) (convertible d) s p }
-
-module _ {d : Scale} {s m : List ℕ} {last i : ℕ} (B : TestedTo d s m last i) where
+module _ {d : Scale} {s : List ℕ} {m : List Bool} {last i : ℕ} (B : TestedTo d s m last i) where
   pub test_done : whole_lines s ≤ i → accepted (whole_lines s ∷ []) ≡ outcome_of (reading_in d s)
   test_done h =
       let n : whole_lines s ≡ length B.seen = omega (arith, B.read.count, B.read.some) in
       rw (lines.done (reads d) B.read h, n)
 
-  module _ (h : i < whole_lines s) {r : Result Entry Rule} {m' : List ℕ} (A : Admits (parse_in d (lent s i)) last m r m') {l : Result Entry Rule} (c : l ≡ convertible d r) where
+  module _ (h : i < whole_lines s) {r : Result Entry Rule} {m' : List Bool} (A : Admits (parse_in d (line_at s i)) last m r m')
+      {l : Result Entry Rule} (c : l ≡ convertible d r) where
     pub test_turned : {n : Rule} → l ≡ Err n → refused (rule_number n) (place.Line (i + 1)) ≡ outcome_of (reading_in d s)
     test_turned q = rw (lines.turned (reads d) B.read h A (sym c ∙ q))
 
@@ -83,10 +80,7 @@ write_start d s r =
     record { some = omega arith; long = refl; lines = λ es q. record { seen = []; rest = rw z q; wrote = nothing r } }
 
 module _ {d : Scale} {s r₀ r : List ℕ} {i : ℕ} (W : Writing d s r₀ r i) where
-  module _ (h : i < whole_lines s) (fits : length s ≤ length r₀) (ys old : List ℕ) (w : ys ≡ other_over d (parse_in d (lent s i)) old) where
-    line_long : length (line_at s i) ≡ sheet_line_bytes
-    line_long = length-take-le sheet_line_bytes (drop (sheet_line_bytes * i) s) (rw length-drop (omega arith))
-
+  module _ (h : i < whole_lines s) (fits : length s ≤ length r₀) (ys old : List ℕ) (w : ys ≡ other_over d (parse_in d (line_at s i)) old) where
     line_more : (es : List Entry) → WrittenTo d s r₀ r i es → WrittenTo d s r₀ (put_mid (sheet_line_bytes * i) sheet_line_bytes r ys) (i + 1) es
     unfolding print_by
     line_more es T =
@@ -95,8 +89,8 @@ module _ {d : Scale} {s r₀ r : List ℕ} {i : ℕ} (W : Writing d s r₀ r i) 
         lines.by_line (i + 1) T.seen _ (λ o. o ≡ complete es → WrittenTo d s r₀ (put_mid (sheet_line_bytes * i) sheet_line_bytes r ys) (i + 1) es)
         (convertible d (line_after T.seen (parse_in d (line_at s i)))) (λ n p q. never (cc))
         (λ e p q.
-        let a = lines.next_line (reads d) T.seen (line_at s i) line_long e p in
-        let y : ys ≡ other_line d e = w ∙ ap (λ (l : Result Entry Rule). other_over d l old) (ap (parse_in d) (lent_is s i) ∙ a.parsed) in
+        let a = lines.next_line (reads d) T.seen (line_at s i) (length_line s i h) e p in
+        let y : ys ≡ other_line d e = w ∙ ap (λ (l : Result Entry Rule). other_over d l old) a.parsed in
         let k : sheet_line_bytes * i + sheet_line_bytes ≡ sheet_line_bytes * (i + 1) = omega arith in
         let p = part T.wrote sheet_line_bytes ys (omega arith) (ap length y ∙ length_in_lem (other d) (rescaled d e)) in
         record { seen = e ∷ T.seen; rest = q; wrote = rw k at (subst Put y p) })
@@ -107,10 +101,13 @@ module _ {d : Scale} {s r₀ r : List ℕ} {i : ℕ} (W : Writing d s r₀ r i) 
         → Writing d s r₀ (put_mid (sheet_line_bytes * i) (sheet_line_bytes * i + sheet_line_bytes - sheet_line_bytes * i) r ys) (i + 1)
     write_again n =
         let k : sheet_line_bytes * i + sheet_line_bytes - sheet_line_bytes * i ≡ sheet_line_bytes = omega arith in
+        let rest = drop (sheet_line_bytes * i) r in
+        let e : length (take sheet_line_bytes rest) ≡ sheet_line_bytes =
+        length-take-le sheet_line_bytes rest (rw (length-drop, W.long) (omega arith)) in
         rw k
         (record {
           some = omega arith;
-          long = same_len_mid (sheet_line_bytes * i) sheet_line_bytes r ys (n ∙ sym (length-take-le sheet_line_bytes (drop (sheet_line_bytes * i) r) (rw (length-drop, W.long) (omega arith)))) ∙ W.long;
+          long = same_len_mid (sheet_line_bytes * i) sheet_line_bytes r ys (n ∙ sym e) ∙ W.long;
           lines = λ es q. line_more es (W.lines es q);
         })
 

@@ -24,5 +24,6 @@ pub inverse : (d : Scale) → Inverse (parse_in d) (print_in d)
 inverse d = record { long = length_in_lem d; printed = line_printed d; parsed = line_parsed d }
 
 -- the numbers that a line is refused by
-pub judged : (d : Scale) (seen : List Entry) (s : List ℕ) (r : Rule) → convertible d (line_after seen (parse_in d s)) ≡ Err r → Judging (rule_number r)
+pub judged : (d : Scale) (seen : List Entry) (s : List ℕ) (r : Rule)
+    → convertible d (line_after seen (parse_in d s)) ≡ Err r → Judging (rule_number r)
 judged d seen s = test_judging d (line_after seen (parse_in d s)) (refused_admitted _ _ (parse_in d s) (line_refused d s))

@@ -1,4 +1,5 @@
--- What the steps of converting (document 02, #110) hand on to one another: the lines as they are written, the call after the sheet's length. Assumes nothing.
+-- What the steps of converting (document 02, #110) hand on to one another: the lines as they are written, the call after the sheet's length.
+-- Assumes nothing.
 use Rattle.std.specs.Prelude.{◌≡◌, List, ◌++◌, ℕ, length, drop}
 use Rattle.sheet_line.specs.declared.Entry.{Entry}
 use Rattle.scaled_line.specs.Other.{other_line}

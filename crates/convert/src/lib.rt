@@ -6,11 +6,12 @@
 
 ghost use Rattle.std.specs.Prelude.{◌≡◌, [], ◌%◌, ◌≤◌, length};
 ghost use Rattle.layout.specs.Columns.{sheet_line_bytes};
-ghost use Rattle.order.specs.Entries.{mark_of};
-ghost use Rattle.order.specs.Places.{table};
+ghost use Rattle.order.specs.Marks.{marks_of};
 ghost use Rattle.order.specs.Reading.{outcome_of};
 ghost use Rattle.printing.specs.Lent.{stated, Done};
 ghost use Rattle.printing.specs.Printing.{printout, Printed};
+ghost use Rattle.scaled_line.specs.Scale.{parse_in};
+ghost use Rattle.scaled_line.specs.Other.{other_over};
 ghost use Rattle.convert.specs.Call.{conversion, reading_in, convert_call, ConvertsBack};
 ghost use Rattle.convert.specs.Steps.{LinesWritten, lines_call};
 
@@ -31,6 +32,7 @@ pub fn convert_call(sheet: &[u8], room: &mut [u8]) -> Result<usize, Refusal>
 
 // What tsav-convert prints of a sheet of any bytes, from the room's start on: the converted sheet, or the line of the refusal. It gives how many
 // bytes that is. There is room for every sheet, so that 14 never comes.
+// Kept: two lines in each of four calls, as `printing::print_answer` says.
 pub fn print_converted(sheet: &[u8], room: &mut [u8; LONGEST_SHEET]) -> usize
     ensures { Printed (printout (conversion sheet.now)) result room.old room.new }
 {
@@ -43,7 +45,7 @@ fn convert_lines(scale: Scale, sheet: &[u8], room: &mut [u8]) -> Result<usize, R
     requires { length sheet.now % sheet_line_bytes ≡ 0 }
     ensures { ◌≡◌ {A = Done} (record { outcome = stated result; room = room.new }) (lines_call scale sheet.now room.old) }
 {
-    let mut marks = [0u8; PLACES];
+    let mut marks = [false; PLACES];
     test_lines(scale, sheet, &mut marks)?;
     if room.len() < sheet.len() {
         return Err(Refusal(Rule::RoomTooShort, Place::Nowhere));
@@ -53,23 +55,23 @@ fn convert_lines(scale: Scale, sheet: &[u8], room: &mut [u8]) -> Result<usize, R
 }
 
 // Tests the lines of a sheet one after the other, up to the first bad one. There is no text yet: all good, it gives how many lines there are.
-fn test_lines(scale: Scale, sheet: &[u8], marks: &mut [u8; PLACES]) -> Result<usize, Refusal>
-    requires { marks.old ≡ table mark_of [] }
+// Kept: beside `sheet_reader::read_lines`, which enters amounts; here are marks alone. One over the step would be a closure that both are lent to.
+fn test_lines(scale: Scale, sheet: &[u8], marks: &mut [bool; PLACES]) -> Result<usize, Refusal>
+    requires { marks.old ≡ marks_of [] }
     ensures { stated result ≡ outcome_of (reading_in scale sheet.now) }
 {
-    let n = sheet.len() / SHEET_LINE_BYTES;
+    let (lines, _) = sheet.as_chunks::<SHEET_LINE_BYTES>();
     let mut last = 0u64;
-    for i in 0..n {
-        let from = SHEET_LINE_BYTES * i;
-        let read = scaled_line::read_in(scale, &sheet[from..from + SHEET_LINE_BYTES]);
+    for (i, bytes) in lines.iter().enumerate() {
+        let read = scale.read(bytes);
         let admitted = order::admit(read, last, marks);
-        let line = scaled_line::amounts::convertible(scale, admitted);
+        let line = scale.convertible(admitted);
         match line {
             Ok(e) => last = order::key_of(e),
             Err(rule) => return Err(Refusal(rule, Place::Line(i + 1))),
         }
     }
-    Ok(n)
+    Ok(lines.len())
 }
 
 // Writes the lines of a sheet, all of them good, as the other sort has them, each into its own stretch of the room.
@@ -77,12 +79,22 @@ fn write_lines(scale: Scale, sheet: &[u8], room: &mut [u8])
     requires { (length sheet.now % sheet_line_bytes ≡ 0) × (length sheet.now ≤ length room.old) }
     ensures { LinesWritten scale sheet.now room.old room.new }
 {
-    for i in 0..sheet.len() / SHEET_LINE_BYTES {
+    let (lines, _) = sheet.as_chunks::<SHEET_LINE_BYTES>();
+    for (i, bytes) in lines.iter().enumerate() {
         let from = SHEET_LINE_BYTES * i;
-        scaled_line::write_other(
-            scale,
-            &sheet[from..from + SHEET_LINE_BYTES],
-            &mut room[from..from + SHEET_LINE_BYTES],
-        );
+        write_line(scale, bytes, &mut room[from..from + SHEET_LINE_BYTES]);
     }
+}
+
+// Writes a line into its own stretch of the room.
+//
+// Kept: the stretch comes as a slice. What an array ends as is told of the slice that it was made of, and not of the room around it.
+fn write_line(scale: Scale, line: &[u8; SHEET_LINE_BYTES], stretch: &mut [u8])
+    requires { length stretch.old ≡ sheet_line_bytes }
+    ensures { stretch.new ≡ other_over scale (parse_in scale line.now) stretch.old }
+{
+    let Some(out) = stretch.as_mut_array() else {
+        unreachable!()
+    };
+    scale.write_other(line, out);
 }

@@ -1,5 +1,5 @@
 -- The running sum over the pairs of risks, one product more. Assumes nothing.
-use mathlib.Core.Path.{◌≡◌, ap, subst, ◌∙◌}
+use mathlib.Core.Path.{◌≡◌, ap, ◌∙◌}
 use mathlib.Core.List.{List}
 use Prim.Native.Nat.{ℕ, suc, ◌+◌, ◌*◌, ◌/◌, ◌%◌, ◌≤◌, ◌<◌}
 use native.Mathlib.Omega.{arith}
@@ -13,8 +13,7 @@ use Rattle.amount.specs.Amount.{limit}
 use Rattle.guideline.specs.Sizes.{risks}
 use Rattle.guideline.specs.Factors.{factor, so_far}
 use Rattle.guideline.proofs.Table.{factor_small, small_fits}
-use Rattle.running_sum.specs.declared.Sum.{Sum}
-use Rattle.correlation.specs.Products.{SmallYs, SoFar, Row}
+use Rattle.correlation.specs.Products.{SmallYs, Row}
 
 -- as the code counts rows and columns
 pub so_far_next : (ys : List ℕ) (i j : ℕ) → j < risks
@@ -28,12 +27,6 @@ so_far_next ys i j h =
 
 pub y_small : (ys : List ℕ) → SmallYs ys → (i : ℕ) → get_or ys i 0 ≤ 2 * limit
 y_small ys h i = each_at (λ y. y ≤ 2 * limit) 0 (omega arith) ys h i
-
--- before a row's first product
-pub row_start : {ys : List ℕ} {k : ℕ} {s : Sum} → SoFar ys k s → SoFar ys (k + 0) s
-row_start {ys} {k} {s} w =
-    let e : k ≡ k + 0 = omega arith in
-    subst (λ (n : ℕ). SoFar ys n s) e w
 
 -- a signed number as the machine reads it back from its bits
 abbrev read_back : ℤ → ℤ

@@ -1,7 +1,7 @@
 -- The credits of blocks 1 to 16 found one after the other, off the places of the blocks' MOR lines; and the test for one above its block's
 -- LT(1). Assumes nothing.
 use mathlib.Core.Path.{◌≡◌, sym, ap, ◌∙◌}
-use mathlib.Core.Bool.{false}
+use mathlib.Core.Bool.{Bool, false}
 use mathlib.Core.List.{List}
 use Prim.Native.Nat.{ℕ, zero, suc, ◌+◌, ◌-◌, ◌≤◌, ◌<◌}
 use native.Mathlib.Decide.{ℕ_discrete}
@@ -27,7 +27,6 @@ use Rattle.ledger.proofs.Bounds.{first_most, second_most, none_outside, risk_at}
 use Rattle.credits.specs.Credits.{credit_of}
 use Rattle.credits.specs.Credits.{credit_above}
 use Rattle.ledger.specs.Tables.{Held}
-use Rattle.credits.specs.Credits.{Credits}
 use Rattle.ledger.proofs.Tables.{amount_is}
 
 -- the first i of them
@@ -49,7 +48,7 @@ dividend_low (suc b) h v = v.low
 pub adjustable_key : (c : ℕ) → 1 ≤ c → c ≤ adjustable_products → Key Crd 0 c
 adjustable_key c h l = record { low = omega arith; high = omega arith; one = h; most = l }
 
-module _ {es : List Entry} {f s m : List ℕ} (H : Held es f s m) {i : ℕ} (h : i < non_participating) where
+module _ {es : List Entry} {f s : List ℕ} {m : List Bool} (H : Held es f s m) {i : ℕ} (h : i < non_participating) where
   -- S and T are amounts
   pub sums_most : (tabled f Mor (i + 1) 1 ≤ limit) × (tabled s Mor (i + 1) 1 ≤ limit)
   sums_most =
@@ -80,7 +79,7 @@ module _ {es : List Entry} {f s m : List ℕ} (H : Held es f s m) {i : ℕ} (h :
       rw (t, q)
 
 -- the credits of adjustable products, one more
-pub next_adjustable : {es : List Entry} {f s m : List ℕ} (H : Held es f s m) {i sum a : ℕ} → i < adjustable_products → sum ≡ sum_to (adjustable_credit es) i
+pub next_adjustable : {es : List Entry} {f s : List ℕ} {m : List Bool} (H : Held es f s m) {i sum a : ℕ} → i < adjustable_products → sum ≡ sum_to (adjustable_credit es) i
     → a ≡ tabled f Crd 0 (i + 1) → sum + a ≡ sum_to (adjustable_credit es) (i + 1)
 next_adjustable {es} H {i} h p q =
     let e : i + 1 - 1 ≡ i = omega arith in
@@ -99,7 +98,3 @@ pub no_dividend : (es : List Entry) → Each AcceptedLine es → (b : ℕ) → b
 no_dividend es all b h l =
     let z = none_outside es all Crd b 1 (λ v. omega (arith, dividend_low b l v)) in
     (z.0, ap (λ (m : ℕ). ltb 0 m) z.2)
-
--- the credit of a block, off the list of them
-pub credit_at : (es : List Entry) (credits : List ℕ) → Credits es credits → (b : ℕ) → 1 ≤ b → b ≤ non_participating → get_or credits (b - 1) 0 ≡ credit_of es b
-credit_at es credits w b l h = let e : b - 1 + 1 ≡ b = omega arith in w (b - 1) (omega arith) ∙ rw e

@@ -1,13 +1,10 @@
 -- The credits of a sheet's blocks off its lines, section 11.1.1, and a block's numbers after its credit; what rule 16 tests, and what it leaves.
 -- Assumes nothing.
-use Rattle.std.specs.Prelude.{◌≡◌, Bool, true, List, ℕ, ◌+◌, ◌≤◌, ◌<◌, ltb, get_or}
+use Rattle.std.specs.Prelude.{◌≡◌, Bool, List, ℕ, ◌+◌, ◌≤◌, ◌<◌, ltb, get_or}
 use Rattle.guideline.specs.Sizes.{non_participating}
 use Rattle.guideline.specs.Block.{lt}
 use Rattle.mortality.specs.Credit.{credit, lowered}
-use Rattle.codes.specs.Codes.{scalar_class}
-use Rattle.codes.specs.declared.Code.TheVariants.{Gen}
 use Rattle.sheet_line.specs.declared.Entry.{Entry}
-use Rattle.order.specs.Entries.{has_line}
 use Rattle.ledger.specs.Numbers.{block_of, survival_sum, death_sum}
 
 -- the reported credit of a block, section 11.1.1; a block without a MOR line has S and T zero, and no credit
@@ -29,9 +26,3 @@ Credits es credits = (i : ℕ) → i < non_participating → get_or credits i 0 
 -- what rule 16 leaves: no credit is above its block's LT(1)
 abbrev pub Covered : List Entry → Type 0
 Covered es = (b : ℕ) → credit_of es b ≤ lt (block_of es b) 1
-
--- what rules 12 and 16 leave, with the reported credits
-pub record Credited (es : List Entry) (credits : List ℕ) : Type 0 where
-  pub scalar : has_line es Gen 0 scalar_class ≡ true
-  pub each : Credits es credits
-  pub covered : Covered es

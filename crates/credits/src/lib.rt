@@ -1,18 +1,39 @@
 // The credits of a sheet off the ledger that holds its lines, and a block's numbers after its credit.
 #![tactic(auto)]
 
-ghost use Rattle.std.specs.Prelude.{◌≡◌, ◌≤◌};
+ghost use Rattle.std.specs.Prelude.{◌≡◌, ◌≤◌, IfSome, is_none};
 ghost use Rattle.search.specs.First.{any_to};
 ghost use Rattle.search.specs.Total.{sum_to};
 ghost use Rattle.guideline.specs.Sizes.{non_participating, blocks, adjustable_products};
 ghost use Rattle.order.specs.Entries.{has_line};
 ghost use Rattle.ledger.specs.Numbers.{dividend_credit, adjustable_credit};
 ghost use Rattle.ledger.specs.Lines.{OfLines};
-ghost use Rattle.credits.specs.Credits.{credit_of, after_credit, credit_above, Credits, Credited};
+ghost use Rattle.credits.specs.Credits.{credit_of, after_credit, credit_above, Credits, Covered};
 
 use codes::Code;
-use guideline::{ADJUSTABLE_PRODUCTS, BLOCK_NUMBERS, NON_PARTICIPATING};
+use guideline::{ADJUSTABLE_PRODUCTS, Block, NON_PARTICIPATING};
 use ledger::Ledger;
+
+// A ledger with the reported credits of blocks 1 to 16, none of them above its block's LT(1): so rule 16 lets them pass.
+#[derive(Clone, Copy)]
+pub struct CreditedLedger<'a> {
+    pub ledger: &'a Ledger,
+    credits: [u64; NON_PARTICIPATING],
+    pub ghost reported: { OfLines ledger.now (λ es. Credits es credits) },
+    pub ghost covered: { OfLines ledger.now Covered },
+}
+
+// A ledger with its credits, or nothing where rule 16 turns its lines away.
+pub fn credited(ledger: &Ledger) -> Option<CreditedLedger<'_>>
+    ensures rule_16 { OfLines ledger.now (λ es. is_none result ≡ any_to (credit_above es) non_participating) }
+    ensures ledger { IfSome result (λ c. c.ledger.now ≡ ledger.now) }
+{
+    let credits = credits_of(ledger);
+    if any_credit_above(ledger, &credits) {
+        return None;
+    }
+    Some(CreditedLedger { ledger, credits })
+}
 
 // The credits of blocks 1 to 16. One can pass the largest amount, and its block's LT(1).
 pub fn credits_of(ledger: &Ledger) -> [u64; NON_PARTICIPATING]
@@ -34,33 +55,30 @@ pub fn any_credit_above(ledger: &Ledger, credits: &[u64; NON_PARTICIPATING]) -> 
     (0..NON_PARTICIPATING).any(|i| ledger.amounts(Code::Rsk, i + 1, 1).second < credits[i])
 }
 
-// The numbers of a block after its credit.
-pub fn numbers_after_credit(
-    ledger: &Ledger,
-    credits: &[u64; NON_PARTICIPATING],
-    block: usize,
-) -> [u64; BLOCK_NUMBERS]
-    requires block_number { (1 ≤ block) × (block ≤ blocks) }
-    requires credited { OfLines ledger.now (λ es. Credited es credits.now) }
-    ensures { OfLines ledger.now (λ es. result ≡ after_credit es block) }
-{
-    let entered = ledger.block_numbers(block);
-    mortality::lowered(entered, credit_of(ledger, credits, block))
-}
-
-// The mortality credit of a block: participating ones have none.
-fn credit_of(ledger: &Ledger, credits: &[u64; NON_PARTICIPATING], block: usize) -> u64
-    requires block_number { 1 ≤ block }
-    requires credited { OfLines ledger.now (λ es. Credited es credits.now) }
-    ensures { OfLines ledger.now (λ es. result ≡ credit_of es block) }
-{
-    if NON_PARTICIPATING < block {
-        return 0;
+impl<'a> CreditedLedger<'a> {
+    // The numbers of a block after its credit, which rules 7, 8 and 9 let pass.
+    pub fn numbers_after_credit(&self, block: usize) -> Block
+        requires { (1 ≤ block) × (block ≤ blocks) }
+        ensures { OfLines self.now.ledger.now (λ es. result.numbers ≡ after_credit es block) }
+    {
+        let entered = self.ledger.block_numbers(block);
+        Block::new(mortality::lowered(entered, self.credit_of(block)))
     }
-    credits[block - 1]
+
+    // The mortality credit of a block: participating ones have none.
+    fn credit_of(&self, block: usize) -> u64
+        requires { 1 ≤ block }
+        ensures { OfLines self.now.ledger.now (λ es. result ≡ credit_of es block) }
+    {
+        if NON_PARTICIPATING < block {
+            return 0;
+        }
+        self.credits[block - 1]
+    }
 }
 
 // The dividend credit of a block: those without participation have none.
+// Kept: a block's range as a clause, here and in what it calls: a type would be opened at each use, where Key asks of a code, a block and a class.
 pub fn dividend_credit(ledger: &Ledger, block: usize) -> u64
     requires block_number { (1 ≤ block) × (block ≤ blocks) }
     ensures { OfLines ledger.now (λ es. result ≡ dividend_credit es block) }

@@ -15,6 +15,7 @@ pub struct Division<Q> {
 }
 
 // n over d, rounded up, where that fits a word.
+// Kept: a struct of a divisor within these bounds would be made for each call and taken apart in it, for three callers.
 pub fn divide_up(n: Wide, d: u64) -> u64
     requires { (0 < d) × (d < 2 ^ 63) × (value n ≤ d * (2 ^ 64 - 1)) }
     ensures { result ≡ least (λ q. leb (value n) (d * q)) }

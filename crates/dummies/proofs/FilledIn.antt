@@ -22,7 +22,8 @@ use Rattle.guideline.specs.Block.{AcceptedBlock, K, figures_of}
 use Rattle.guideline.specs.Buffer.{Sheet, count, buffer, CreditsWithin, AcceptedSheet}
 use Rattle.guideline.proofs.Figures.{figures_fit, figures_long}
 use Rattle.guideline.proofs.Totals.{totals_fit}
-use Rattle.report_line.specs.Line.{Row, equal_bytes, found_in, found_at, number_at}
+use Rattle.report_line.specs.declared.Row.{Row}
+use Rattle.report_line.specs.Line.{equal_bytes, found_in, found_at, number_at}
 use Rattle.report_line.proofs.ReadBack.{row_is, number_among, rows_read}
 use Rattle.sheet_line.specs.declared.Entry.{Entry}
 use Rattle.order.specs.Entries.{exists}

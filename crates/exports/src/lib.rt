@@ -1,6 +1,7 @@
 // The calls for C and Rust: a number is given back, and the rest is written into what the caller lends. An accepted call gives
 // 0 and leaves the lent place as it was; a refused one gives its number and leaves all but the place as it was. Beside them the version of
 // these calls, for a caller to compare before it lends anything.
+// Kept: numbers, and tables and rooms that the caller lends, since the C interface has them: include/tsav.h says what each is.
 #![tactic(auto)]
 
 ghost use Rattle.std.specs.Prelude.{◌≡◌, [], ◌∷◌, ◌++◌};
@@ -11,7 +12,7 @@ ghost use Rattle.block.specs.Accepted.{BlockDemand3, FewSteps};
 ghost use Rattle.operational.specs.Call.{operational_call};
 ghost use Rattle.fluctuation.specs.Call.{fluctuation_call};
 ghost use Rattle.fluctuation.specs.Accepted.{FluctuationDemand};
-ghost use Rattle.shares.specs.Call.{share_list, shares_call};
+ghost use Rattle.shares.specs.Call.{shares_call};
 ghost use Rattle.shares.specs.Accepted.{SharesDemand};
 ghost use Rattle.aggregate.specs.Call.{sheet_call};
 ghost use Rattle.aggregate.specs.Demand.{Demand3};
@@ -22,7 +23,6 @@ ghost use Rattle.exports.specs.Version.{interface_version};
 
 use figures::Worked;
 use guideline::{BLOCK_FIGURES, BLOCK_NUMBERS, GENERAL_FIGURES, PARTS};
-use shares::Shares;
 
 // What the block call gives: the figures, and the steps of its two roots.
 const BLOCK_VALUES: usize = BLOCK_FIGURES + 2;
@@ -113,20 +113,11 @@ pub extern "C" fn tsav_shares(
     ensures leaves { Leaves (shares_call numbers.now) result shares.old place.old shares.new place.new }
     ensures at_0 { result ≡ 0 → SharesDemand numbers.now (accepted shares.new) }
 {
-    let values = shares::shares_call(numbers).map(
-        |s: Shares|
-            ensures { result ≡ share_list s }
-        {
-            [
-                s.risk1, s.risk2, s.risk3, s.risk4, s.risk5, s.risk6, s.risk7, s.pc, s.credit,
-                s.market,
-            ]
-        },
-    );
-    answers::leave(values, shares, place)
+    answers::leave(shares::shares_call(numbers), shares, place)
 }
 
 // Accepted, `written` holds how many bytes of the lent report are the report, from its start. Where 0 is given, the report meets demand 3.
+// Kept: this call and the two below have one shape and the same parameters, since the C interface has them: include/tsav.h names each.
 #[unsafe(no_mangle)]
 pub extern "C" fn tsav_sheet(
     sheet: &[u8],
@@ -142,6 +133,7 @@ pub extern "C" fn tsav_sheet(
 }
 
 // Accepted, `written` holds how many bytes of the lent room are the converted sheet, from its start. Where 0 is given, it converts back.
+// Kept: of one shape with tsav_sheet, as the C interface has it.
 #[unsafe(no_mangle)]
 pub extern "C" fn tsav_convert(
     sheet: &[u8],
@@ -158,6 +150,7 @@ pub extern "C" fn tsav_convert(
 
 // Accepted, `written` holds how many bytes of the lent room are the listing, from its start. Where 0 is given, a line of the sheet is listed exactly
 // when its need is unmet.
+// Kept: of one shape with tsav_sheet, as the C interface has it.
 #[unsafe(no_mangle)]
 pub extern "C" fn tsav_check(
     sheet: &[u8],

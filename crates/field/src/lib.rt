@@ -77,5 +77,6 @@ fn digit_or_space(v: u64) -> u8
 fn digit(v: u64) -> u8
     ensures { result ≡ 48 + v % 10 }
 {
+    // Kept: a byte has no From of a word, and a TryFrom would have a failure that never comes.
     (48 + v % 10) as u8
 }

@@ -8,7 +8,7 @@ use lib.Dec.{leb}
 use Rattle.search.specs.Least.{least}
 use Rattle.search.proofs.LeastOf.{ceil_eq}
 use Rattle.guideline.specs.Sizes.{fineness, most_steps}
-use Rattle.guideline.specs.Block.{AcceptedBlock, credit, market, A, fine_i, a, radicand, fine_d, reported, I, D}
+use Rattle.guideline.specs.Block.{AcceptedBlock, A, fine_i, a, radicand, fine_d, reported, I, D}
 use Rattle.guideline.proofs.Bounds.{radicand_most}
 use Rattle.guideline.proofs.Figures.{v_fits, fine_i_high, fine_d_high}
 use Rattle.root.specs.Steps.{steps}
@@ -19,24 +19,21 @@ use Rattle.figures.specs.RootSteps.{radicand_d}
 pub joint_small : (a i : ℕ) → a + i ≤ largest_v → radicand a i ≤ largest_radicand
 joint_small a i h = radicand_most a i largest_v h
 
--- a as the code makes it
-abbrev made : List ℕ → ℕ
-made b = fineness * (2 * (credit b + market b))
+-- with A as the code has it
+pub joint_radicand : (b : List ℕ) (x i : ℕ) → x ≡ A b → i ≡ fine_i b → radicand (fineness * (2 * x)) i ≡ radicand_d b
+unfolding radicand_d a
+joint_radicand b x i e f = λ j. radicand (fineness * (2 * e j)) (f j)
 
-pub joint_radicand : (b : List ℕ) (i : ℕ) → i ≡ fine_i b → radicand (made b) i ≡ radicand_d b
-unfolding radicand_d a A
-joint_radicand b i e = ap (radicand (made b)) e
-
-pub joint_found : (b : List ℕ) (i d : ℕ) → i ≡ fine_i b → d ≡ least (λ r. leb (radicand (made b) i) (r * r)) → d ≡ fine_d b
-unfolding fine_d a A
-joint_found b i d e f = f ∙ (λ j. least (λ r. leb (radicand (made b) (e j)) (r * r)))
+pub joint_found : (b : List ℕ) (x i d : ℕ) → x ≡ A b → i ≡ fine_i b → d ≡ least (λ r. leb (radicand (fineness * (2 * x)) i) (r * r)) → d ≡ fine_d b
+unfolding fine_d a
+joint_found b x i d e f g = g ∙ (λ j. least (λ r. leb (radicand (fineness * (2 * e j)) (f j)) (r * r)))
 
 module _ (b : List ℕ) (h : AcceptedBlock b) where
   joint_most : fineness * a b + fine_i b ≤ largest_v
   joint_most = omega (arith, v_fits b h, fine_i_high b h)
 
-  pub joint_fits : made b + fine_i b ≤ largest_v
-  unfolding a A
+  pub joint_fits : fineness * (2 * A b) + fine_i b ≤ largest_v
+  unfolding a
   joint_fits = joint_most
 
   -- 'These roots take at most 58 steps'

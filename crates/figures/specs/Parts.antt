@@ -4,11 +4,16 @@ use Rattle.amount.specs.Amount.{limit}
 use Rattle.guideline.specs.Sizes.{fineness}
 use Rattle.guideline.specs.Block.{I, D, U, LT, K, figures_of}
 use Rattle.figures.specs.declared.Figures.{Figures}
+use Rattle.figures.specs.declared.NumberedFigures.{NumberedFigures}
 use Rattle.figures.specs.declared.Steps.{Steps}
 
 -- the figures of the struct in document 01's order: I, D, U, LT, K
 abbrev pub figure_list : Figures → List ℕ
 figure_list f = f.i ∷ f.d ∷ f.u ∷ f.lt ∷ f.k ∷ []
+
+-- a row of figures: a block's number, and its figures
+abbrev pub numbered_figures : NumberedFigures → ℕ × List ℕ
+numbered_figures r = (r.block, figure_list r.figures)
 
 -- the steps of the two roots, I's first
 abbrev pub step_list : Steps → List ℕ

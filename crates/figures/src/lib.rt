@@ -5,12 +5,12 @@ ghost use Rattle.std.specs.Prelude.{◌≡◌, ◌+◌, ◌-◌, ◌*◌, ◌^�
 ghost use Rattle.search.specs.Least.{least};
 ghost use Rattle.amount.specs.Amount.{limit};
 ghost use Rattle.guideline.specs.Sizes.{fineness};
-ghost use Rattle.guideline.specs.Block.{AcceptedBlock, U, LT, radicand, reported, requirement, figures_of};
+ghost use Rattle.guideline.specs.Block.{A, U, LT, radicand, reported, requirement, figures_of};
 ghost use Rattle.root.specs.Steps.{steps};
 ghost use Rattle.figures.specs.Parts.{figure_list, step_list, FigureBounds};
 ghost use Rattle.figures.specs.RootSteps.{steps_of};
 
-use guideline::{BLOCK_NUMBERS, FINENESS};
+use guideline::{Block, FINENESS};
 use root::Root;
 use wide::Wide;
 
@@ -18,13 +18,20 @@ use wide::Wide;
 const OVER_V: u64 = 60 * FINENESS * FINENESS;
 
 // The reported figures of a block: I and D in half cents, the others in cents.
-#[derive(Clone, Copy)]
+#[derive(Clone, Copy, Default)]
 pub struct Figures {
     pub i: u64,
     pub d: u64,
     pub u: u64,
     pub lt: u64,
     pub k: u64,
+}
+
+// A block's number, and its figures.
+#[derive(Clone, Copy, Default)]
+pub struct NumberedFigures {
+    pub block: u64,
+    pub figures: Figures,
 }
 
 // The steps of a block's two roots: that of I, and that of D.
@@ -41,24 +48,22 @@ pub struct Worked {
     pub steps: Steps,
 }
 
-// The figures of a block that rules 7, 8 and 9 let pass.
-pub fn figures_of(b: &[u64; BLOCK_NUMBERS]) -> Figures
-    requires { AcceptedBlock b.now }
-    ensures { figure_list result ≡ figures_of b.now }
+// The figures of a block.
+pub fn figures_of(b: &Block) -> Figures
+    ensures { figure_list result ≡ figures_of b.now.numbers }
 {
     worked_out(b).figures
 }
 
 // The same with the steps, in the order of sections 11.2.1 to 11.2.4.
-pub fn worked_out(b: &[u64; BLOCK_NUMBERS]) -> Worked
-    requires { AcceptedBlock b.now }
-    ensures { (figure_list result.figures ≡ figures_of b.now) × (step_list result.steps ≡ steps_of b.now) }
+pub fn worked_out(b: &Block) -> Worked
+    ensures { (figure_list result.figures ≡ figures_of b.now.numbers) × (step_list result.steps ≡ steps_of b.now.numbers) }
 {
     // 11.2.1: I
     let insurance = insurance::insurance(b);
     let fine_i = insurance.root;
-    // 11.2.2: D, where 'A est la somme des exigences pour le risque de crédit .. et le risque du marché'
-    let joint = diversified(FINENESS * (2 * (b[15] + b[16])), fine_i);
+    // 11.2.2: D
+    let joint = diversified(FINENESS * (2 * credit_and_market(b)), fine_i);
     let fine_d = joint.root;
     // 11.2.3: U
     let u = undiversified(b);
@@ -98,24 +103,33 @@ fn diversified(a: u64, i: u64) -> Root
     root::root_and_steps(Wide::product(a, a + i) + Wide::product(i, i))
 }
 
+// 'A est la somme des exigences pour le risque de crédit .. et le risque du marché', in cents.
+#[tactic(auto, unfolding(guideline::specs::Block::A))]
+fn credit_and_market(b: &Block) -> u64
+    ensures { (result ≡ A b.now.numbers) × (result ≤ 2 * limit) }
+{
+    b.credit() + b.market()
+}
+
 // ---- 11.2.3 Exigence pour risque non diversifié (U): U = Σ i=1..7 IR_i + PC + A.
 
-// U, in cents; A is credit plus market.
-fn undiversified(b: &[u64; BLOCK_NUMBERS]) -> u64
-    requires { AcceptedBlock b.now }
-    ensures { result ≡ U b.now }
+// U, in cents.
+#[tactic(auto, unfolding(guideline::specs::Block::U))]
+fn undiversified(b: &Block) -> u64
+    ensures { result ≡ U b.now.numbers }
 {
-    b[0] + b[2] + b[4] + b[6] + b[8] + b[10] + b[12] + b[14] + (b[15] + b[16])
+    let risks = b.ir(1) + b.ir(2) + b.ir(3) + b.ir(4) + b.ir(5) + b.ir(6) + b.ir(7);
+    risks + b.pc() + credit_and_market(b)
 }
 
 // ---- 11.2.4 Exigence diversifiée ajustée (K), by document 01's formula: the print of K lost its fractions.
 
 // LT without a number, LT = Σ i=1..7 LT_i, in cents.
-fn level_and_trend(b: &[u64; BLOCK_NUMBERS]) -> u64
-    requires { AcceptedBlock b.now }
-    ensures { result ≡ LT b.now }
+#[tactic(auto, unfolding(guideline::specs::Block::LT))]
+fn level_and_trend(b: &Block) -> u64
+    ensures { result ≡ LT b.now.numbers }
 {
-    b[1] + b[3] + b[5] + b[7] + b[9] + b[11] + b[13]
+    b.lt(1) + b.lt(2) + b.lt(3) + b.lt(4) + b.lt(5) + b.lt(6) + b.lt(7)
 }
 
 // K, in cents, with V = 2U − LT and d, the finer D; U, LT and V are taken in hundredths beside it. M is (3d − V) × (10d − 7V), the second factor

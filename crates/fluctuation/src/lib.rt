@@ -24,6 +24,7 @@ struct Falling(u64, u64, u64);
 
 // A requirement times its factor, of any row, requirement and face amount in cents. Where they are accepted, the result meets the accuracy
 // rule with one cent.
+// Kept: row, requirement and face amount as three parameters, which the C interface has; a struct of them would be filled here for two functions.
 pub fn fluctuation_call(row: u64, requirement: u64, face: u64) -> Result<u64, Refusal>
     ensures outcome { stated result ≡ fluctuation_call row requirement face }
     ensures accuracy { FluctuationDemand row requirement face (stated result) }

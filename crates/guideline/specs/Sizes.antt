@@ -38,14 +38,6 @@ parts = risks + other_amounts
 abbrev pub block_figures : ℕ
 block_figures = 5
 
--- a row of a table of figures: the block's number, and its figures
-abbrev pub row_numbers : ℕ
-row_numbers = 1 + block_figures
-
--- a row for each block
-abbrev pub table_numbers : ℕ
-table_numbers = row_numbers * blocks
-
 -- territories with volumes
 abbrev pub territories : ℕ
 territories = 16

@@ -1,9 +1,10 @@
-// The constants of chapters 8 and 11, each with the function that reads it.
+// The constants of chapters 8 and 11, each with the function that reads it; and a block that rules 7, 8 and 9 let pass.
 #![tactic(auto)]
 
-ghost use Rattle.std.specs.Prelude.{◌≡◌, ◌<◌, get_or};
-ghost use Rattle.guideline.specs.Sizes.{products, volume_classes};
+ghost use Rattle.std.specs.Prelude.{◌≡◌, ◌≤◌, ◌<◌, get_or};
+ghost use Rattle.guideline.specs.Sizes.{products, risks, volume_classes};
 ghost use Rattle.guideline.specs.Factors.{factor};
+ghost use Rattle.guideline.specs.Block.{AcceptedBlock, ir, lt, PC, credit, market};
 ghost use Rattle.guideline.specs.Operational.{volume_factors};
 
 // How many there are of each thing: specs/Sizes has the same names. Blocks without participation: 1 to this one. They alone have MOR lines.
@@ -32,12 +33,6 @@ pub const PARTS: usize = RISKS + OTHER_AMOUNTS;
 
 // The figures that are reported of a block: I, D, U, LT, K.
 pub const BLOCK_FIGURES: usize = 5;
-
-// A row of a table of figures: the block's number, and its figures.
-pub const ROW_NUMBERS: usize = 1 + BLOCK_FIGURES;
-
-// A row for each block.
-pub const TABLE_NUMBERS: usize = ROW_NUMBERS * BLOCKS;
 
 // Territories with volumes.
 pub const TERRITORIES: usize = 16;
@@ -107,4 +102,65 @@ pub fn volume_factor(class: usize) -> u64
     ensures { result ≡ get_or volume_factors class 0 }
 {
     cast::byte(VOLUME_FACTORS[class])
+}
+
+// A block that rules 7, 8 and 9 let pass, by its numbers: seven pairs IR, LT, then PC, credit, market.
+#[derive(Clone, Copy)]
+pub struct Block {
+    numbers: [u64; BLOCK_NUMBERS],
+    pub ghost accepted: { AcceptedBlock numbers },
+}
+
+impl Block {
+    // The block of numbers that the rules let pass.
+    pub fn new(numbers: [u64; BLOCK_NUMBERS]) -> Block
+        requires { AcceptedBlock numbers }
+        ensures { result.numbers ≡ numbers }
+    {
+        Block { numbers }
+    }
+
+    // A block's numbers.
+    pub fn numbers(&self) -> &[u64; BLOCK_NUMBERS]
+        ensures { result.now ≡ self.now.numbers }
+    {
+        &self.numbers
+    }
+
+    // The gross component IR(i) of a risk, from 1 to 7.
+    pub fn ir(&self, i: usize) -> u64
+        requires { (1 ≤ i) × (i ≤ risks) }
+        ensures { result ≡ ir self.now.numbers i }
+    {
+        self.numbers[2 * i - 2]
+    }
+
+    // The level and trend part LT(i) of a risk, from 1 to 7.
+    pub fn lt(&self, i: usize) -> u64
+        requires { (1 ≤ i) × (i ≤ risks) }
+        ensures { result ≡ lt self.now.numbers i }
+    {
+        self.numbers[2 * i - 1]
+    }
+
+    // Property and casualty.
+    pub fn pc(&self) -> u64
+        ensures { result ≡ PC self.now.numbers }
+    {
+        self.numbers[14]
+    }
+
+    // Credit.
+    pub fn credit(&self) -> u64
+        ensures { result ≡ credit self.now.numbers }
+    {
+        self.numbers[15]
+    }
+
+    // Market.
+    pub fn market(&self) -> u64
+        ensures { result ≡ market self.now.numbers }
+    {
+        self.numbers[16]
+    }
 }

@@ -8,20 +8,19 @@
 
 ghost use Rattle.std.specs.Prelude.{◌≡◌, ◌+◌, ◌*◌, ◌^◌, ◌<◌, max};
 ghost use Rattle.guideline.specs.Sizes.{fineness};
-ghost use Rattle.guideline.specs.Block.{AcceptedBlock, ys, largest_of, fine_i};
+ghost use Rattle.guideline.specs.Block.{ys, largest_of, fine_i};
 ghost use Rattle.root.specs.Steps.{steps};
 ghost use Rattle.insurance.specs.Radicand.{radicand_i};
 
-use guideline::{BLOCK_NUMBERS, FINENESS, RISKS};
+use guideline::{Block, FINENESS, RISKS};
 use root::Root;
 
 // 2,500: what 10,000 × Q is of the sum in quarters.
 const RADICAND_OF_SUM: u64 = FINENESS * FINENESS / 4;
 
 // I, in hundredths of the half cent, with the steps of its root: what the section does, one thing after the other.
-pub fn insurance(b: &[u64; BLOCK_NUMBERS]) -> Root
-    requires { AcceptedBlock b.now }
-    ensures { (result.root ≡ fine_i b.now) × (result.steps ≡ steps (radicand_i b.now)) }
+pub fn insurance(b: &Block) -> Root
+    ensures { (result.root ≡ fine_i b.now.numbers) × (result.steps ≡ steps (radicand_i b.now.numbers)) }
 {
     // 'IR_i − 0,5 × LT_i'
     let y = half_cents(b);
@@ -31,24 +30,24 @@ pub fn insurance(b: &[u64; BLOCK_NUMBERS]) -> Root
     let found = root::root_and_steps(sum * RADICAND_OF_SUM);
     // 'Cependant, I ne peut être inférieur à ..', and '+ PC'
     Root {
-        root: floor_then_pc(found.root, &y, b[14]),
+        root: floor_then_pc(found.root, &y, b.pc()),
         steps: found.steps,
     }
 }
 
 // The seven IR_i − 0,5 × LT_i, in half cents y(i) = 2 × IR(i) − LT(i): an odd LT keeps its half cent.
-fn half_cents(b: &[u64; BLOCK_NUMBERS]) -> [u64; RISKS]
-    requires { AcceptedBlock b.now }
-    ensures { result ≡ ys b.now }
+#[tactic(auto, unfolding(guideline::specs::Block::ys, guideline::specs::Block::y))]
+fn half_cents(b: &Block) -> [u64; RISKS]
+    ensures { result ≡ ys b.now.numbers }
 {
     [
-        2 * b[0] - b[1],
-        2 * b[2] - b[3],
-        2 * b[4] - b[5],
-        2 * b[6] - b[7],
-        2 * b[8] - b[9],
-        2 * b[10] - b[11],
-        2 * b[12] - b[13],
+        2 * b.ir(1) - b.lt(1),
+        2 * b.ir(2) - b.lt(2),
+        2 * b.ir(3) - b.lt(3),
+        2 * b.ir(4) - b.lt(4),
+        2 * b.ir(5) - b.lt(5),
+        2 * b.ir(6) - b.lt(6),
+        2 * b.ir(7) - b.lt(7),
     ]
 }
 

@@ -4,6 +4,7 @@ use mathlib.Core.Path.{◌≡◌, refl, sym, ◌∙◌, subst}
 use mathlib.Core.Bool.{true, false}
 use mathlib.Core.List.{List, [], ◌∷◌, ◌++◌, append-nil}
 use Prim.Native.Nat.{ℕ, zero, suc, ◌+◌, ◌*◌, ◌%◌, ◌≤◌}
+use native.Mathlib.Decide.{dec_le}
 use native.Mathlib.Omega.{arith}
 use lib.Dec.{eqb, ltb}
 use lib.ListN.{length}
@@ -66,6 +67,15 @@ module _ (es : List Entry) (all : Each AcceptedLine es) where
   pub scalar_ranged : has_line es Gen 0 scalar_class ≡ true → (1 ≤ (sheet_of es).g) × ((sheet_of es).g ≤ largest_scalar)
   unfolding sheet_of
   scalar_ranged h = scalar_within es all (ltb-true _ _ h)
+
+  -- also where there is no scalar's line
+  pub scalar_most : (sheet_of es).g ≤ largest_scalar
+  unfolding sheet_of
+  scalar_most =
+      elim (dec_le 1 (lookup mark_of es Gen 0 scalar_class)) [
+        | yes h ↦ (scalar_within es all h).1
+        | no h ↦ omega (arith, none_unmarked es all Gen 0 scalar_class (omega (arith, h)))
+      ]
 
 -- a dividend credit that isn't barred is at most its block's K, or there is none
 barred_none : (es : List Entry) → Each AcceptedLine es → (b : ℕ) → dividend_barred es b ≡ false

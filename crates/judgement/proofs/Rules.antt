@@ -104,14 +104,15 @@ module _ (es : List Entry) where
 -- ---- what a judgement has to tell
 
 -- figures that are those of these lines
-pub record Figured (es : List Entry) (n : ℕ) (rows : List ℕ) (sum ro x : ℕ) : Type 0 where
+pub record Figured (es : List Entry) (n : ℕ) (rows : List (ℕ × List ℕ)) (sum ro x : ℕ) : Type 0 where
   pub count_is : n ≡ count (sheet_of es)
   pub rows_are : rows ≡ rows_to es blocks
   pub sum_is : sum ≡ sum_k (sheet_of es).blocks
   pub ro_is : ro ≡ RO (sheet_of es).volumes (sheet_of es).general
   pub buffer_is : x ≡ buffer (sheet_of es)
 
-pub figured : (es : List Entry) {n : ℕ} {rows : List ℕ} {sum ro x : ℕ} → Figured es n rows sum ro x → figures n rows sum ro x ≡ findings (sound es)
+pub figured : (es : List Entry) {n : ℕ} {rows : List (ℕ × List ℕ)} {sum ro x : ℕ} → Figured es n rows sum ro x
+    → figures n rows sum ro x ≡ findings (sound es)
 unfolding findings
 figured es F = rw (F.count_is, F.rows_are, F.sum_is, F.ro_is, F.buffer_is)
 
@@ -121,7 +122,7 @@ unfolding findings
 findings_refusal (turned_away k q) e = cc
 findings_refusal (sound es) e = never (cc)
 
-pub findings_figures : (j : Judgement) {n : ℕ} {rows : List ℕ} {sum ro x : ℕ} → figures n rows sum ro x ≡ findings j
+pub findings_figures : (j : Judgement) {n : ℕ} {rows : List (ℕ × List ℕ)} {sum ro x : ℕ} → figures n rows sum ro x ≡ findings j
     → (es : List Entry) × (j ≡ sound es) × Figured es n rows sum ro x
 unfolding findings
 findings_figures (turned_away k q) e = never (cc)

@@ -2,10 +2,10 @@
 use Rattle.std.specs.Prelude.{Result}
 use mathlib.Core.Path.{◌≡◌, sym, ap, ◌∙◌}
 use mathlib.Core.List.{List}
-use Prim.Native.Nat.{ℕ}
 use Rattle.refusal.specs.declared.Refusal.{Refusal}
+use Rattle.figures.specs.declared.NumberedFigures.{NumberedFigures}
 use Rattle.judgement.specs.Judgement.{Findings, stated}
 use Rattle.judgement.specs.declared.Totals.{Totals}
 
-pub told : {v a : Result Totals Refusal} {x : Findings} (rows : List ℕ) → v ≡ a → stated v rows ≡ x → stated a rows ≡ x
+pub told : {v a : Result Totals Refusal} {x : Findings} (rows : List NumberedFigures) → v ≡ a → stated v rows ≡ x → stated a rows ≡ x
 told rows e q = sym (ap (λ (r : Result Totals Refusal). stated r rows) e) ∙ q

@@ -1,16 +1,18 @@
 -- A sheet judged by every rule but 14, after document 01, 'What is turned away': 'Order: 1, 2; then the first bad line, in it 3, 4, 5, 6, 8, 9,
 -- 10, 11; then 12, 13', and document 02's 3 of a whole line before 2, 19 in a line, 'tested after 11', 16, 'after 12 and before 13', and 17, 'after
 -- 16 and before 13'. Each rule ends in the next one. Assumes nothing.
-use Rattle.std.specs.Prelude.{Result, Ok, Err, List, ℕ, ◌*◌, ltb, take}
+use Rattle.std.specs.Prelude.{Result, Ok, Err, List, ℕ, ltb, map, take}
 use Rattle.search.specs.Pick.{pick}
 use Rattle.search.specs.First.{any_to}
 use Rattle.refusal.specs.Outcome.{rule_number}
 use Rattle.refusal.specs.declared.Refusal.{Refusal}
 use Rattle.refusal.specs.declared.Place.{Place}
 use Rattle.refusal.specs.declared.Place.TheVariants as place
-use Rattle.guideline.specs.Sizes.{non_participating, blocks, row_numbers}
+use Rattle.guideline.specs.Sizes.{non_participating, blocks}
 use Rattle.guideline.specs.Operational.{RO}
 use Rattle.guideline.specs.Buffer.{count, sum_k, free, available, buffer}
+use Rattle.figures.specs.Parts.{numbered_figures}
+use Rattle.figures.specs.declared.NumberedFigures.{NumberedFigures}
 use Rattle.sheet_length.specs.Measured.{measured, after_length}
 use Rattle.codes.specs.Codes.{scalar_class}
 use Rattle.codes.specs.declared.Code.TheVariants.{Gen}
@@ -61,7 +63,7 @@ judgement s = after_length (measured s) turned_away (rule_lines (reading s))
 -- a refusal; or how many blocks exist, the rows of their figures, the sum of K, RO and the buffer
 pub data Findings : Type 0 where
   refusal : ℕ → Place → Findings
-  figures : ℕ → List ℕ → ℕ → ℕ → ℕ → Findings
+  figures : ℕ → List (ℕ × List ℕ) → ℕ → ℕ → ℕ → Findings
 
 -- the refusal of a sheet that is turned away, the figures of a sound one
 unfoldable pub findings : Judgement → Findings
@@ -70,7 +72,7 @@ findings (sound es) =
     let s = sheet_of es in
     figures (count s) (rows_to es blocks) (sum_k s.blocks) (RO s.volumes s.general) (buffer s)
 
--- what the answer says in document 01's numbers, with the table of figures
-abbrev pub stated : Result Totals Refusal → List ℕ → Findings
+-- what the answer says in document 01's numbers, with the rows of figures that count
+abbrev pub stated : Result Totals Refusal → List NumberedFigures → Findings
 stated (Err r) rows = refusal (rule_number r.0) r.1
-stated (Ok t) rows = figures t.count (take (row_numbers * t.count) rows) t.sum t.ro t.buffer
+stated (Ok t) rows = figures t.count (map numbered_figures (take t.count rows)) t.sum t.ro t.buffer

@@ -1,6 +1,7 @@
 -- What judging leaves in the ledger and in the table of rows: the lines of a sound sheet, and the table of rows behind the rows. Assumes nothing.
-use Rattle.std.specs.Prelude.{◌≡◌, Result, Ok, Err, List, ℕ}
+use Rattle.std.specs.Prelude.{◌≡◌, Result, Ok, Err, List}
 use Rattle.refusal.specs.declared.Refusal.{Refusal}
+use Rattle.figures.specs.declared.NumberedFigures.{NumberedFigures}
 use Rattle.sheet_line.specs.declared.Entry.{Entry}
 use Rattle.ledger.specs.Lines.{Holds}
 use Rattle.ledger.specs.declared.Ledger.{Ledger}
@@ -14,6 +15,6 @@ abbrev pub LinesOf : Judgement → Ledger → Type 0
 LinesOf j l = (es : List Entry) → j ≡ sound es → Holds es l
 
 -- where a sheet is sound, the table behind the rows of its blocks, before and after, is the same
-abbrev pub BehindRows : Result Totals Refusal → List ℕ → List ℕ → Type 0
+abbrev pub BehindRows : Result Totals Refusal → List NumberedFigures → List NumberedFigures → Type 0
 BehindRows (Ok t) rows rows' = RestKept t.count rows rows'
 BehindRows (Err r) rows rows' = Unit {0}

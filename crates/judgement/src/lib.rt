@@ -7,13 +7,14 @@ ghost use Rattle.search.specs.Least.{least};
 ghost use Rattle.guideline.specs.Sizes.{ten_thousandths, largest_scalar};
 ghost use Rattle.guideline.specs.Operational.{RO};
 ghost use Rattle.ledger.specs.Lines.{Empty, OfLines};
-ghost use Rattle.credits.specs.Credits.{Credited};
 ghost use Rattle.judgement.specs.Judgement.{judgement, rule12, rule17, findings, stated};
 ghost use Rattle.judgement.specs.Sheet.{sheet_of};
 ghost use Rattle.judgement.specs.Steps.{LinesOf, BehindRows};
 
 use codes::{CEDED_CLASS, CREDITS_CLASS, GROSS_CLASS, GUARANTEE_CLASS, SCALAR_CLASS};
-use guideline::{NON_PARTICIPATING, TABLE_NUMBERS, TEN_THOUSANDTHS};
+use credits::CreditedLedger;
+use figures::NumberedFigures;
+use guideline::{BLOCKS, TEN_THOUSANDTHS};
 use ledger::Ledger;
 use refusal::{Place, Refusal, Rule};
 
@@ -32,7 +33,7 @@ pub struct Totals {
 pub fn judge(
     sheet: &[u8],
     ledger: &mut Ledger,
-    rows: &mut [u64; TABLE_NUMBERS],
+    rows: &mut [NumberedFigures; BLOCKS],
 ) -> Result<Totals, Refusal>
     requires { Empty ledger.old }
     ensures findings { stated result rows.new ≡ findings (judgement sheet.now) }
@@ -47,31 +48,29 @@ pub fn judge(
 }
 
 // Rules 12 and 16, of lines that are all good, and then rules 17 and 13.
-fn after_lines(ledger: &Ledger, rows: &mut [u64; TABLE_NUMBERS]) -> Result<Totals, Refusal>
+fn after_lines(ledger: &Ledger, rows: &mut [NumberedFigures; BLOCKS]) -> Result<Totals, Refusal>
     ensures findings { OfLines ledger.now (λ es. stated result rows.new ≡ findings (rule12 es)) }
     ensures behind_rows { BehindRows result rows.old rows.new }
 {
     if !ledger.has_scalar() {
         return Err(Refusal(Rule::ScalarMissing, Place::Nowhere));
     }
-    let credits = credits::credits_of(ledger);
-    if credits::any_credit_above(ledger, &credits) {
+    let Some(credited) = credits::credited(ledger) else {
         return Err(Refusal(Rule::CreditAboveTrend, Place::Nowhere));
-    }
-    rule_17(ledger, &credits, rows)
+    };
+    rule_17(&credited, rows)
 }
 
 // Rules 17 and 13, of lines that rule 16 lets pass too, and the totals.
 fn rule_17(
-    ledger: &Ledger,
-    credits: &[u64; NON_PARTICIPATING],
-    rows: &mut [u64; TABLE_NUMBERS],
+    credited: &CreditedLedger<'_>,
+    rows: &mut [NumberedFigures; BLOCKS],
 ) -> Result<Totals, Refusal>
-    requires credited { OfLines ledger.now (λ es. Credited es credits.now) }
-    ensures findings { OfLines ledger.now (λ es. stated result rows.new ≡ findings (rule17 es)) }
+    ensures findings { OfLines credited.now.ledger.now (λ es. stated result rows.new ≡ findings (rule17 es)) }
     ensures behind_rows { BehindRows result rows.old rows.new }
 {
-    let w = sheet_blocks::work_out(ledger, credits, rows);
+    let ledger = credited.ledger;
+    let w = sheet_blocks::work_out(credited, rows);
     let count = w.count;
     let sum = w.sum;
     if w.barred {
@@ -97,8 +96,7 @@ fn scaled(g: u64, bracket: u64) -> u64
     requires { (g ≤ largest_scalar) × (bracket ≤ most_available) }
     ensures { result ≡ least (λ x. leb (g * bracket) (ten_thousandths * x)) }
 {
-    g * (bracket / TEN_THOUSANDTHS)
-        + (g * (bracket % TEN_THOUSANDTHS) + (TEN_THOUSANDTHS - 1)) / TEN_THOUSANDTHS
+    g * (bracket / TEN_THOUSANDTHS) + (g * (bracket % TEN_THOUSANDTHS)).div_ceil(TEN_THOUSANDTHS)
 }
 
 // RO of the lines.

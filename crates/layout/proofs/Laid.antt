@@ -1,7 +1,7 @@
 -- A layout that is kept: its numbers stand in their columns, an amount is within the limit of 14 columns, and the line is what three letters and
 -- the numbers print as; what is printed keeps the layout. Assumes nothing.
 use Rattle.std.specs.Prelude.{Option, Some, None}
-use mathlib.Core.Path.{◌≡◌, refl, sym, ap, ◌∙◌}
+use mathlib.Core.Path.{◌≡◌, refl, ap, ◌∙◌}
 use mathlib.Core.List.{List, [], ◌∷◌, ◌++◌}
 use mathlib.Core.Bool.{true}
 use Prim.Native.Nat.{ℕ, ◌+◌, ◌^◌, ◌≤◌, ◌<◌}
@@ -44,12 +44,6 @@ module _ (w : List ℕ) (h : length w ≡ 3) (n : Numbers) where
       if_true _ c.0 ∙ rw (c.1, c.2, c.3, c.4, p, q, r, s)
 
 -- ---- what is read
-
--- where the separators are right, what the four fields give is the layout
-pub fields_laid : (s : List ℕ) → separated_of s ≡ true → {r : Option Numbers}
-    → r ≡ fields_of (field (columns 5 6 s)) (field (columns 8 9 s)) (field (columns 11 24 s)) (field (columns 26 39 s)) → r ≡ layout_of s
-unfolding layout_of
-fields_laid s t q = q ∙ sym (if_true _ t)
 
 record Read (b c f g : Option ℕ) (n : Numbers) : Type 0 where
   block : b ≡ Some n.block

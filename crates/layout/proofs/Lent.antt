@@ -1,25 +1,69 @@
--- A line of a sheet as a loop lends it, by where it begins and ends, is the line behind those before it; whether its layout is broken, as the code
--- tests it. Assumes nothing.
-use Rattle.std.specs.Prelude.{Option, Some, None, is_some}
-use mathlib.Core.Path.{◌≡◌, refl}
-use mathlib.Core.Bool.{Bool, true, false, not}
-use mathlib.Core.List.{List}
-use Prim.Native.Nat.{ℕ, ◌+◌, ◌-◌, ◌*◌}
+-- The whole lines of a sheet as the code lends them: the first chunks of 40 bytes, each the line behind those before it; and what a search over them
+-- for one whose layout is broken tells. Assumes nothing.
+use Rattle.std.specs.Prelude.{Option, Some, None, MatchOption}
+use Rattle.std.specs.List.{AllWithin, HoldsAt}
+use Rattle.std.specs.Simd.{first_chunks}
+use mathlib.Core.Path.{◌≡◌, refl, sym, ap, ◌∙◌}
+use mathlib.Core.Bool.{Bool, true, false}
+use mathlib.Core.List.{List, []}
+use Prim.Native.Nat.{ℕ, zero, suc, ◌+◌, ◌*◌, ◌/◌, ◌<◌, ◌≤◌}
 use native.Mathlib.Omega.{arith}
-use lib.ListN.{take, drop}
-use Rattle.search.proofs.Picks.{never}
-use Rattle.layout.specs.Columns.{sheet_line_bytes}
-use Rattle.layout.specs.Whole.{line_at, is_broken}
-use Rattle.layout.specs.declared.Numbers.{Numbers}
+use lib.ListN.{length, take, drop, length-drop}
+use lib.Seq.{drop-drop, length-take-le}
+use Rattle.std.proofs.Common.{slice_index_or}
+use Rattle.search.specs.First.{FoundAt}
+use Rattle.search.proofs.Firsts.{sought_found, sought_none}
+use Rattle.layout.specs.Columns.{sheet_line_bytes, layout_of}
+use Rattle.layout.specs.Whole.{whole_lines, line_at, is_broken, breaks_at, lines_kept}
 
-abbrev pub lent : List ℕ → ℕ → List ℕ
-lent s i = take (sheet_line_bytes * i + sheet_line_bytes - sheet_line_bytes * i) (drop (sheet_line_bytes * i) s)
+length_cut : (k : ℕ) (s : List ℕ) → length (first_chunks sheet_line_bytes k s) ≡ k
+length_cut zero s = refl
+length_cut (suc k) s = ap (λ (n : ℕ). suc n) (length_cut k (drop sheet_line_bytes s))
 
-pub lent_is : (s : List ℕ) (i : ℕ) → lent s i ≡ line_at s i
-lent_is s i = let e : sheet_line_bytes * i + sheet_line_bytes - sheet_line_bytes * i ≡ sheet_line_bytes = omega arith in rw e
+-- the line behind i others among the first k
+cut_at : (k : ℕ) (s : List ℕ) (i : ℕ) (d : List ℕ) → i < k → slice_index_or (first_chunks sheet_line_bytes k s) i d ≡ line_at s i
+cut_at zero s i d h = absurd (omega arith)
+cut_at (suc k) s zero d h = refl
+cut_at (suc k) s (suc i) d h =
+    let e : sheet_line_bytes + sheet_line_bytes * i ≡ sheet_line_bytes * suc i = omega arith in
+    cut_at k (drop sheet_line_bytes s) i d (omega arith)
+    ∙ ap (take sheet_line_bytes) (drop-drop (sheet_line_bytes * i) sheet_line_bytes s ∙ rw e refl)
 
-pub broken_told : (a : Option Numbers) (r : Bool) → is_some a ≡ not r → is_broken a ≡ r
-broken_told None true e = refl
-broken_told None false e = never (cc)
-broken_told (Some n) true e = never (cc)
-broken_told (Some n) false e = refl
+-- a whole line has its 40 bytes
+pub length_line : (s : List ℕ) (i : ℕ) → i < whole_lines s → length (line_at s i) ≡ sheet_line_bytes
+length_line s i h = length-take-le sheet_line_bytes (drop (sheet_line_bytes * i) s) (rw length-drop (omega arith))
+
+-- whether the layout of a line is broken
+abbrev pub breaks : List ℕ → Bool
+breaks l = is_broken (layout_of l)
+
+-- what the library cuts a sheet into
+module _ (s : List ℕ) {lines : List (List ℕ)} (e : lines ≡ first_chunks sheet_line_bytes (length s / sheet_line_bytes) s) where
+  pub count_lines : length lines ≡ whole_lines s
+  count_lines = ap length e ∙ length_cut (whole_lines s) s
+
+  pub within : {i : ℕ} → i < length lines → i < whole_lines s
+  within h = omega (arith, count_lines)
+
+  pub line_is : {i : ℕ} → i < length lines → (d : List ℕ) → slice_index_or lines i d ≡ line_at s i
+  line_is {i} h d = rw e (cut_at (whole_lines s) s i d (within h))
+
+  abbrev Kept-to : ℕ → Type 0
+  Kept-to = AllWithin (λ l. breaks l ≡ false) lines 0
+
+  kept_before : (i : ℕ) → i ≤ length lines → Kept-to i → (k : ℕ) → k < i → breaks_at s k ≡ false
+  kept_before i h a k l = rw (line_is {i = k} (omega arith) []) at (a k [] (omega arith) l)
+
+  -- what a search over the lines finds: none is broken, or the first that is
+  pub broken_found :
+      (r : Option ℕ) → MatchOption r (Kept-to (length lines)) (λ i. (i < length lines) × HoldsAt (λ l. breaks l ≡ true) lines i × Kept-to i)
+      → FoundAt (whole_lines s) (lines_kept s) r
+  unfolding lines_kept
+  broken_found None a =
+      let n = whole_lines s in
+      let before = rw count_lines at (kept_before (length lines) (omega arith) a) in
+      omega (arith, sought_none (breaks_at s) n n (omega arith) (record { within = omega arith; before = before }))
+  broken_found (Some i) (h, t, a) =
+      let t : breaks_at s i ≡ true = rw (line_is h []) at (t []) in
+      let before = kept_before i (omega arith) a in
+      (sym (sought_found (breaks_at s) (whole_lines s) i (within h) t (record { within = omega (arith, within h); before = before })), within h)

@@ -1,9 +1,10 @@
 // The layout of a sheet's line, columns 4 to 40: the four numbers, and what stands between them; and which whole lines of a sheet keep it.
 #![tactic(auto)]
 
-ghost use Rattle.std.specs.Prelude.{◌≡◌, length};
-ghost use Rattle.layout.specs.Columns.{sheet_line_bytes, separated_of, layout_of};
-ghost use Rattle.layout.specs.Whole.{lines_kept};
+ghost use Rattle.std.specs.Prelude.{◌≡◌};
+ghost use Rattle.search.specs.First.{FoundAt};
+ghost use Rattle.layout.specs.Columns.{separated_of, layout_of};
+ghost use Rattle.layout.specs.Whole.{whole_lines, lines_kept};
 
 // The bytes of a line, its line feed with them.
 pub const SHEET_LINE_BYTES: usize = 40;
@@ -18,8 +19,8 @@ pub struct Numbers {
 }
 
 // Reads the four numbers, where nothing breaks the layout.
-pub fn read_layout(s: &[u8]) -> Option<Numbers>
-    requires { length s.now ≡ sheet_line_bytes }
+#[tactic(auto, unfolding(crate::specs::Columns::layout_of, search::specs::Pick::pick))]
+pub fn read_layout(s: &[u8; SHEET_LINE_BYTES]) -> Option<Numbers>
     ensures { result ≡ layout_of s.now }
 {
     if !separated(s) {
@@ -39,24 +40,18 @@ pub fn read_layout(s: &[u8]) -> Option<Numbers>
 
 // The bytes between the fields: spaces, and a line feed last.
 #[tactic(auto, unfolding(crate::specs::Columns::spaced, search::specs::Pick::pick))]
-fn separated(s: &[u8]) -> bool
-    requires { length s.now ≡ sheet_line_bytes }
+fn separated(s: &[u8; SHEET_LINE_BYTES]) -> bool
     ensures { result ≡ separated_of s.now }
 {
     s[3] == b' ' && s[6] == b' ' && s[9] == b' ' && s[24] == b' ' && s[39] == b'\n'
 }
 
-// How many whole lines of a sheet stand before the first whose layout is broken; all of them where none is. What stands behind the last whole
-// line is not looked at.
-pub fn lines_kept(sheet: &[u8]) -> usize
-    ensures { result ≡ lines_kept sheet.now }
+// The first whole line of a sheet whose layout is broken, by how many stand before it; none where no layout is broken. What stands behind the last
+// whole line is not looked at.
+// Kept: two lines, as in movement_input; one function over the length and the reader would be these, with a clause of what the reader tells.
+pub fn first_broken(sheet: &[u8]) -> Option<usize>
+    ensures { FoundAt (whole_lines sheet.now) (lines_kept sheet.now) result }
 {
-    let n = sheet.len() / SHEET_LINE_BYTES;
-    for i in 0..n {
-        let from = SHEET_LINE_BYTES * i;
-        if read_layout(&sheet[from..from + SHEET_LINE_BYTES]).is_none() {
-            return i;
-        }
-    }
-    n
+    let (lines, _) = sheet.as_chunks::<SHEET_LINE_BYTES>();
+    lines.iter().position(|line| read_layout(line).is_none())
 }

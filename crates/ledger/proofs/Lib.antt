@@ -2,4 +2,3 @@
 pub mod Numbers
 pub mod Bounds
 pub mod Tables
-pub mod Ranges

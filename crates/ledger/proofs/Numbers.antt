@@ -2,10 +2,10 @@
 -- numbers of those entries. Assumes nothing.
 use mathlib.Core.Path.{◌≡◌, refl, ◌∙◌}
 use mathlib.Core.List.{List, append_assoc}
-use Prim.Native.Nat.{ℕ, zero, suc, ◌+◌, ◌*◌, ◌/◌, ◌%◌, ◌^◌, ◌≤◌, ◌<◌}
+use Prim.Native.Nat.{ℕ, zero, suc, ◌+◌, ◌*◌, ◌/◌, ◌%◌, ◌≤◌, ◌<◌}
 use native.Mathlib.Numerals.{add-one}
 use native.Mathlib.Omega.{arith}
-use lib.ListN.{length, get_or, set}
+use lib.ListN.{length, set}
 use Rattle.search.specs.Each.{Each}
 use Rattle.search.proofs.Stretches.{Wrote, nothing, next, all_written}
 use Rattle.guideline.specs.Sizes.{blocks, block_numbers, volume_classes, volume_numbers, volume_pairs}
@@ -15,10 +15,9 @@ use Rattle.codes.specs.declared.Code.{Code}
 use Rattle.codes.specs.declared.Code.TheVariants.{Rsk, Oth, Vol, Acq, Gen}
 use Rattle.sheet_line.specs.declared.Entry.{Entry}
 use Rattle.order.specs.Entries.{lookup, first_of, second_of}
-use Rattle.order.specs.Places.{index_of, table, tabled}
+use Rattle.order.specs.Places.{table, tabled}
 use Rattle.order.proofs.Indexes.{lookup_table}
 use Rattle.ledger.specs.Numbers.{pairs, block_by, volumes_by, joined_by, block_of, volumes_of, general_amount}
-use Rattle.ledger.specs.Tables.{JoinedFits}
 
 -- ---- a list written pair by pair
 
@@ -47,12 +46,6 @@ unfolding block_by
 block_written b firsts seconds h W e p q r =
     let W' = next (next (next (rw e at W.wrote) (tabled firsts Oth b 1) (omega arith)) (tabled firsts Oth b 2) (omega arith)) (tabled firsts Oth b 3) (omega arith) in
     rw (p, q, r) (all_written W' (omega arith) ∙ simp append_assoc)
-
--- the two prior amounts of a pair fit a word together
-pub joined_fits : {firsts seconds : List ℕ} → JoinedFits firsts seconds → (i : ℕ) → i < volume_pairs → {p q : ℕ}
-    → p ≡ index_of Vol (i / volume_classes + 1) (i % volume_classes + 1) → q ≡ index_of Acq (i / volume_classes + 1) (i % volume_classes + 1)
-    → get_or seconds p 0 + get_or firsts q 0 < 2 ^ 64
-joined_fits fits i h e d = rw (e, d) (fits.each _ _ (record { low = omega arith; high = omega arith; one = omega arith; most = omega arith }))
 
 -- a pair of a territory's class, joined
 abbrev pub Joined : List ℕ → List ℕ → List ℕ → ℕ → List ℕ → Type 0

@@ -2,6 +2,7 @@
 use Rattle.std.specs.Prelude.{Result, Ok, Err}
 use mathlib.Core.Path.{◌≡◌, refl, sym, ◌∙◌}
 use mathlib.Core.List.{List, [], ◌∷◌}
+use mathlib.Core.Bool.{Bool, false}
 use Rattle.std.proofs.Math.Logic.{∥∥₁_elim}
 use Prim.Native.Nat.{ℕ, ◌≤◌}
 use native.Mathlib.Omega.{arith}
@@ -16,7 +17,7 @@ use Rattle.refusal.specs.declared.Rule.{Rule}
 use Rattle.order.specs.Entries.{lookup, first_of, second_of, exists, has_line}
 use Rattle.ledger.specs.Numbers.{block_by, joined_by, block_of, volumes_of, general_amount}
 use Rattle.order.specs.Places.{places, index_for, table, tabled}
-use Rattle.order.specs.Marks.{Admits, has_mark, block_marked}
+use Rattle.order.specs.Marks.{Admits, marks_of, has_mark, block_marked}
 use Rattle.order.proofs.Admission.{good_admitted}
 use Rattle.ledger.proofs.Bounds.{first_most, second_most}
 use Rattle.order.proofs.Indexes.{lookup_table}
@@ -27,8 +28,8 @@ use Rattle.ledger.specs.Lines.{Holds, Sound}
 use Rattle.ledger.specs.declared.Ledger.{Ledger}
 
 -- tables of zeros hold no line
-pub none_held : TablesOf [] (replicate places 0) (replicate places 0) (replicate places 0)
-unfolding table
+pub none_held : TablesOf [] (replicate places 0) (replicate places 0) (replicate places false)
+unfolding table marks_of
 none_held = record { first = refl; second = refl; mark = refl }
 
 -- what holds whichever lines a ledger holds holds of the ledger
@@ -38,14 +39,14 @@ of_lines l c f = ∥∥₁_elim l.held c (λ w. f w.0 w.1)
 -- ---- a line more
 
 -- an admitted line is the one that was read
-pub admitted_sound : {line r : Result Entry Rule} {last : ℕ} {m m' : List ℕ} → Admits line last m r m' → Sound line → {e : Entry} → r ≡ Ok e → AcceptedLine e
+pub admitted_sound : {line r : Result Entry Rule} {last : ℕ} {m m' : List Bool} → Admits line last m r m' → Sound line → {e : Entry} → r ≡ Ok e → AcceptedLine e
 admitted_sound {line} {r} {last} A p {e} q =
     let w : line ≡ Ok e = (good_admitted _ last line e (sym A.line ∙ q)).read in
     rw w at p
 
-module _ {es : List Entry} {f s m m' : List ℕ} {line r : Result Entry Rule} {last : ℕ} (H : Held es f s m) (A : Admits line last m r m') where
+module _ {es : List Entry} {f s : List ℕ} {m m' : List Bool} {line r : Result Entry Rule} {last : ℕ} (H : Held es f s m) (A : Admits line last m r m') where
   pub more_held : {e : Entry} → r ≡ Ok e → AcceptedLine e → {at : ℕ} → at ≡ index_for e → Held (e ∷ es) (set f at e.first) (set s at e.second) m'
-  unfolding table
+  unfolding table marks_of
   more_held {e} q a p =
       let t = H.tables in
       record {
@@ -60,7 +61,7 @@ module _ {es : List Entry} {f s m m' : List ℕ} {line r : Result Entry Rule} {l
 
 -- ---- what is read off the tables
 
-module _ {es : List Entry} {f s m : List ℕ} (H : Held es f s m) where
+module _ {es : List Entry} {f s : List ℕ} {m : List Bool} (H : Held es f s m) where
   pub exists_is : (b : ℕ) → 1 ≤ b → b ≤ blocks → block_marked m b ≡ exists es b
   exists_is b l h = rw H.tables.mark (exists_table es b H.lines (l, h))
 

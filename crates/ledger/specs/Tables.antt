@@ -1,26 +1,27 @@
 -- The tables that hold a sheet's entries: first amounts, second amounts and marks have a table each. Assumes nothing.
-use Rattle.std.specs.Prelude.{◌≡◌, ℕ, ◌+◌, ◌^◌, ◌<◌, List}
+use Rattle.std.specs.Prelude.{◌≡◌, ℕ, ◌+◌, ◌^◌, ◌<◌, List, Bool}
 use Rattle.search.specs.Each.{Each}
 use Rattle.codes.specs.Codes.{Key}
 use Rattle.sheet_line.specs.Rules.{AcceptedLine}
 use Rattle.codes.specs.declared.Code.TheVariants.{Vol, Acq}
 use Rattle.sheet_line.specs.declared.Entry.{Entry}
-use Rattle.order.specs.Entries.{first_of, second_of, mark_of}
+use Rattle.order.specs.Entries.{first_of, second_of}
 use Rattle.order.specs.Places.{table, tabled}
+use Rattle.order.specs.Marks.{marks_of}
 
 -- all that the three tables hold of some entries
-pub record TablesOf (es : List Entry) (firsts seconds marks : List ℕ) : Type 0 where
+pub record TablesOf (es : List Entry) (firsts seconds : List ℕ) (marks : List Bool) : Type 0 where
   pub first : firsts ≡ table first_of es
   pub second : seconds ≡ table second_of es
-  pub mark : marks ≡ table mark_of es
+  pub mark : marks ≡ marks_of es
 
 -- the tables hold these lines, which no rule of a line turns away
-pub record Held (es : List Entry) (firsts seconds marks : List ℕ) : Type 0 where
+pub record Held (es : List Entry) (firsts seconds : List ℕ) (marks : List Bool) : Type 0 where
   pub tables : TablesOf es firsts seconds marks
   pub lines : Each AcceptedLine es
 
 -- the tables hold some lines
-abbrev pub HoldSome : List ℕ → List ℕ → List ℕ → Type 0
+abbrev pub HoldSome : List ℕ → List ℕ → List Bool → Type 0
 HoldSome firsts seconds marks = (es : List Entry) × Held es firsts seconds marks
 
 -- each prior amount fits a word with the acquired one

@@ -17,11 +17,12 @@ use refusal::Rule;
 use sheet_line::Entry;
 
 // The lines of a sheet in three tables. The tables of every ledger hold some lines, which no rule of a line turns away.
+// Kept: no table of structs, in fixed memory: it would take 24 bytes a place where these take 17, and a converted sheet holds the marks alone.
 #[derive(Drop)]
 pub struct Ledger {
     firsts: [u64; PLACES],
     seconds: [u64; PLACES],
-    marks: [u8; PLACES],
+    marks: [bool; PLACES],
     pub ghost held: { ∥ HoldSome firsts seconds marks ∥₁ },
 }
 
@@ -39,6 +40,7 @@ impl Ledger {
     ghost use Rattle.order.specs.Places.{tabled};
     ghost use Rattle.order.specs.Marks.{has_mark, block_marked};
     ghost use Rattle.ledger.specs.Numbers.{block_by, joined_by};
+    ghost use Rattle.ledger.specs.Tables.{HoldSome};
     ghost use Rattle.ledger.specs.Lines.{Empty, Sound, Entered};
 
     // A ledger without a line.
@@ -48,7 +50,19 @@ impl Ledger {
         Ledger {
             firsts: [0; PLACES],
             seconds: [0; PLACES],
-            marks: [0; PLACES],
+            marks: [false; PLACES],
+        }
+    }
+
+    // The ledger of tables that hold some lines, which no rule of a line turns away.
+    pub fn of_tables(firsts: [u64; PLACES], seconds: [u64; PLACES], marks: [bool; PLACES]) -> Ledger
+        requires { HoldSome firsts seconds marks }
+        ensures { (result.firsts ≡ firsts) × (result.seconds ≡ seconds) × (result.marks ≡ marks) }
+    {
+        Ledger {
+            firsts,
+            seconds,
+            marks,
         }
     }
 
@@ -81,6 +95,7 @@ impl Ledger {
     }
 
     // The numbers of a block, as block_numbers takes them off tables.
+    // Kept: the block's range as a clause, here and below, as in credits, which says why.
     pub fn block_numbers(&self, block: usize) -> [u64; BLOCK_NUMBERS]
         requires { (1 ≤ block) × (block ≤ blocks) }
         ensures { result ≡ block_by (tabled self.now.firsts) (tabled self.now.seconds) block }
@@ -140,6 +155,7 @@ impl Ledger {
 }
 
 // The numbers of a block, in the order of the block call: seven pairs IR, LT, then PC, credit, market.
+// Kept: tables beside one another, here and below, which any caller may fill; a ledger would ask more of callers.
 pub fn block_numbers(
     firsts: &[u64; PLACES],
     seconds: &[u64; PLACES],

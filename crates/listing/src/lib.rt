@@ -2,10 +2,8 @@
 #![tactic(auto)]
 
 ghost use Rattle.std.specs.Prelude.{◌≡◌, length};
-ghost use Rattle.codes.specs.Codes.{letters_of};
 ghost use Rattle.needs.specs.Listing.{label_bytes, label_of, listed_bytes, listed_line};
 
-use codes::Code;
 use needs::Label;
 use report_line::write_key;
 
@@ -25,21 +23,6 @@ fn write_label(out: &mut [u8], l: Label)
     requires { length out.old ≡ label_bytes }
     ensures { out.new ≡ label_of l }
 {
-    let code = letters_of(l.code);
-    write_key(out, code, cast::word(l.block), cast::word(l.class));
-}
-
-// The letters of a code.
-fn letters_of(code: Code) -> [u8; 3]
-    ensures { result ≡ letters_of code }
-{
-    match code {
-        Code::Rsk => *b"RSK",
-        Code::Oth => *b"OTH",
-        Code::Mor => *b"MOR",
-        Code::Vol => *b"VOL",
-        Code::Acq => *b"ACQ",
-        Code::Gen => *b"GEN",
-        Code::Crd => *b"CRD",
-    }
+    let code = l.code;
+    write_key(out, code.into(), cast::word(l.block), cast::word(l.class));
 }

@@ -19,14 +19,11 @@ use Rattle.refusal.specs.declared.Place.TheVariants.{Line, Nowhere}
 use Rattle.amount.specs.Amount.{limit}
 use Rattle.amount.proofs.Amounts.{all_within}
 use Rattle.guideline.specs.Sizes.{risks, block_numbers, number_columns, FitsColumns}
-use Rattle.guideline.specs.Block.{ir, K, AcceptedBlock, figures_of}
+use Rattle.guideline.specs.Block.{ir, K, AcceptedBlock}
 use Rattle.guideline.specs.Difference.{less_diff}
 use Rattle.guideline.proofs.Figures.{u_fits, k_high}
 use Rattle.sensitivity.specs.Movement.{raised}
 use Rattle.sensitivity.proofs.Moved.{block_moves, raised_accepted}
-use Rattle.figures.specs.declared.Figures.{Figures}
-use Rattle.figures.specs.declared.Steps.{Steps}
-use Rattle.figures.specs.Parts.{figure_list, step_list}
 use Rattle.block.specs.Call.{first_lt_above, rule8, rule9, block_call}
 use Rattle.block.proofs.Rules.{passed_7}
 use Rattle.block.proofs.Accepted.{accepts_block}
@@ -39,42 +36,29 @@ use Rattle.printing.specs.Printing.{printout, Printed, Shown}
 use Rattle.printing.proofs.Lent as lent
 use Rattle.printing.proofs.Lent.{RoomFor}
 use Rattle.movement_input.specs.Reading.{input_bytes, input_lines, lines_kept, block_of, raise_of}
-use Rattle.movement.specs.Call.{risk_line, risk_lines, Unmoved, after_block, rule3, movements, movement_call}
+use Rattle.movement.specs.Call.{risk_line, risk_lines, after_block, rule3, movements, movement_call}
 use Rattle.movement.specs.Swing.{Moved, Swing}
 use Rattle.movement_input.proofs.Numbers.{length_numbers, numbers_within}
 use Rattle.movement.proofs.Lines.{length_lines, length_risk_line}
 
 -- ---- rule by rule
 
--- what the block call accepts, with its figures
-pub unmoved :
-    (s : List ℕ) {b : List ℕ} → b ≡ block_of s → (f : Figures) (g : Steps) → accepted (figure_list f ++ step_list g) ≡ block_call b → Unmoved b f.k
-unfolding figures_of
-unmoved s {b} r f g e =
-    let a = accepts_block b in
-    let long = ap length r ∙ length_numbers s block_numbers in
-    let v = a.accepted_only _ (sym e) in
-    let q = e ∙ a.accepts long v in
-    record { long = long; block = v; reported = cc }
-
 module _ (s r : List ℕ) where
   pub wrong_length : (length s ≡ input_bytes → ⊥) → untouched 2 Nowhere r ≡ movement_call s r
   unfolding movement_call movements
   wrong_length n = lent.lent_turned _ r (if_ne _ n)
 
-  module _ (whole : length s ≡ input_bytes) {k : ℕ} (e : k ≡ lines_kept s) where
-    pub broken_line : k < input_lines → untouched 3 (Line (k + 1)) r ≡ movement_call s r
+  module _ (whole : length s ≡ input_bytes) where
+    pub broken_line : {k : ℕ} → (k ≡ lines_kept s) × (k < input_lines) → untouched 3 (Line (k + 1)) r ≡ movement_call s r
     unfolding movement_call movements rule3
-    broken_line h =
+    broken_line (e, h) =
         let l : lines_kept s < input_lines = omega arith in
         lent.lent_turned _ r (if_eq _ whole ∙ if_lt _ l ∙ ap (λ (n : ℕ). no_text 3 (Line (n + 1))) (sym e))
 
-    module _ (kept : input_lines ≤ k) where
+    module _ (kept : input_lines ≤ lines_kept s) where
       by_block : movements s ≡ after_block (block_of s) (raise_of s) (block_call (block_of s))
       unfolding movements rule3
-      by_block =
-          let l : input_lines ≤ lines_kept s = omega arith in
-          if_eq _ whole ∙ if_ge _ l
+      by_block = if_eq _ whole ∙ if_ge _ kept
 
       pub block_refused : {n : ℕ} {p : Place} → refused n p ≡ block_call (block_of s) → untouched n p r ≡ movement_call s r
       unfolding movement_call

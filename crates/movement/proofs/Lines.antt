@@ -16,7 +16,6 @@ use Rattle.guideline.specs.Block.{ir, K, AcceptedBlock}
 use Rattle.guideline.specs.Difference.{less_diff}
 use Rattle.sensitivity.specs.Movement.{raised}
 use Rattle.sensitivity.proofs.Raised.{each_at}
-use Rattle.sensitivity.proofs.Moved.{raised_accepted}
 use Rattle.field.specs.Field.{leading_digits, decimal}
 use Rattle.field.specs.Signed.{signed}
 use Rattle.field.proofs.Minus.{length_signed}
@@ -24,7 +23,7 @@ use Rattle.field.proofs.Writing.{length_decimal}
 use Rattle.report_line.specs.Line.{report_line_bytes, key, line_in, report_line, row_in}
 use Rattle.report_line.proofs.ReadBack.{length_line}
 use Rattle.printing.specs.Printing.{REF, refusal_row, refusal_line}
-use Rattle.movement.specs.Call.{MOV, signed_line, movement, risk_line, risk_lines, Unmoved}
+use Rattle.movement.specs.Call.{MOV, signed_line, movement, risk_line, risk_lines}
 
 -- ---- a line whose number may be below 0
 
@@ -52,34 +51,29 @@ length_risk_line b t i =
 place : (i : ℕ) → 2 * suc i - 2 ≡ 2 * i
 place i = omega arith
 
-module _ {b : List ℕ} {k : ℕ} (u : Unmoved b k) (t i : ℕ) (h : i < risks) where
-  -- a component is within the limit
-  pub component : get_or b (2 * i) 0 ≤ limit
-  component = rw (place i) at (each_at (λ j. ir b j ≤ limit) u.block.ir_fits i h)
+pub raised_is : (b : List ℕ) (t i : ℕ) → set b (2 * i) (get_or b (2 * i) 0 + t) ≡ raised b (suc i) t
+unfolding raised
+raised_is b t i = rw (place i)
 
-  pub raised_is : raised b (suc i) t ≡ set b (2 * i) (get_or b (2 * i) 0 + t)
-  unfolding raised
-  raised_is = rw (place i)
+module _ (b : List ℕ) (t i : ℕ) {x : ℕ} (e : x ≡ ir b (i + 1)) where
+  component : x ≡ ir b (suc i)
+  component = rw add-one at e
 
-  -- the raise is within the limit
-  module _ (w : t ≤ limit - get_or b (2 * i) 0) where
-    within : ir b (suc i) + t ≤ limit
-    within = rw (place i) (omega (arith, component))
-
-    pub still_accepted : AcceptedBlock (set b (2 * i) (get_or b (2 * i) 0 + t))
-    still_accepted = rw raised_is at (raised_accepted b u.long t (suc i) (omega arith) (omega arith) u.block within)
-
-    pub moved_line : {n : ℕ} → n ≡ K (set b (2 * i) (get_or b (2 * i) 0 + t)) → signed_line MOV 0 (i + 1) (sub_ℕ n k) ≡ risk_line b t (suc i)
-    unfolding risk_line
-    moved_line e =
-        let z = less_diff (K (raised b (suc i) t)) (K b) in
-        rw (e, u.reported, ← raised_is, add-one) (ap (signed_line MOV 0 (suc i)) (sym z) ∙ sym (if_ge _ within))
-
-  pub refused_line : limit - get_or b (2 * i) 0 < t → row_in number_columns (refusal_row 22 (Risk (i + 1))) ≡ risk_line b t (suc i)
+  pub refused_line : limit - x < t → row_in number_columns (refusal_row 22 (Risk (i + 1))) ≡ risk_line b t (suc i)
   unfolding risk_line refusal_line
   refused_line w =
-      let above : limit < ir b (suc i) + t = rw (place i) (omega (arith, component)) in
+      let above : limit < ir b (suc i) + t = omega (arith, component) in
       rw add-one (sym (if_lt _ above))
+
+  module _ (v : AcceptedBlock b) (h : i < risks) (w : t ≤ limit - x) where
+    pub within : ir b (suc i) + t ≤ limit
+    within = omega (arith, component, each_at (λ j. ir b j ≤ limit) v.ir_fits i h)
+
+    pub moved_line : {k n : ℕ} → k ≡ K b → n ≡ K (raised b (suc i) t) → signed_line MOV 0 (i + 1) (sub_ℕ n k) ≡ risk_line b t (suc i)
+    unfolding risk_line
+    moved_line p q =
+        let z = less_diff (K (raised b (suc i) t)) (K b) in
+        rw (q, p, add-one) (ap (signed_line MOV 0 (suc i)) (sym z) ∙ sym (if_ge _ within))
 
 -- ---- one after the other
 

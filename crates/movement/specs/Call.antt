@@ -7,8 +7,8 @@ use Rattle.refusal.specs.Outcome.{Outcome}
 use Rattle.refusal.specs.Outcome.Outcome.{accepted, refused}
 use Rattle.refusal.specs.declared.Place.TheVariants.{Line, Risk, Nowhere}
 use Rattle.amount.specs.Amount.{limit}
-use Rattle.guideline.specs.Sizes.{risks, block_numbers, number_columns}
-use Rattle.guideline.specs.Block.{ir, K, AcceptedBlock}
+use Rattle.guideline.specs.Sizes.{risks, number_columns}
+use Rattle.guideline.specs.Block.{ir, K}
 use Rattle.sensitivity.specs.Movement.{raised}
 use Rattle.block.specs.Call.{block_call}
 use Rattle.field.specs.Signed.{signed}
@@ -45,12 +45,6 @@ risk_line b t i = pick (ltb limit (ir b i + t)) (refusal_line 22 (Risk i)) (sign
 unfoldable pub risk_lines : List ℕ → ℕ → ℕ → List ℕ
 risk_lines b t zero = []
 risk_lines b t (suc n) = risk_lines b t n ++ risk_line b t (suc n)
-
--- a block of 17 numbers that is accepted, and whose reported K is k
-pub record Unmoved (b : List ℕ) (k : ℕ) : Type 0 where
-  pub long : length b ≡ block_numbers
-  pub block : AcceptedBlock b
-  pub reported : k ≡ K b
 
 -- ---- the call
 

@@ -12,7 +12,6 @@ ghost use Rattle.movement.specs.Call.{movements, movement_call};
 ghost use Rattle.movement.specs.Swing.{Swing};
 
 use guideline::{BLOCK_NUMBERS, RISKS};
-use movement_input::{INPUT_BYTES, INPUT_LINES};
 use refusal::{Place, Refusal, Rule};
 use report_line::REPORT_LINE_BYTES;
 
@@ -24,22 +23,22 @@ pub fn movement_call(input: &[u8], room: &mut [u8; MOVEMENT_BYTES]) -> Result<us
     ensures answer { ◌≡◌ {A = Done} (record { outcome = stated result; room = room.new }) (movement_call input.now room.old) }
     ensures swing { Swing input.now (stated result) room.new }
 {
-    if input.len() != INPUT_BYTES {
+    let Some(input) = input.as_array() else {
         return Err(Refusal(Rule::NotWholeLines, Place::Nowhere));
+    };
+    if let Some(line) = movement_input::first_broken(input) {
+        return Err(Refusal(Rule::BrokenLayout, Place::Line(line + 1)));
     }
-    let kept = movement_input::lines_kept(input);
-    if kept < INPUT_LINES {
-        return Err(Refusal(Rule::BrokenLayout, Place::Line(kept + 1)));
-    }
-    let block = movement_input::block_of(input);
-    let worked = block::block_call(&block)?;
+    let block = block::accepted_block(&movement_input::block_of(input))?;
+    let figures = figures::figures_of(&block);
     let raise = movement_input::number_at(input, BLOCK_NUMBERS);
-    moves::write_movements(&block, worked.figures.k, raise, room);
+    moves::write_movements(&block, figures.k, raise, room);
     Ok(MOVEMENT_BYTES)
 }
 
 // What tsav-movement prints of an input of any bytes, from the room's start on: the lines of the risks, or the line of the refusal. It gives how
 // many bytes that is.
+// Kept: two lines in each of four calls, as `printing::print_answer` says.
 pub fn print_movement(input: &[u8], room: &mut [u8; MOVEMENT_BYTES]) -> usize
     ensures { Printed (printout (movements input.now)) result room.old room.new }
 {

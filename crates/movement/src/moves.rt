@@ -1,19 +1,24 @@
 // The lines of the risks: how far K moves as one component is raised by t, or that it would pass the limit.
-ghost use Rattle.std.specs.Prelude.{◌≡◌, suc, ◌*◌, ◌<◌, length};
+ghost use Rattle.std.specs.Prelude.{◌≡◌, suc, ◌+◌, ◌*◌, ◌≤◌, ◌<◌, length};
 ghost use Rattle.std.proofs.Math.IntN.{sub_ℕ};
-ghost use Rattle.guideline.specs.Sizes.{risks};
+ghost use Rattle.amount.specs.Amount.{limit};
+ghost use Rattle.guideline.specs.Sizes.{risks, block_numbers};
+ghost use Rattle.guideline.specs.Block.{ir, K};
+ghost use Rattle.sensitivity.specs.Movement.{raised};
 ghost use Rattle.report_line.specs.Line.{report_line_bytes};
-ghost use Rattle.movement.specs.Call.{signed_line, MOV, risk_line, risk_lines, Unmoved};
+ghost use Rattle.movement.specs.Call.{signed_line, MOV, risk_line, risk_lines};
 
 use amount::LARGEST_AMOUNT;
-use guideline::{BLOCK_NUMBERS, RISKS};
+use guideline::{Block, RISKS};
 use refusal::{Place, Refusal, Rule};
-use report_line::REPORT_LINE_BYTES;
+use report_line::{REPORT_LINE_BYTES, Row};
 
 // A line for each risk, of a block whose reported K is k, each into its own stretch of the room.
-pub(crate) fn write_movements(block: &[u64; BLOCK_NUMBERS], k: u64, raise: u64, room: &mut [u8])
-    requires { Unmoved block.now k × (length room.old ≡ report_line_bytes * risks) }
-    ensures { room.new ≡ risk_lines block.now raise risks }
+// Kept: how many numbers the block has stays a clause, here and in two below. `Block` can't say it, as one is made of any array of 17 numbers
+// (`block::accepted_block`), and a law gets no length of an array from its type; here it is known of what was read.
+pub(crate) fn write_movements(block: &Block, k: u64, raise: u64, room: &mut [u8])
+    requires { (length block.now.numbers ≡ block_numbers) × (k ≡ K block.now.numbers) × (length room.old ≡ report_line_bytes * risks) }
+    ensures { room.new ≡ risk_lines block.now.numbers raise risks }
 {
     for i in 0..RISKS {
         let at = REPORT_LINE_BYTES * i;
@@ -22,19 +27,27 @@ pub(crate) fn write_movements(block: &[u64; BLOCK_NUMBERS], k: u64, raise: u64, 
 }
 
 // The line of the risk behind i others: what it moves K by, or that the raise takes it above the limit.
-fn write_movement(block: &[u64; BLOCK_NUMBERS], k: u64, raise: u64, i: usize, out: &mut [u8])
-    requires { Unmoved block.now k × (i < risks) × (length out.old ≡ report_line_bytes) }
-    ensures { out.new ≡ risk_line block.now raise (suc i) }
+fn write_movement(block: &Block, k: u64, raise: u64, i: usize, out: &mut [u8])
+    requires { (length block.now.numbers ≡ block_numbers) × (k ≡ K block.now.numbers) × (i < risks) × (length out.old ≡ report_line_bytes) }
+    ensures { out.new ≡ risk_line block.now.numbers raise (suc i) }
 {
-    let component = block[2 * i];
+    let component = block.ir(i + 1);
     if LARGEST_AMOUNT - component < raise {
         printing::write_refusal(out, Refusal(Rule::RaiseAboveLimit, Place::Risk(i + 1)));
         return;
     }
-    let mut raised = *block;
-    raised[2 * i] = component + raise;
-    let figures = figures::figures_of(&raised);
+    let figures = figures::figures_of(&raised(block, raise, i));
     write_signed(out, cast::word(i + 1), figures.k, k);
+}
+
+// The block with the component of the risk behind i others raised.
+fn raised(block: &Block, raise: u64, i: usize) -> Block
+    requires { (length block.now.numbers ≡ block_numbers) × (i < risks) × (ir block.now.numbers (suc i) + raise ≤ limit) }
+    ensures { result.numbers ≡ raised block.now.numbers (suc i) raise }
+{
+    let mut numbers = *block.numbers();
+    numbers[2 * i] += raise;
+    Block::new(numbers)
 }
 
 // The line of a movement from one K to another.
@@ -42,6 +55,12 @@ fn write_signed(out: &mut [u8], risk: u64, to: u64, from: u64)
     requires { length out.old ≡ report_line_bytes }
     ensures { out.new ≡ signed_line MOV 0 risk (sub_ℕ to from) }
 {
-    report_line::write_line(out, *b"MOV", 0, risk, 0);
+    let row = Row {
+        code: *b"MOV",
+        block: 0,
+        item: risk,
+        number: 0,
+    };
+    row.write(out);
     field::signed::write_difference(&mut out[10..28], to, from);
 }

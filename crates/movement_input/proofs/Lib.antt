@@ -1,2 +1,3 @@
 -- The input's lines as they are read.
+pub mod Lines
 pub mod Numbers

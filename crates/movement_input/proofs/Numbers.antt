@@ -1,45 +1,25 @@
--- The input's lines and their numbers, as they are read one after the other. Assumes nothing.
-use Rattle.std.specs.Prelude.{Option, Some, None, is_some}
-use mathlib.Core.Path.{◌≡◌, refl, sym, ap, ◌∙◌, subst}
-use mathlib.Core.Bool.{Bool, true, false, not}
+-- The input's numbers, as they are read one after the other. Assumes nothing.
+use Rattle.std.specs.Prelude.{Option, Some, None}
+use mathlib.Core.Path.{◌≡◌, refl, subst}
 use mathlib.Core.List.{List, [], ◌∷◌, ◌++◌}
-use Prim.Native.Nat.{ℕ, zero, suc, ◌+◌, ◌-◌, ◌*◌, ◌^◌, ◌≤◌, ◌<◌}
-use native.Mathlib.Nat.{add-sub_cancel_left, pow-le-pow_right}
+use Prim.Native.Nat.{ℕ, zero, suc, ◌+◌, ◌-◌, ◌^◌, ◌≤◌, ◌<◌}
+use native.Mathlib.Nat.{pow-le-pow_right}
 use native.Mathlib.Decide.{dec_lt}
 use native.Mathlib.Numerals.{add-one}
 use native.Mathlib.Omega.{arith}
-use lib.ListN.{length, get_or, set, take, drop, length-append, length-take, get_or-append}
+use lib.ListN.{length, get_or, set, take, length-append, length-take, get_or-append}
 use lib.Seq.{get_or-append-add}
-use Rattle.search.proofs.Picks.{if_eq, if_ne, by_test, never}
-use Rattle.search.proofs.Stretches.{Wrote, next, all_written}
+use Rattle.search.proofs.Picks.{by_test}
+use Rattle.search.proofs.Stretches.{Wrote, next}
 use Rattle.amount.specs.Amount.{limit}
 use Rattle.guideline.specs.Sizes.{block_numbers}
 use Rattle.field.specs.Field.{field}
 use Rattle.field.proofs.Inverse.{field_bound}
-use Rattle.movement_input.specs.Reading.{amount_columns, input_line_bytes, amount_of, amount_at, is_bad, number_in, number_at, numbers_to, block_of}
+use Rattle.movement_input.specs.Reading.{amount_columns, amount_of, amount_at, number_in, number_at, numbers_to}
 
--- ---- a line
-
--- its last byte is the line feed, or it is broken
-module _ (l : List ℕ) where
-  pub ended : get_or l amount_columns 0 ≡ 10 → field (take amount_columns l) ≡ amount_of l
-  unfolding amount_of
-  ended h = sym (if_eq _ h)
-
-  pub not_ended : (get_or l amount_columns 0 ≡ 10 → ⊥) → None ≡ amount_of l
-  unfolding amount_of
-  not_ended h = sym (if_ne _ h)
-
--- as the code lends it
-pub lent_line : (s : List ℕ) (i : ℕ) → amount_of (take (input_line_bytes * i + input_line_bytes - input_line_bytes * i) (drop (input_line_bytes * i) s)) ≡ amount_at s i
-lent_line s i = rw (add-sub_cancel_left (input_line_bytes * i) input_line_bytes)
-
--- whether a line is broken, as the code tests it
-pub broken_told : (a : Option ℕ) (r : Bool) → is_some a ≡ not r → is_bad a ≡ r
-broken_told None true e = refl
-broken_told None false e = never (cc)
-broken_told (Some n) true e = never (cc)
-broken_told (Some n) false e = refl
+-- a line's amount is its number
+pub good_number : (s : List ℕ) (i : ℕ) {a : Option ℕ} → a ≡ amount_at s i → {n : ℕ} → a ≡ Some n → n ≡ number_at s i
+good_number s i e q = rw (← e, q)
 
 -- ---- the first numbers
 
@@ -85,8 +65,3 @@ Numbers s l₀ i l = (length l₀ ≡ block_numbers) × Wrote l₀ i (numbers_to
 pub next_number : (s : List ℕ) {l₀ l : List ℕ} {i v : ℕ} → Numbers s l₀ i l → i < block_numbers → v ≡ number_at s i → Numbers s l₀ (i + 1) (set l i v)
 unfolding numbers_to
 next_number s {l₀} {l} {i} w h e = (w.0, rw (add-one, e) (next w.1 (number_at s i) (omega (arith, w.0))))
-
-pub all_numbers : (s : List ℕ) {l₀ l : List ℕ} {i : ℕ} → Numbers s l₀ i l → i ≤ block_numbers → block_numbers ≤ i → l ≡ block_of s
-all_numbers s {i = i} w high low =
-    let e : i ≡ block_numbers = omega arith in
-    all_written w.1 (omega (arith, w.0)) ∙ ap (numbers_to s) e

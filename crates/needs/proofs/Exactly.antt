@@ -16,7 +16,7 @@ use Rattle.search.proofs.Picks.{if_true, if_false, if_lt, if_ge, by_test, never}
 use Rattle.codes.specs.Codes.{letters_of, is_code, code_among, code_of}
 use Rattle.codes.specs.declared.Code.{Code}
 use Rattle.codes.specs.declared.Code.TheVariants.{Rsk, Oth, Mor, Vol, Acq, Gen, Crd}
-use Rattle.report_line.specs.Line.{Row}
+use Rattle.report_line.specs.declared.Row.{Row}
 use Rattle.guideline.specs.Sizes.{number_columns}
 use Rattle.report_line.proofs.ReadBack.{Printable, key_parts}
 use Rattle.sheet_line.specs.Rules.{AcceptedLine}

@@ -48,6 +48,7 @@ pub const LONGEST_LISTING: usize = LISTED_BYTES * MOST_LISTED;
 
 // What the line of a code, block and class needs, where its amounts aren't all zero: a companion, or nothing. Class 0 of a companion is whichever
 // class there is.
+// Kept: class 0 for that, and no enum, which would be no plainer: the listing prints class 0 there, so that it would be turned back into it.
 pub fn need_of(l: Label) -> Option<Label>
     ensures { result ≡ need_of l }
 {

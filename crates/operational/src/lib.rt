@@ -1,7 +1,7 @@
 // The operational call: chapter 8 for all territories.
 #![tactic(auto)]
 
-ghost use Rattle.std.specs.Prelude.{◌≡◌, ℕ, ◌+◌, ◌-◌, ◌*◌, ◌^◌, ◌≤◌, leb, length, get_or};
+ghost use Rattle.std.specs.Prelude.{◌≡◌, ℕ, ◌+◌, ◌-◌, ◌*◌, ◌≤◌, leb, length, get_or};
 ghost use Rattle.search.specs.Least.{least};
 ghost use Rattle.amount.specs.Amount.{limit};
 ghost use Rattle.guideline.specs.Sizes.{volume_numbers};
@@ -14,6 +14,7 @@ use guideline::{
 use refusal::{Place, Refusal, Rule};
 
 // RO, of volumes of any length, 16 numbers a territory, then gross components, guarantee requirement and ceded premiums.
+// Kept: volumes and general figures as two parameters, which the C interface has; a struct of both would be taken apart at once in `operational`.
 pub fn operational_call(volumes: &[u64], general: &[u64; GENERAL_FIGURES]) -> Result<u64, Refusal>
     ensures { stated result ≡ operational_call volumes.now general.now }
 {

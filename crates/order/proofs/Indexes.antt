@@ -108,7 +108,7 @@ code_at Gen b c v = column_code Gen b c general_row refl v (in_general b v.high)
 code_at Crd zero c v = column_code Crd 0 c general_row refl v (in_general 0 (omega arith))
 code_at Crd (suc b) c v = column_code Crd (suc b) c participating_row refl v (in_participating (suc b) (omega (arith, v.low)))
 
-index_one : (k : Code) (b c : ℕ) (e : Entry) → Key k b c → Key e.code e.block e.class → index_of k b c ≡ index_for e → SameKey k b c e
+pub index_one : (k : Code) (b c : ℕ) (e : Entry) → Key k b c → Key e.code e.block e.class → index_of k b c ≡ index_for e → SameKey k b c e
 unfolding index_of
 index_one k b c e v w q =
     let x : b ≡ e.block = omega (arith, column_most k b, column_most e.code e.block) in
@@ -117,7 +117,7 @@ index_one k b c e v w q =
     record { code = y; block = x; class = omega (arith, ap columns_before y) }
 
 -- an entry with another index has another key
-other_key : (k : Code) (b c : ℕ) (e : Entry) → (index_of k b c ≡ index_for e → ⊥) → has_key k b c e ≡ false
+pub other_key : (k : Code) (b c : ℕ) (e : Entry) → (index_of k b c ≡ index_for e → ⊥) → has_key k b c e ≡ false
 other_key k b c e n = no_key k b c e (λ s. n (rw (s.code, s.block, s.class)))
 
 -- ---- what the tables hold

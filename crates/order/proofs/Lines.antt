@@ -3,7 +3,7 @@
 use Rattle.std.specs.Prelude.{Result, Ok, Err}
 use mathlib.Core.Path.{◌≡◌, refl, sym, ap, ◌∙◌}
 use mathlib.Core.List.{List, [], ◌∷◌}
-use mathlib.Core.Bool.{false}
+use mathlib.Core.Bool.{Bool, false}
 use Prim.Native.Nat.{ℕ, zero, suc, ◌+◌, ◌-◌, ◌*◌, ◌≤◌, ◌<◌}
 use native.Mathlib.Numerals.{add-one}
 use native.Mathlib.Omega.{arith}
@@ -14,21 +14,20 @@ use Rattle.search.proofs.Picks.{never}
 use Rattle.refusal.specs.Outcome.{rule_number, Judging}
 use Rattle.layout.specs.Columns.{sheet_line_bytes}
 use Rattle.layout.specs.Whole.{whole_lines, line_at}
-use Rattle.layout.proofs.Lent.{lent, lent_is}
+use Rattle.layout.proofs.Lent.{length_line}
 use Rattle.sheet_line.specs.Rules.{parse_line, AcceptedLine}
 use Rattle.refusal.specs.declared.Rule.{Rule}
 use Rattle.sheet_line.specs.declared.Entry.{Entry}
 use Rattle.sheet_line.proofs.Accepted.{line_good}
 use Rattle.sheet_line.proofs.Refusals.{line_judging}
-use Rattle.order.specs.Entries.{mark_of, DistinctKeys}
+use Rattle.order.specs.Entries.{DistinctKeys}
 use Rattle.order.specs.Order.{key_for, last_key, Ascending, Keyed, admitted}
 use Rattle.order.specs.Reading.{Reading, stood_in, line_after, on_line, read_from, reading_by, untested, reading, entries_of}
 use Rattle.order.specs.Reading.Reading.{complete, stopped}
-use Rattle.order.specs.Places.{table}
-use Rattle.order.specs.Marks.{has_mark, Admits}
+use Rattle.order.specs.Marks.{marks_of, has_mark, Admits}
 use Rattle.order.proofs.Keys.{New, distinct}
 use Rattle.order.proofs.Admission.{good_admitted, refused_admitted}
-use Rattle.order.proofs.Indexes.{lookup_table}
+use Rattle.order.proofs.Marks.{mark_table}
 
 -- ---- a line more
 
@@ -158,66 +157,58 @@ reading_stopped s es n i q =
 -- ---- a loop over the lines, after i of them
 
 -- the marks are those of the i lines seen, last is the key of the last one, and what is left to read gives what all lines give
-pub record ReadTo (parse : List ℕ → Result Entry Rule) (test : Result Entry Rule → Result Entry Rule) (s m : List ℕ) (last i : ℕ) (seen : List Entry) : Type 0 where
+pub record ReadTo (parse : List ℕ → Result Entry Rule) (test : Result Entry Rule → Result Entry Rule) (s : List ℕ) (m : List Bool) (last i : ℕ) (seen : List Entry) : Type 0 where
   pub some : i ≤ whole_lines s
   pub count : length seen ≡ i
   pub all : Each AcceptedLine seen
-  pub marks : m ≡ table mark_of seen
+  pub marks : m ≡ marks_of seen
   pub key : last ≡ last_key seen
   pub rest : read_from parse test (whole_lines s - i) (i + 1) (drop (sheet_line_bytes * i) s) seen ≡ reading_by parse test s
-
-pub start : (parse : List ℕ → Result Entry Rule) (test : Result Entry Rule → Result Entry Rule) {m : List ℕ} (s : List ℕ) → m ≡ table mark_of [] → ReadTo parse test s m 0 0 []
-start parse test s p =
-    let z : whole_lines s - 0 ≡ whole_lines s = omega arith in
-    record { some = omega arith; count = refl; all = tt; marks = p; key = refl; rest = rw z }
 
 keyed : (l : Result Entry Rule) → ((e : Entry) → l ≡ Ok e → AcceptedLine e) → Keyed l
 keyed (Err r) a = tt
 keyed (Ok e) a = (a e refl).key
 
 -- the marks of the lines seen say of a line what those lines do
-marks_tell : (seen : List Entry) → Each AcceptedLine seen → (m : List ℕ) → m ≡ table mark_of seen → (last : ℕ) → last ≡ last_key seen → (l : Result Entry Rule) → Keyed l
+marks_tell : (seen : List Entry) → Each AcceptedLine seen → (m : List Bool) → m ≡ marks_of seen → (last : ℕ) → last ≡ last_key seen → (l : Result Entry Rule) → Keyed l
     → admitted (λ e. has_mark m e.code e.block e.class) last l ≡ line_after seen l
 marks_tell seen all m p last q (Err r) k = refl
 marks_tell seen all m p last q (Ok e) k =
-    rw (p, q, lookup_table mark_of seen e.code e.block e.class k all)
+    rw (p, q, mark_table seen all e.code e.block e.class k)
 
 module _ {parse : List ℕ → Result Entry Rule} {test : Result Entry Rule → Result Entry Rule} (R : Reads parse test)
-    {s m : List ℕ} {last i : ℕ} {seen : List Entry} (B : ReadTo parse test s m last i seen) where
+    {s : List ℕ} {m : List Bool} {last i : ℕ} {seen : List Entry} (B : ReadTo parse test s m last i seen) where
   pub done : whole_lines s ≤ i → reading_by parse test s ≡ complete seen
   done h = sym B.rest ∙ read_none parse test s (whole_lines s) i seen h
 
   module _ (h : i < whole_lines s) where
-    acceptable : (e : Entry) → parse (lent s i) ≡ Ok e → AcceptedLine e
-    acceptable e q =
-        let rest = drop (sheet_line_bytes * i) s in
-        let l : length (take sheet_line_bytes rest) ≡ sheet_line_bytes = length-take-le sheet_line_bytes rest (rw length-drop (omega arith)) in
-        R.good (lent s i) (rw (lent_is s i) l) e q
+    acceptable : (e : Entry) → parse (line_at s i) ≡ Ok e → AcceptedLine e
+    acceptable e q = R.good (line_at s i) (length_line s i h) e q
 
-    pub lent_keyed : Keyed (parse (lent s i))
-    lent_keyed = keyed (parse (lent s i)) acceptable
+    pub line_keyed : Keyed (parse (line_at s i))
+    line_keyed = keyed (parse (line_at s i)) acceptable
 
-    module _ {r : Result Entry Rule} {m' : List ℕ} (A : Admits (parse (lent s i)) last m r m') where
+    module _ {r : Result Entry Rule} {m' : List Bool} (A : Admits (parse (line_at s i)) last m r m') where
       -- what is left to read goes on from the line that was admitted, or stops at it
       more : reading_by parse test s
           ≡ on_line (test r) (i + 1) seen (λ t. read_from parse test (whole_lines s - (i + 1)) (i + 1 + 1) (drop (sheet_line_bytes * (i + 1)) s) t)
       more =
-          let l : r ≡ line_after seen (parse (lent s i)) =
-          A.line ∙ marks_tell seen B.all m B.marks last B.key (parse (lent s i)) lent_keyed in
-          sym B.rest ∙ read_more parse test s (whole_lines s) i seen h ∙ rw (← lent_is s i, ← l)
+          let l : r ≡ line_after seen (parse (line_at s i)) =
+          A.line ∙ marks_tell seen B.all m B.marks last B.key (parse (line_at s i)) line_keyed in
+          sym B.rest ∙ read_more parse test s (whole_lines s) i seen h ∙ rw (← l)
 
       pub admitted_good : {e : Entry} → r ≡ Ok e → AcceptedLine e
-      admitted_good {e} q = acceptable e (good_admitted _ last (parse (lent s i)) e (sym A.line ∙ q)).read
+      admitted_good {e} q = acceptable e (good_admitted _ last (parse (line_at s i)) e (sym A.line ∙ q)).read
 
       pub turned : {n : Rule} → test r ≡ Err n → reading_by parse test s ≡ stopped seen (rule_number n) (i + 1)
       turned q = more ∙ on_refused _ _ _ q
 
       -- a line that is not admitted leaves the marks as they were
-      pub unmarked : {n : Rule} → r ≡ Err n → m' ≡ table mark_of seen
+      pub unmarked : {n : Rule} → r ≡ Err n → m' ≡ marks_of seen
       unmarked q = A.marks ∙ rw q B.marks
 
       pub again : {e : Entry} → test r ≡ Ok e → {k : ℕ} → k ≡ key_for e → ReadTo parse test s m' k (i + 1) (e ∷ seen)
-      unfolding table
+      unfolding marks_of
       again {e} q c =
           let g = R.keeps r e q in
           record {

@@ -1,87 +1,89 @@
--- The marks of entries: one for each line; and a search of a block's row, which finds one where the block exists. Assumes nothing.
+-- The marks of entries: one for each line, and one in a block's row where the block exists. Assumes nothing.
 use mathlib.Core.Path.{◌≡◌, refl, sym, ap, ◌∙◌}
 use mathlib.Core.Logic.{◌⊎◌, inl, inr}
 use mathlib.Core.List.{List, [], ◌∷◌}
-use mathlib.Core.Bool.{Bool, true, false}
-use Prim.Native.Nat.{ℕ, zero, suc, ◌+◌, ◌-◌, ◌≤◌, ◌<◌}
+use mathlib.Core.Bool.{Bool, true, false, beq}
+use Prim.Native.Nat.{ℕ, suc, ◌+◌, ◌-◌, ◌≤◌, ◌<◌}
 use native.Mathlib.Decide.{ℕ_discrete}
 use native.Mathlib.Omega.{arith}
 use lib.Dec.{eqb, ltb}
-use lib.ListN.{length, get_or, set, replicate, get_or-replicate}
-use lib.Seq.{get_or-set_same, get_or-set_other}
+use lib.ListN.{length, get_or, set, take, drop, replicate, length-set, length-replicate, length-drop, get_or-replicate}
+use lib.Seq.{get_or-set_same, get_or-set_other, get_or-take, get_or-drop, length-take-le}
+use Rattle.std.specs.List.{IsAnyAnswer}
 use Rattle.search.specs.Pick.{pick}
 use Rattle.search.specs.Each.{Each}
-use Rattle.search.proofs.Picks.{if_true, if_false, if_eq, if_ne, never}
+use Rattle.search.specs.First.{any_to}
+use Rattle.search.proofs.Picks.{if_true, if_false, if_eq, if_ne}
+use Rattle.search.proofs.Anys.{one_of, none_of, any_same}
+use Rattle.search.proofs.Ranges.{any_item}
 use Rattle.guideline.specs.Sizes.{blocks}
 use Rattle.codes.specs.Codes.{range_of, Key}
 use Rattle.sheet_line.specs.Rules.{AcceptedLine}
 use Rattle.codes.specs.declared.Code.{Code}
 use Rattle.codes.specs.declared.Code.TheVariants.{Rsk, Oth, Mor, Vol, Acq, Gen, Crd}
 use Rattle.sheet_line.specs.declared.Entry.{Entry}
-use Rattle.order.specs.Entries.{mark_of, of_block, has_line, exists}
-use Rattle.order.specs.Places.{places, block_places, columns_before, index_of, index_for, table}
-use Rattle.order.specs.Marks.{has_mark, any_mark, block_marked}
-use Rattle.order.proofs.Indexes.{column_most, index_most, length_table, lookup_table}
+use Rattle.order.specs.Entries.{of_block, lookup, has_line, exists}
+use Rattle.order.specs.Places.{places, block_places, columns_before, index_of, index_for}
+use Rattle.order.specs.Marks.{marks_of, has_mark, block_marked}
+use Rattle.order.proofs.Keys.{has_key_lem}
+use Rattle.order.proofs.Indexes.{column_most, index_most, index_one, other_key}
 
--- a mark stands where a line does
-pub mark_table : (es : List Entry) → Each AcceptedLine es → (k : Code) (b c : ℕ) → Key k b c → has_mark (table mark_of es) k b c ≡ has_line es k b c
-mark_table es all k b c v = ap (λ (n : ℕ). ltb 0 n) (lookup_table mark_of es k b c v all)
+-- ---- a mark stands where a line does
 
--- ---- a search of n places from `at` on, after i of them
+length_marks : (es : List Entry) → length (marks_of es) ≡ places
+unfolding marks_of
+length_marks [] = length-replicate {A = Bool} places false
+length_marks (e ∷ es) = simp length-set (length_marks es)
 
-pub any_start : (m : List ℕ) {row at : ℕ} (n : ℕ) → row ≡ at → any_mark m (row + 0) (n - 0) ≡ any_mark m at n
-any_start m {row} {at} n q =
-    let e : row + 0 ≡ at = omega arith in
-    let d : n - 0 ≡ n = omega arith in
-    rw (e, d)
+pub mark_table : (es : List Entry) → Each AcceptedLine es → (k : Code) (b c : ℕ) → Key k b c → has_mark (marks_of es) k b c ≡ has_line es k b c
+unfolding marks_of lookup
+mark_table [] all k b c v = get_or-replicate places (index_of k b c) false false (index_most k b c v)
+mark_table (e ∷ es) all k b c v =
+    let w = all.0.key in
+    elim (ℕ_discrete (index_of k b c) (index_for e)) [
+      | yes q ↦
+          rw q (get_or-set_same (marks_of es) (index_for e) true false (rw length_marks (index_most e.code e.block e.class w)))
+          ∙ sym (ap (λ (n : ℕ). ltb 0 n) (if_true _ (has_key_lem k b c e (index_one k b c e v w q))))
+      | no q ↦
+          get_or-set_other (marks_of es) (index_for e) (index_of k b c) true false q
+          ∙ mark_table es all.1 k b c v ∙ sym (ap (λ (n : ℕ). ltb 0 n) (if_false _ (other_key k b c e q)))
+    ]
 
-module _ (m : List ℕ) (at n i : ℕ) where
-  pub any_found : i < n → (get_or m (at + i) 0 ≡ 0 → ⊥) → any_mark m (at + i) (n - i) ≡ true
-  unfolding any_mark
-  any_found h q = let e : n - i ≡ suc (n - (i + 1)) = omega arith in rw e (if_ne _ q)
+-- ---- a block's row, where a mark more stands at p
 
-  pub any_more : i < n → get_or m (at + i) 0 ≡ 0 → any_mark m (at + (i + 1)) (n - (i + 1)) ≡ any_mark m (at + i) (n - i)
-  unfolding any_mark
-  any_more h q =
-      let e : n - i ≡ suc (n - (i + 1)) = omega arith in
-      let d : at + (i + 1) ≡ suc (at + i) = omega arith in
-      rw (e, d) (sym (if_eq _ q))
+module _ (m : List Bool) (p b : ℕ) where
+  any_in : p < length m → index_of Rsk b 1 ≤ p → p < index_of Rsk b 1 + block_places → block_marked (set m p true) b ≡ true
+  unfolding index_of
+  any_in l h k =
+      let c = p + 1 - index_of Rsk b 1 in
+      let e : index_of Rsk b c ≡ p = omega arith in
+      one_of (has_mark (set m p true) Rsk b) c block_places (omega arith) (omega arith) (rw e (get_or-set_same m p true false l))
 
-  pub any_none : n ≤ i → any_mark m (at + i) (n - i) ≡ false
-  unfolding any_mark
-  any_none h = let e : n - i ≡ 0 = omega arith in rw e
+  any_out : (index_of Rsk b 1 ≤ p → p < index_of Rsk b 1 + block_places → ⊥) → block_marked (set m p true) b ≡ block_marked m b
+  unfolding index_of
+  any_out o =
+      any_same _ _ block_places (λ c l h. get_or-set_other m p (index_of Rsk b c) true false (λ q. o (omega arith) (omega arith)))
 
--- ---- a mark more
+-- `contains` tells whether a part of a table has a mark: that of a block's row
+pub row_marked : (m : List Bool) (b : ℕ) {row : ℕ} {r : Bool} → row ≡ index_of Rsk b 1 → row + block_places ≤ length m
+    → IsAnyAnswer (λ y t. beq y true ≡ t) (take (row + block_places - row) (drop row m)) r → r ≡ block_marked m b
+unfolding index_of
+row_marked m b {row} {r} e h a =
+    let s : row + block_places - row ≡ block_places = omega arith in
+    let part = take block_places (drop row m) in
+    let n : length part ≡ block_places = length-take-le block_places (drop row m) (rw length-drop (omega arith)) in
+    any_item false (λ y. beq y true) (has_mark m Rsk b) part
+    (λ k l.
+    let i : index_of Rsk b (suc k) ≡ row + k = omega arith in
+    let c : k < block_places = omega (arith, l, n) in
+    ap (λ (j : ℕ). get_or m j false) i ∙ sym (get_or-take block_places (drop row m) k false c ∙ get_or-drop row m k false) ∙ sym (is_true _)) r (rw s at a)
+    ∙ ap (any_to (has_mark m Rsk b)) n
+  where
+    is_true : (y : Bool) → beq y true ≡ y
+    is_true true = refl
+    is_true false = refl
 
-any_zeros : (at n : ℕ) → at + n ≤ places → any_mark (replicate places 0) at n ≡ false
-unfolding any_mark
-any_zeros at zero h = refl
-any_zeros at (suc n) h = if_eq _ (get_or-replicate places at 0 0 (omega arith)) ∙ any_zeros (suc at) n (omega arith)
-
-module _ (m : List ℕ) (p : ℕ) where
-  any_in : (at n : ℕ) → p < length m → at ≤ p → p < at + n → any_mark (set m p 1) at n ≡ true
-  unfolding any_mark
-  any_in at zero l h k = absurd (omega arith)
-  any_in at (suc n) l h k =
-      elim (ℕ_discrete (get_or (set m p 1) at 0) 0) [
-        | no q ↦ if_ne _ q
-        | yes q ↦
-            let d : p ≡ at → ⊥ = λ e. clash e q in
-            if_eq _ q ∙ any_in (suc at) n l (omega arith) (omega arith)
-      ]
-    where
-      clash : p ≡ at → get_or (set m p 1) at 0 ≡ 0 → ⊥
-      clash e q =
-          never (sym q ∙ sym (ap (λ (j : ℕ). get_or (set m p 1) j 0) e) ∙ get_or-set_same m p 1 0 l)
-
-  any_out : (at n : ℕ) → (at ≤ p → p < at + n → ⊥) → any_mark (set m p 1) at n ≡ any_mark m at n
-  unfolding any_mark
-  any_out at zero o = refl
-  any_out at (suc n) o =
-      let d : at ≡ p → ⊥ = λ e. o (omega arith) (omega arith) in
-      rw (get_or-set_other m p at 1 0 d, any_out (suc at) n (λ l h. o (omega arith) (omega arith)))
-
--- ---- the marks of entries
+-- ---- the lines of a block's row
 
 -- the codes whose lines make a block exist have the first columns of its row; the others have later ones, or row 0
 columns_of : (k : Code) (b : ℕ)
@@ -120,13 +122,17 @@ pub row_most : (b : ℕ) → b ≤ blocks → index_of Rsk b 1 + block_places �
 unfolding index_of
 row_most b h = omega arith
 
-pub exists_table : (es : List Entry) (b : ℕ) → Each AcceptedLine es → (1 ≤ b) × (b ≤ blocks) → block_marked (table mark_of es) b ≡ exists es b
-unfolding table exists
-exists_table [] b all h = any_zeros (index_of Rsk b 1) block_places (row_most b h.1)
+none_marked : (b : ℕ) → b ≤ blocks → block_marked (replicate places false) b ≡ false
+unfolding index_of
+none_marked b h = none_of _ block_places (λ c l k. get_or-replicate places (index_of Rsk b c) false false (omega arith))
+
+pub exists_table : (es : List Entry) (b : ℕ) → Each AcceptedLine es → (1 ≤ b) × (b ≤ blocks) → block_marked (marks_of es) b ≡ exists es b
+unfolding marks_of exists
+exists_table [] b all h = none_marked b h.1
 exists_table (e ∷ es) b all h =
     let v = all.0.key in
-    let l : index_for e < length (table mark_of es) = rw length_table (index_most e.code e.block e.class v) in
+    let l : index_for e < length (marks_of es) = rw length_marks (index_most e.code e.block e.class v) in
     elim (row_line e.code e.block e.class b v h.0 (exists es b)) [
-      | inl w ↦ any_in (table mark_of es) (index_for e) (index_of Rsk b 1) block_places l w.0.0 w.0.1 ∙ sym w.1
-      | inr w ↦ any_out (table mark_of es) (index_for e) (index_of Rsk b 1) block_places w.0 ∙ exists_table es b all.1 h ∙ sym w.1
+      | inl w ↦ any_in (marks_of es) (index_for e) b l w.0.0 w.0.1 ∙ sym w.1
+      | inr w ↦ any_out (marks_of es) (index_for e) b w.0 ∙ exists_table es b all.1 h ∙ sym w.1
     ]

@@ -32,19 +32,23 @@ const ORDER_BASE: u64 = 128;
 // the last one. The marks tell of those lines, and the key of the last one, 0 where there is none. A line that is admitted is marked.
 //
 // Kept: 0 for no last key. No key is 0, so that one comparison serves the first line too; an Option would be no plainer.
-pub fn admit(line: Result<Entry, Rule>, last: u64, marks: &mut [u8; PLACES]) -> Result<Entry, Rule>
+pub fn admit(
+    line: Result<Entry, Rule>,
+    last: u64,
+    marks: &mut [bool; PLACES],
+) -> Result<Entry, Rule>
     requires { Keyed line }
     ensures { Admits line last marks.old result marks.new }
 {
     let e = line?;
     let at = index_for(e);
-    if 0 < marks[at] {
+    if marks[at] {
         return Err(Rule::LineRepeated);
     }
     if key_of(e) <= last {
         return Err(Rule::OutOfOrder);
     }
-    marks[at] = 1;
+    marks[at] = true;
     Ok(e)
 }
 
@@ -84,21 +88,22 @@ pub fn index_for(e: Entry) -> usize
 }
 
 // Whether the sheet has the scalar's line.
-pub fn has_scalar(marks: &[u8; PLACES]) -> bool
+pub fn has_scalar(marks: &[bool; PLACES]) -> bool
     ensures { result ≡ has_mark marks.now Code.Gen 0 scalar_class }
 {
     has_mark(marks, Code::Gen, 0, SCALAR_CLASS)
 }
 
 // Whether a code, block and class has a mark.
-pub fn has_mark(marks: &[u8; PLACES], code: Code, block: usize, class: usize) -> bool
+pub fn has_mark(marks: &[bool; PLACES], code: Code, block: usize, class: usize) -> bool
     requires { Key code block class }
     ensures { result ≡ has_mark marks.now code block class }
 {
-    0 < marks[index_of(code, block, class)]
+    marks[index_of(code, block, class)]
 }
 
 // The index of a code, block and class in each table.
+// Kept: no struct of the three, here and above. Each call would fill it for this alone, and one that says `Key` could not have class 0 of a need.
 pub fn index_of(code: Code, block: usize, class: usize) -> usize
     requires { Key code block class }
     ensures { (result ≡ index_of code block class) × (result < places) }
@@ -122,15 +127,12 @@ fn columns_before(code: Code) -> usize
 }
 
 // Whether a block has an RSK or OTH line: their columns begin its row.
-pub fn block_exists(marks: &[u8; PLACES], block: usize) -> bool
+// Kept: the block's range as a clause, as in credits, which says why.
+#[tactic(auto, using(crate::proofs::Marks::row_most))]
+pub fn block_exists(marks: &[bool; PLACES], block: usize) -> bool
     requires { (1 ≤ block) × (block ≤ blocks) }
     ensures { result ≡ block_marked marks.now block }
 {
     let row = index_of(Code::Rsk, block, 1);
-    for i in 0..BLOCK_PLACES {
-        if marks[row + i] != 0 {
-            return true;
-        }
-    }
-    false
+    marks[row..row + BLOCK_PLACES].contains(&true)
 }

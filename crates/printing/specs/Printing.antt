@@ -5,7 +5,8 @@ use Rattle.refusal.specs.Outcome.{printed, rule_number}
 use Rattle.refusal.specs.declared.Place.{Place}
 use Rattle.refusal.specs.declared.Refusal.{Refusal}
 use Rattle.guideline.specs.Sizes.{number_columns}
-use Rattle.report_line.specs.Line.{Row, row_in}
+use Rattle.report_line.specs.declared.Row.{Row}
+use Rattle.report_line.specs.Line.{row_in}
 use Rattle.printing.specs.Lent.{Text}
 use Rattle.printing.specs.Lent.Text.{no_text, bytes}
 

@@ -7,10 +7,11 @@ ghost use Rattle.report_line.specs.Line.{line_bytes, report_line_bytes, row_in};
 ghost use Rattle.printing.specs.Printing.{refusal_row, Shown};
 
 use refusal::Refusal;
-use report_line::REPORT_LINE_BYTES;
+use report_line::{REPORT_LINE_BYTES, Row};
 
 // What is printed after a call has answered by its text's length or by a refusal: the text that it left, or in front of the room the line of the
 // refusal. It gives how many bytes that is.
+// Kept: each of four calls and then this, two lines. A function over the call would be these two lines, with a clause of what a call leaves.
 pub fn print_answer(answer: Result<usize, Refusal>, room: &mut [u8]) -> usize
     requires { report_line_bytes ≤ length room.old }
     ensures { Shown answer result room.old room.new }
@@ -31,5 +32,11 @@ pub fn write_refusal(out: &mut [u8], refusal: Refusal)
 {
     let Refusal(rule, place) = refusal;
     let at: [u64; 2] = place.into();
-    report_line::write_line_in(out, *b"REF", rule.number(), 0, at[1]);
+    let row = Row {
+        code: *b"REF",
+        block: rule.number(),
+        item: 0,
+        number: at[1],
+    };
+    row.write_in(out);
 }

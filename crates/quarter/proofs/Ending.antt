@@ -1,7 +1,7 @@
 -- The end of an input: what follows the lines of the sheets, and that with them it is the whole text. Assumes nothing.
 use borrow.Rule.Slice.PartMut.{put_mid}
 use mathlib.Core.Path.{◌≡◌, refl, sym, ap, ◌∙◌}
-use mathlib.Core.Bool.{true, false}
+use Rattle.std.specs.Prelude.{Some, None, is_none}
 use mathlib.Core.List.{List, [], ◌∷◌, ◌++◌}
 use Prim.Native.Nat.{ℕ, suc, ◌+◌, ◌-◌, ◌≤◌}
 use native.Mathlib.Omega.{arith}
@@ -18,6 +18,7 @@ use Rattle.report_line.proofs.ReadBack.{length_in_lem, append_in}
 use Rattle.report.specs.Rows.{items_from}
 use Rattle.report.proofs.Items.{items_in_long}
 use Rattle.stream.specs.Sheets.{sheets_of, count}
+use Rattle.stream.specs.declared.Held.{Held}
 use Rattle.summary.specs.Together.{summary_of, items_of}
 use Rattle.summary.specs.declared.Summary.{Summary}
 use Rattle.quarter_lines.specs.Printout.{most_sheets, columns, SUM, answered, sheet_rows, accepted_of, closed_or25, ending, quarter_text}
@@ -71,16 +72,16 @@ module _ {out : List ℕ} {q : Quarter} {ys : List ℕ} {m : ℕ} (y : length ys
 -- ---- what it ends with
 
 module _ {s room out : List ℕ} {q : Quarter} (A : After s room out q) where
-  ends_24 : q.over ≡ true → row_in columns (refusal_row 24 (place.Sheet (q.sheets + 1))) ≡ rows_in columns (ending (sheets_of s))
+  ends_24 : q.held ≡ None → row_in columns (refusal_row 24 (place.Sheet (q.sheets + 1))) ≡ rows_in columns (ending (sheets_of s))
   unfolding ending count
-  ends_24 t =
-      let c = ltb-true most_sheets (count (sheets_of s)) (sym A.over ∙ t) in
+  ends_24 e =
+      let c = ltb-true most_sheets (count (sheets_of s)) (sym A.over ∙ ap is_none e) in
       let l : q.sheets ≡ most_sheets = A.sheets ∙ length-take-le most_sheets (sheets_of s).closed (omega (arith, one_least (sheets_of s).rest)) in
       let n : q.sheets + 1 ≡ suc most_sheets = omega arith in
-      ap (λ (k : ℕ). row_in columns (refusal_row 24 (place.Sheet k))) n ∙ sym (row_alone _) ∙ ap (rows_in columns) (sym (if_true _ (sym A.over ∙ t)))
+      ap (λ (k : ℕ). row_in columns (refusal_row 24 (place.Sheet k))) n ∙ sym (row_alone _) ∙ ap (rows_in columns) (sym (if_true _ (sym A.over ∙ ap is_none e)))
 
-  module _ (f : q.over ≡ false) where
-    ends_25 : (q.held.length ≡ 0 → ⊥) → row_in columns (refusal_row 25 (place.Sheet (q.sheets + 1))) ≡ rows_in columns (ending (sheets_of s))
+  module _ {h : Held} (f : q.held ≡ Some h) where
+    ends_25 : (h.length ≡ 0 → ⊥) → row_in columns (refusal_row 25 (place.Sheet (q.sheets + 1))) ≡ rows_in columns (ending (sheets_of s))
     unfolding closed_or25
     ends_25 d =
         let n : q.sheets + 1 ≡ suc (length (sheets_of s).closed) = omega (arith, how_many (to_going A f)) in
@@ -91,7 +92,7 @@ module _ {s room out : List ℕ} {q : Quarter} (A : After s room out q) where
         open_rest [] e = absurd (e refl)
         open_rest (b ∷ r) e = refl
 
-    ends_summary : q.held.length ≡ 0 → rows_in columns (items_from 1 SUM 0 (items_of q.summary)) ≡ rows_in columns (ending (sheets_of s))
+    ends_summary : h.length ≡ 0 → rows_in columns (items_from 1 SUM 0 (items_of q.summary)) ≡ rows_in columns (ending (sheets_of s))
     ends_summary z =
         let m : q.summary ≡ summary_of (accepted_of 1 (sheets_of s).closed) = A.summary ∙ ap (λ (xs : List (List ℕ)). summary_of (accepted_of 1 xs)) (all_answered s (to_going A f).few) in
         let e = summary_follows (sheets_of s) (to_going A f).few (rest_none (to_going A f) z) in
@@ -114,11 +115,12 @@ module _ (out : List ℕ) (q : Quarter) (left : lines_long q.sheets + lines_long
       let e = in_columns columns (line_stretch out q.sheets) REF n 0 (q.sheets + 1) (line_long out q.sheets left) y in
       finished (ap length e ∙ length_in_lem columns REF n 0 (q.sheets + 1) refl) (omega arith) (λ s room A. e ∙ ends s room A)
 
-  pub finished_24 : q.over ≡ true → (ys : List ℕ) → Refusal out q 24 ys → FinishedAfter out q (line_bytes columns) ys
-  finished_24 t ys = refused 24 ys (λ s room A. ends_24 A t)
+  pub finished_24 : q.held ≡ None → (ys : List ℕ) → Refusal out q 24 ys → FinishedAfter out q (line_bytes columns) ys
+  finished_24 e ys = refused 24 ys (λ s room A. ends_24 A e)
 
-  pub finished_25 : q.over ≡ false → (q.held.length ≡ 0 → ⊥) → (ys : List ℕ) → Refusal out q 25 ys → FinishedAfter out q (line_bytes columns) ys
+  pub finished_25 : {h : Held} → q.held ≡ Some h → (h.length ≡ 0 → ⊥) → (ys : List ℕ) → Refusal out q 25 ys → FinishedAfter out q (line_bytes columns) ys
   finished_25 f d ys = refused 25 ys (λ s room A. ends_25 A f d)
 
-  pub finished_summary : q.over ≡ false → q.held.length ≡ 0 → (ys : List ℕ) → ys ≡ rows_in columns (items_from 1 SUM 0 (items_of q.summary)) → FinishedAfter out q (lines_long 8) ys
+  pub finished_summary : {h : Held} → q.held ≡ Some h → h.length ≡ 0 → (ys : List ℕ) → ys ≡ rows_in columns (items_from 1 SUM 0 (items_of q.summary))
+      → FinishedAfter out q (lines_long 8) ys
   finished_summary f z ys e = finished (ap length e ∙ items_in_long SUM 0 columns refl 1 (items_of q.summary)) left (λ s room A. e ∙ ends_summary A f z)

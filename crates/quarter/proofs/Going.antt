@@ -2,18 +2,19 @@
 -- after the 60th closing line. The sheets are held cut at the room, which changes no line. Assumes nothing.
 use borrow.Rule.Slice.PartMut.{put_mid}
 use mathlib.Core.Path.{◌≡◌, refl, sym, ap, subst, ◌∙◌}
-use mathlib.Core.Bool.{Bool, true, false, true≢false}
 use mathlib.Core.List.{List, [], ◌∷◌, ◌++◌, map, append-nil}
 use Prim.Native.Nat.{ℕ, suc, ◌+◌, ◌-◌, ◌≤◌, ◌<◌}
 use native.Mathlib.Omega.{arith}
 use lib.Dec.{ltb}
+use Rattle.std.specs.Prelude.{Option, Some, None, is_none, IfSome}
 use borrow.Author.Tests.{ltb-true, ltb-false, le-ltb, lt-ltb}
 use lib.ListN.{length, get_or, take, drop, length-map, length-append}
 use lib.Seq.{take-nil, length-take-le, drop-cons}
 use Rattle.search.proofs.Stretches.{front, put_behind}
 use Rattle.judgement.specs.Judgement.{judgement}
 use Rattle.sheet_length.specs.Measured.{longest_sheet}
-use Rattle.report_line.specs.Line.{line_bytes, Row, row_in, rows_in}
+use Rattle.report_line.specs.declared.Row.{Row}
+use Rattle.report_line.specs.Line.{line_bytes, row_in, rows_in}
 use Rattle.report_line.proofs.ReadBack.{append_in}
 use Rattle.stream.specs.Sheets.{sheets_in, sheets_of, one, count}
 use Rattle.stream.specs.Steps.{Kept, Within, Fresh, SoFar, ScannedTo}
@@ -57,16 +58,16 @@ pub one_least : (r : List ℕ) → one r ≤ 1
 one_least [] = omega arith
 one_least (b ∷ r) = omega arith
 
-pub to_going : {s room out : List ℕ} {q : Quarter} → After s room out q → q.over ≡ false
-    → Going s (map (take (length room)) (answered s)) room out q.held q.sheets q.summary
-to_going {s} {room} {out} {q} A f =
+pub to_going : {s room out : List ℕ} {q : Quarter} {h : Held} → After s room out q → q.held ≡ Some h
+    → Going s (map (take (length room)) (answered s)) room out h q.sheets q.summary
+to_going {s} {room} {out} {q} A e =
     record {
-      so_far = A.held f;
-      within = A.within f;
+      so_far = subst (λ (o : Option Held). IfSome o (λ k. SoFar room k s (map (take (length room)) (answered s)))) e A.held;
+      within = subst (λ (o : Option Held). IfSome o (Within (length room))) e A.within;
       room_long = A.room_long;
       out_long = A.out_long;
       sheets = A.sheets ∙ sym (length-map (answered s) (take (length room)));
-      few = ltb-false most_sheets (count (sheets_of s)) (sym A.over ∙ f);
+      few = ltb-false most_sheets (count (sheets_of s)) (sym A.over ∙ ap is_none e);
       lines = A.lines ∙ ap (rows_in columns) (sym (rows_cut 1 (answered s)) ∙ ap (λ (n : ℕ). sheet_rows 1 (map (take n) (answered s))) (sym A.room_long));
       summary = A.summary ∙ ap summary_of (sym (accepted_cut 1 (answered s)) ∙ ap (λ (n : ℕ). accepted_of 1 (map (take n) (answered s))) (sym A.room_long));
     }
@@ -82,11 +83,11 @@ module _ {s : List ℕ} {xs : List (List ℕ)} {room out : List ℕ} {h : Held} 
   pub how_many : n ≡ length (sheets_of s).closed
   how_many = G.sheets ∙ ap length (so_far_closed G.so_far) ∙ length-map (sheets_of s).closed (take (length room))
 
-  -- so far, with either answer to whether there are more than 60 of some more bytes that have the same sheets
-  pub as_after : {u : List ℕ} {k : Held} {o : Bool} → o ≡ ltb most_sheets (count (sheets_of u)) → answered u ≡ answered s
-      → (o ≡ false → SoFar room k u (map (take (length room)) (answered u))) → (o ≡ false → Within (length room) k)
-      → After u room out (record { held = k; sheets = n; over = o; summary = m })
-  as_after {u} {k} {o} v a f w =
+  -- so far, with what is held of some more bytes that have the same sheets: something, or nothing where there are more than 60
+  pub as_after : {u : List ℕ} (o : Option Held) → is_none o ≡ ltb most_sheets (count (sheets_of u)) → answered u ≡ answered s
+      → IfSome o (λ k. SoFar room k u (map (take (length room)) (answered u))) → IfSome o (Within (length room))
+      → After u room out (record { held = o; sheets = n; summary = m })
+  as_after {u} o v a f w =
       record {
         over = v;
         sheets = how_many ∙ ap length (sym (all_answered s G.few) ∙ sym a);
@@ -98,8 +99,8 @@ module _ {s : List ℕ} {xs : List (List ℕ)} {room out : List ℕ} {h : Held} 
         out_long = G.out_long;
       }
 
-  pub from_going : After s room out (record { held = h; sheets = n; over = false; summary = m })
-  from_going = as_after (sym (le-ltb _ _ G.few)) refl (λ e. subst (λ (ys : List (List ℕ)). SoFar room h s ys) cut_sheets G.so_far) (λ e. G.within)
+  pub from_going : After s room out (record { held = Some h; sheets = n; summary = m })
+  from_going = as_after (Some h) (sym (le-ltb _ _ G.few)) refl (subst (λ (ys : List (List ℕ)). SoFar room h s ys) cut_sheets G.so_far) G.within
 
   pub not_many : length xs ≤ most_sheets
   unfolding count
@@ -124,7 +125,8 @@ module _ {s : List ℕ} {xs : List (List ℕ)} {room out : List ℕ} {h : Held} 
   -- ---- a chunk more
 
   -- a byte after the 60th closing line
-  pub too_many : (chunk : List ℕ) (at : ℕ) → n ≡ most_sheets → at < length chunk → After (s ++ drop at chunk) room out (record { held = h; sheets = n; over = true; summary = m })
+  pub too_many : (chunk : List ℕ) (at : ℕ) → n ≡ most_sheets → at < length chunk
+      → After (s ++ drop at chunk) room out (record { held = None; sheets = n; summary = m })
   unfolding count
   too_many chunk at e l =
       let z : one (sheets_of s).rest ≡ 0 = omega (arith, G.few, how_many) in
@@ -134,7 +136,7 @@ module _ {s : List ℕ} {xs : List (List ℕ)} {room out : List ℕ} {h : Held} 
       let v : most_sheets < count (sheets_of (s ++ drop at chunk)) = rw d (omega (arith, b.0)) in
       let w : answered (s ++ drop at chunk) ≡ answered s =
       rw d (ap (λ (k : ℕ). take k (sheets_of (s ++ (get_or chunk at 0 ∷ drop (suc at) chunk))).closed) (sym c) ∙ b.1 ∙ sym (all_answered s G.few)) in
-      as_after (sym (lt-ltb _ _ v)) w (λ f. absurd (true≢false f)) (λ f. absurd (true≢false f))
+      as_after None (sym (lt-ltb _ _ v)) w tt tt
 
   module _ {chunk : List ℕ} {at : ℕ} where
     module _ {r : ControlFlow Closed Held} {after : List ℕ} (T : ScannedTo room h chunk at r after) (long : length after ≡ length room) where
@@ -181,7 +183,8 @@ module _ {s : List ℕ} {xs : List (List ℕ)} {room out : List ℕ} {h : Held} 
             let W = put_behind (lines_long n) out G.lines (line_bytes columns) ys B l in
             let w : lines_long (n + 1) ≡ lines_long n + line_bytes columns = omega arith in
             let p : rows_in columns (sheet_rows 1 (xs ++ (x ∷ []))) ≡ rows_in columns (sheet_rows 1 xs) ++ ys =
-            ap (rows_in columns) (rows_more 1 xs x ∙ ap (λ (v : ℕ). sheet_rows 1 xs ++ (sheet_row v (judgement x) ∷ [])) q) ∙ append_in columns (sheet_rows 1 xs) (sheet_row (n + 1) (judgement x) ∷ [])
+            ap (rows_in columns) (rows_more 1 xs x ∙ ap (λ (v : ℕ). sheet_rows 1 xs ++ (sheet_row v (judgement x) ∷ [])) q)
+            ∙ append_in columns (sheet_rows 1 xs) (sheet_row (n + 1) (judgement x) ∷ [])
             ∙ ap (λ (v : List ℕ). rows_in columns (sheet_rows 1 xs) ++ v) (row_alone (sheet_row (n + 1) (judgement x)) ∙ sym y) in
             let c : length (sheets_of u).closed ≡ length (xs ++ (x ∷ [])) = sym (ap length (so_far_closed S) ∙ length-map (sheets_of u).closed (take (length after))) in
             let r : take (suc longest_sheet) (sheets_of u).rest ≡ [] =
@@ -203,7 +206,7 @@ module _ {s : List ℕ} {xs : List (List ℕ)} {room out : List ℕ} {h : Held} 
 
 -- before any byte
 pub at_start : (room out : List ℕ) (k : Held) {m : Summary} → length room ≡ suc longest_sheet → length out ≡ longest_output → Fresh k → m ≡ summary_of []
-    → After [] room out (record { held = k; sheets = 0; over = false; summary = m })
+    → After [] room out (record { held = Some k; sheets = 0; summary = m })
 unfolding count sheets_in sheet_rows rows_in accepted_of
 at_start room out k l o f e =
     from_going (record {
@@ -219,16 +222,16 @@ at_start room out k l o f e =
 
 -- ---- what there was more than 60 sheets of already
 
-pub still_over : {s room out : List ℕ} {q : Quarter} (chunk : List ℕ) → After s room out q → q.over ≡ true → After (s ++ chunk) room out q
-still_over {s} {room} {out} {q} chunk A t =
-    let M = still_more most_sheets s chunk (ltb-true _ _ (sym A.over ∙ t)) in
+pub still_over : {s room out : List ℕ} {q : Quarter} (chunk : List ℕ) → After s room out q → q.held ≡ None → After (s ++ chunk) room out q
+still_over {s} {room} {out} {q} chunk A e =
+    let M = still_more most_sheets s chunk (ltb-true _ _ (sym A.over ∙ ap is_none e)) in
     record {
-      over = t ∙ sym (lt-ltb _ _ M.0);
+      over = ap is_none e ∙ sym (lt-ltb _ _ M.0);
       sheets = A.sheets ∙ ap length (sym M.1);
       lines = A.lines ∙ ap (λ (xs : List (List ℕ)). rows_in columns (sheet_rows 1 xs)) (sym M.1);
       summary = A.summary ∙ ap (λ (xs : List (List ℕ)). summary_of (accepted_of 1 xs)) (sym M.1);
-      held = λ f. absurd (true≢false (sym t ∙ f));
-      within = λ f. absurd (true≢false (sym t ∙ f));
+      held = subst (λ (o : Option Held). IfSome o (λ k. SoFar room k (s ++ chunk) (map (take (length room)) (answered (s ++ chunk))))) (sym e) tt;
+      within = subst (λ (o : Option Held). IfSome o (Within (length room))) (sym e) tt;
       room_long = A.room_long;
       out_long = A.out_long;
     }

@@ -1,11 +1,11 @@
 -- A chunk taken sheet after sheet, whichever bytes came before it. Assumes nothing.
 use borrow.Rule.Slice.PartMut.{put_mid}
 use mathlib.Core.Path.{◌≡◌, refl, sym, ap, subst, ◌∙◌}
-use mathlib.Core.Bool.{Bool, true, false}
 use mathlib.Core.List.{List, ◌++◌, append_assoc, append-nil}
 use Prim.Native.Nat.{ℕ, ◌+◌, ◌-◌, ◌≤◌, ◌<◌}
 use native.Mathlib.Omega.{arith}
 use lib.ListN.{length, take, drop, drop_of_length-le}
+use Rattle.std.specs.Prelude.{Option, Some, None}
 use Rattle.search.proofs.Stretches.{behind, put_behind, from_further}
 use Rattle.judgement.specs.Judgement.{judgement}
 use Rattle.report_line.specs.Line.{line_bytes, row_in}
@@ -23,9 +23,9 @@ use Rattle.quarter.specs.declared.Quarter.{Quarter}
 use Rattle.quarter_lines.proofs.Rows.{row_long}
 use Rattle.quarter.proofs.Going.{Going, to_going, from_going, not_many, few_so_far, too_many, goes_on, closed_within, next_sheet, still_over}
 
--- what is known, where there are not more than 60 sheets, and where there are
-abbrev pub known : Bool → Held → ℕ → Summary → Quarter
-known o h n m = record { held = h; sheets = n; over = o; summary = m }
+-- what is known: with what is held, or where there are more than 60 sheets
+abbrev pub known : Option Held → ℕ → Summary → Quarter
+known o n m = record { held = o; sheets = n; summary = m }
 
 -- ---- of the bytes s and a chunk, up to a place of the chunk
 
@@ -35,27 +35,28 @@ pub record Reached (s chunk : List ℕ) (at : ℕ) (room out : List ℕ) (h : He
   pub joins : bytes ++ drop at chunk ≡ s ++ chunk
   pub going : Going bytes cut room out h n m
 
-pub begins : {s room out : List ℕ} {q : Quarter} (chunk : List ℕ) → After s room out q → q.over ≡ false
-    → Reached s chunk 0 room out q.held q.sheets q.summary
-begins {s} chunk A f = record { bytes = s; cut = _; joins = refl; going = to_going A f }
+pub begins : {s room out : List ℕ} {q : Quarter} {h : Held} (chunk : List ℕ) → After s room out q → q.held ≡ Some h
+    → Reached s chunk 0 room out h q.sheets q.summary
+begins {s} chunk A e = record { bytes = s; cut = _; joins = refl; going = to_going A e }
 
 module _ {s chunk : List ℕ} {at : ℕ} {room out : List ℕ} {h : Held} {n : ℕ} {m : Summary} (R : Reached s chunk at room out h n m) where
-  pub reached_end : length chunk ≤ at → After (s ++ chunk) room out (known false h n m)
+  pub reached_end : length chunk ≤ at → After (s ++ chunk) room out (known (Some h) n m)
   reached_end l =
       let e : R.bytes ≡ s ++ chunk = sym (append-nil R.bytes) ∙ ap (λ (r : List ℕ). R.bytes ++ r) (sym (drop_of_length-le chunk l)) ∙ R.joins in
-      subst (λ (u : List ℕ). After u room out (known false h n m)) e (from_going R.going)
+      subst (λ (u : List ℕ). After u room out (known (Some h) n m)) e (from_going R.going)
 
-  pub reached_many : n ≡ most_sheets → at < length chunk → After (s ++ chunk) room out (known true h n m)
+  pub reached_many : n ≡ most_sheets → at < length chunk → After (s ++ chunk) room out (known None n m)
   reached_many e l =
-      subst (λ (u : List ℕ). After u room out (known true h n m)) R.joins (too_many R.going chunk at e l)
+      subst (λ (u : List ℕ). After u room out (known None n m)) R.joins (too_many R.going chunk at e l)
 
   module _ {r : ControlFlow Closed Held} {after : List ℕ} (T : ScannedTo room h chunk at r after) (long : length after ≡ length room) (d : n ≡ most_sheets → ⊥) where
-    pub reached_on : {k : Held} → r ≡ Continue k → After (s ++ chunk) after out (known false k n m)
+    pub reached_on : {k : Held} → r ≡ Continue k → After (s ++ chunk) after out (known (Some k) n m)
     reached_on {k} e =
-        subst (λ (u : List ℕ). After u after out (known false k n m)) R.joins (from_going (goes_on R.going T long e d))
+        subst (λ (u : List ℕ). After u after out (known (Some k) n m)) R.joins (from_going (goes_on R.going T long e d))
 
-    pub reached_next : {j i : ℕ} → r ≡ Break (record { length = j; next = i }) → {ys : List ℕ} {k : Held} {m' : Summary} → ys ≡ row_in columns (sheet_row (n + 1) (judgement (take j after)))
-        → Fresh k → ((zs : List Accepted) → m ≡ summary_of zs → m' ≡ summary_of (zs ++ accepted_as (n + 1) (judgement (take j after))))
+    pub reached_next : {j i : ℕ} → r ≡ Break (record { length = j; next = i }) → {ys : List ℕ} {k : Held} {m' : Summary}
+        → ys ≡ row_in columns (sheet_row (n + 1) (judgement (take j after))) → Fresh k
+        → ((zs : List Accepted) → m ≡ summary_of zs → m' ≡ summary_of (zs ++ accepted_as (n + 1) (judgement (take j after))))
         → Reached s chunk i after (put_mid (lines_long n) (lines_long n + line_bytes columns - lines_long n) out ys) k (n + 1) m'
     reached_next {j} {i} e y f a =
         let N = next_sheet R.going T long e d y f a in
@@ -67,7 +68,8 @@ module _ {s chunk : List ℕ} {at : ℕ} {room out : List ℕ} {h : Held} {n : �
         }
 
 -- the output behind the lines, after one more
-pub behind_more : (out₀ out ys : List ℕ) (n : ℕ) → lines_long n + line_bytes columns ≤ length out → length ys ≡ line_bytes columns → drop (lines_long n) out ≡ drop (lines_long n) out₀
+pub behind_more : (out₀ out ys : List ℕ) (n : ℕ) → lines_long n + line_bytes columns ≤ length out → length ys ≡ line_bytes columns
+    → drop (lines_long n) out ≡ drop (lines_long n) out₀
     → drop (lines_long (n + 1)) (put_mid (lines_long n) (lines_long n + line_bytes columns - lines_long n) out ys) ≡ drop (lines_long (n + 1)) out₀
 behind_more out₀ out ys n h l e =
     let w : lines_long (n + 1) ≡ lines_long n + line_bytes columns = omega arith in
@@ -78,41 +80,35 @@ behind_more out₀ out ys n h l e =
 
 -- the chunk is taken up to `at`; some bytes that came before are named, for what they leave of the rooms
 pub record Taking (room₀ out₀ : List ℕ) (h₀ : Held) (n₀ : ℕ) (m₀ : Summary) (chunk room out : List ℕ) (h : Held) (n : ℕ) (m : Summary) (at : ℕ) : Type 0 where
-  pub begun : Begun room₀ out₀ (known false h₀ n₀ m₀)
+  pub begun : Begun room₀ out₀ (known (Some h₀) n₀ m₀)
   pub some : at ≤ length chunk
   pub more : n₀ ≤ n
   pub behind : drop (lines_long n) out ≡ drop (lines_long n) out₀
-  pub reached : (s : List ℕ) → After s room₀ out₀ (known false h₀ n₀ m₀) → Reached s chunk at room out h n m
+  pub reached : (s : List ℕ) → After s room₀ out₀ (known (Some h₀) n₀ m₀) → Reached s chunk at room out h n m
 
--- the state that a call is lent, where its answer to 'more than 60' is no
-module _ {room₀ out₀ : List ℕ} {q : Quarter} (f : q.over ≡ false) where
-  pub at_first : (chunk : List ℕ) → Begun room₀ out₀ q → Taking room₀ out₀ q.held q.sheets q.summary chunk room₀ out₀ q.held q.sheets q.summary 0
+-- the state that a call is lent, where something is held
+module _ {room₀ out₀ : List ℕ} {q : Quarter} {h : Held} (e : q.held ≡ Some h) where
+  pub at_first : (chunk : List ℕ) → Begun room₀ out₀ q → Taking room₀ out₀ h q.sheets q.summary chunk room₀ out₀ h q.sheets q.summary 0
   at_first chunk B =
       record {
-        begun = subst (λ (o : Bool). Begun room₀ out₀ (known o q.held q.sheets q.summary)) f B;
+        begun = subst (λ (o : Option Held). Begun room₀ out₀ (known o q.sheets q.summary)) e B;
         some = omega arith;
         more = omega arith;
         behind = refl;
         reached = λ s A. begins chunk A refl;
       }
 
-  pub of_false : {chunk room out : List ℕ} {r : Quarter} → Taken room₀ out₀ (known false q.held q.sheets q.summary) chunk room out r
+  pub of_held : {chunk room out : List ℕ} {r : Quarter} → Taken room₀ out₀ (known (Some h) q.sheets q.summary) chunk room out r
       → Taken room₀ out₀ q chunk room out r
-  of_false {chunk} {room} {out} {r} T = subst (λ (o : Bool). Taken room₀ out₀ (known o q.held q.sheets q.summary) chunk room out r) (sym f) T
+  of_held {chunk} {room} {out} {r} T = subst (λ (o : Option Held). Taken room₀ out₀ (known o q.sheets q.summary) chunk room out r) (sym e) T
 
 module _ {room₀ out₀ : List ℕ} {h₀ : Held} {n₀ : ℕ} {m₀ : Summary} {chunk room out : List ℕ} {h : Held} {n : ℕ} {m : Summary} {at : ℕ}
     (T : Taking room₀ out₀ h₀ n₀ m₀ chunk room out h n m at) where
   here : Reached T.begun.0 chunk at room out h n m
   here = T.reached T.begun.0 T.begun.1
 
-  pub rooms : length room ≡ length room₀
-  rooms = here.going.room_long ∙ sym T.begun.1.room_long
-
   pub out_is : length out ≡ longest_output
   out_is = here.going.out_long
-
-  pub outs : length out ≡ length out₀
-  outs = out_is ∙ sym T.begun.1.out_long
 
   pub held_within : Within (length room) h
   held_within = here.going.within
@@ -123,21 +119,22 @@ module _ {room₀ out₀ : List ℕ} {h₀ : Held} {n₀ : ℕ} {m₀ : Summary}
   pub line_fits : (n ≡ most_sheets → ⊥) → lines_long n + line_bytes columns ≤ length out
   line_fits d = omega (arith, here.going.out_long, not_many here.going, here.going.sheets)
 
-  pub taken_all : length chunk ≤ at → Taken room₀ out₀ (known false h₀ n₀ m₀) chunk room out (known false h n m)
+  pub taken_all : length chunk ≤ at → Taken room₀ out₀ (known (Some h₀) n₀ m₀) chunk room out (known (Some h) n m)
   taken_all l = record { after = λ s A. reached_end (T.reached s A) l; more = T.more; behind = T.behind }
 
-  pub taken_many : n ≡ most_sheets → at < length chunk → Taken room₀ out₀ (known false h₀ n₀ m₀) chunk room out (known true h n m)
+  pub taken_many : n ≡ most_sheets → at < length chunk → Taken room₀ out₀ (known (Some h₀) n₀ m₀) chunk room out (known None n m)
   taken_many e l = record { after = λ s A. reached_many (T.reached s A) e l; more = T.more; behind = T.behind }
 
   module _ {r : ControlFlow Closed Held} {after : List ℕ} (S : ScannedTo room h chunk at r after) (long : length after ≡ length room) (d : n ≡ most_sheets → ⊥) where
-    pub taken_on : {k : Held} → r ≡ Continue k → Taken room₀ out₀ (known false h₀ n₀ m₀) chunk after out (known false k n m)
+    pub taken_on : {k : Held} → r ≡ Continue k → Taken room₀ out₀ (known (Some h₀) n₀ m₀) chunk after out (known (Some k) n m)
     taken_on e = record { after = λ s A. reached_on (T.reached s A) S long d e; more = T.more; behind = T.behind }
 
     pub closed_at : {j i : ℕ} → r ≡ Break (record { length = j; next = i }) → (j ≤ length after) × (at < i) × (i ≤ length chunk)
     closed_at e = closed_within here.going S long e
 
-    pub taken_next : {j i : ℕ} → r ≡ Break (record { length = j; next = i }) → {ys : List ℕ} {k : Held} {m' : Summary} → ys ≡ row_in columns (sheet_row (n + 1) (judgement (take j after)))
-        → Fresh k → ((zs : List Accepted) → m ≡ summary_of zs → m' ≡ summary_of (zs ++ accepted_as (n + 1) (judgement (take j after))))
+    pub taken_next : {j i : ℕ} → r ≡ Break (record { length = j; next = i }) → {ys : List ℕ} {k : Held} {m' : Summary}
+        → ys ≡ row_in columns (sheet_row (n + 1) (judgement (take j after))) → Fresh k
+        → ((zs : List Accepted) → m ≡ summary_of zs → m' ≡ summary_of (zs ++ accepted_as (n + 1) (judgement (take j after))))
         → Taking room₀ out₀ h₀ n₀ m₀ chunk after (put_mid (lines_long n) (lines_long n + line_bytes columns - lines_long n) out ys) k (n + 1) m' i
     taken_next {j} {i} e {ys} y f a =
         record {
@@ -150,5 +147,5 @@ module _ {room₀ out₀ : List ℕ} {h₀ : Held} {n₀ : ℕ} {m₀ : Summary}
 
 -- ---- a state that has more than 60 sheets already
 
-pub taken_over : (room out chunk : List ℕ) (q : Quarter) → q.over ≡ true → Taken room out q chunk room out q
-taken_over room out chunk q t = record { after = λ s A. still_over chunk A t; more = omega arith; behind = refl }
+pub taken_over : (room out chunk : List ℕ) (q : Quarter) → q.held ≡ None → Taken room out q chunk room out q
+taken_over room out chunk q e = record { after = λ s A. still_over chunk A e; more = omega arith; behind = refl }

@@ -1,6 +1,6 @@
 -- What the steps hand on to one another: an input is taken a chunk at a time, and what is known afterwards is fixed by the bytes that it had so far, not
 -- by how they were cut. Assumes nothing.
-use Rattle.std.specs.Prelude.{◌≡◌, false, List, [], ◌∷◌, ◌++◌, map, ℕ, suc, ◌+◌, ◌*◌, ◌≤◌, ltb, length, take, drop}
+use Rattle.std.specs.Prelude.{◌≡◌, is_none, IfSome, List, [], ◌∷◌, ◌++◌, map, ℕ, suc, ◌+◌, ◌*◌, ◌≤◌, ltb, length, take, drop}
 use Rattle.report_line.specs.Line.{line_bytes, rows_in}
 use Rattle.sheet_length.specs.Measured.{longest_sheet}
 use Rattle.stream.specs.Sheets.{sheets_of, count}
@@ -19,16 +19,16 @@ lines_long n = line_bytes columns * n
 abbrev pub longest_output : ℕ
 longest_output = lines_long (most_sheets + 8)
 
--- after the bytes s of an input: whether there are more than 60 sheets; how many sheets are answered, their lines in front of the output, and what they
--- come to together; and, as long as there are not more, what the room holds of the sheet that is not closed. The room has a byte more than the longest
--- sheet, and the output a line for each sheet and the summary
+-- after the bytes s of an input: whether there are more than 60 sheets, where nothing is held; how many sheets are answered, their lines in front of
+-- the output, and what they come to together; and, as long as there are not more, what the room holds of the sheet that is not closed. The room has a
+-- byte more than the longest sheet, and the output a line for each sheet and the summary
 pub record After (s room out : List ℕ) (q : Quarter) : Type 0 where
-  pub over : q.over ≡ ltb most_sheets (count (sheets_of s))
+  pub over : is_none q.held ≡ ltb most_sheets (count (sheets_of s))
   pub sheets : q.sheets ≡ length (answered s)
   pub lines : take (lines_long q.sheets) out ≡ rows_in columns (sheet_rows 1 (answered s))
   pub summary : q.summary ≡ summary_of (accepted_of 1 (answered s))
-  pub held : q.over ≡ false → SoFar room q.held s (map (take (length room)) (answered s))
-  pub within : q.over ≡ false → Within (length room) q.held
+  pub held : IfSome q.held (λ h. SoFar room h s (map (take (length room)) (answered s)))
+  pub within : IfSome q.held (Within (length room))
   pub room_long : length room ≡ suc longest_sheet
   pub out_long : length out ≡ longest_output
 

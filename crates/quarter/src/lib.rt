@@ -19,14 +19,13 @@ pub const SHEET_ROOM: usize = LONGEST_SHEET + 1;
 // A line for each sheet, and the summary.
 pub const OUTPUT_ROOM: usize = LINE_BYTES * (MOST_SHEETS + SUMMARY_ITEMS);
 
-// What is known of an input so far: the sheet that is not closed yet, how many were answered, whether a byte stood after the last closing line that an
-// input may have, and the summary.
-// Kept: the room and the output are no fields of it, since the memory is the program's, which lends it to each call.
+// What is known of an input so far: the sheet that is not closed yet, or none once a byte stood after the last closing line that an input may have;
+// how many sheets were answered; and the summary.
+// Kept: the room and the output are no fields of it: owned, their bytes would move with it; lent, each signature would have a lifetime.
 #[derive(Clone, Copy)]
 pub struct Quarter {
-    pub held: Held,
+    pub held: Option<Held>,
     pub sheets: usize,
-    pub over: bool,
     pub summary: Summary,
 }
 
@@ -35,14 +34,13 @@ pub fn start() -> Quarter
     ensures { (room out : List ℕ) → length room ≡ suc longest_sheet → length out ≡ longest_output → After [] room out result }
 {
     Quarter {
-        held: stream::fresh(),
+        held: Some(stream::fresh()),
         sheets: 0,
-        over: false,
         summary: summary::none(),
     }
 }
 
-// The bytes of a chunk more. Nothing more is done once there are too many sheets.
+// The bytes of a chunk more, sheet after sheet. Nothing more is done once there are too many sheets.
 pub fn take_chunk(
     room: &mut [u8; SHEET_ROOM],
     out: &mut [u8; OUTPUT_ROOM],
@@ -52,38 +50,25 @@ pub fn take_chunk(
     requires { Begun room.old out.old q }
     ensures { Taken room.old out.old q chunk.now room.new out.new result }
 {
-    if q.over {
+    let Some(mut held) = q.held else {
         return q;
-    }
-    take_bytes(room, out, q, chunk)
-}
-
-// The same, sheet after sheet, where there are not too many yet.
-fn take_bytes(room: &mut [u8], out: &mut [u8], q: Quarter, chunk: &[u8]) -> Quarter
-    requires begun { Begun room.old out.old q }
-    requires not_over { q.over ≡ false }
-    ensures { Taken room.old out.old q chunk.now room.new out.new result }
-{
-    let mut held = q.held;
+    };
     let mut sheets = q.sheets;
     let mut summary = q.summary;
     let mut at = 0usize;
     while at < chunk.len() {
         if sheets == MOST_SHEETS {
             return Quarter {
-                held,
+                held: None,
                 sheets,
-                over: true,
                 summary,
             };
         }
-        let fed = stream::feed(room, held, chunk, at);
-        match fed {
+        match stream::feed(room, held, chunk, at) {
             ControlFlow::Continue(h) => {
                 return Quarter {
-                    held: h,
+                    held: Some(h),
                     sheets,
-                    over: false,
                     summary,
                 };
             }
@@ -102,9 +87,8 @@ fn take_bytes(room: &mut [u8], out: &mut [u8], q: Quarter, chunk: &[u8]) -> Quar
         }
     }
     Quarter {
-        held,
+        held: Some(held),
         sheets,
-        over: false,
         summary,
     }
 }
@@ -114,26 +98,16 @@ pub fn finish(out: &mut [u8; OUTPUT_ROOM], q: Quarter) -> usize
     requires { BegunIn out.old q }
     ensures { Finished out.old q result out.new }
 {
-    end_text(out, q)
-}
-
-// The same, in an output of as many bytes.
-// Kept: beside `finish`, since a part of an array behind a reference gets no proof, and a part of a slice does.
-fn end_text(out: &mut [u8], q: Quarter) -> usize
-    requires { BegunIn out.old q }
-    ensures { Finished out.old q result out.new }
-{
-    let held = q.held;
     let sheets = q.sheets;
     let from = LINE_BYTES * sheets;
     let line = from + LINE_BYTES;
-    if q.over {
+    let Some(held) = q.held else {
         printing::write_refusal(
             &mut out[from..line],
             Refusal(Rule::TooManySheets, Place::Sheet(sheets + 1)),
         );
         return line;
-    }
+    };
     if held.length != 0 {
         printing::write_refusal(
             &mut out[from..line],

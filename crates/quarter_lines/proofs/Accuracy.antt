@@ -21,7 +21,8 @@ use Rattle.judgement.specs.Judgement.{Judgement, judgement}
 use Rattle.judgement.specs.Judgement.Judgement.{turned_away, sound}
 use Rattle.judgement.proofs.Accepted.{sound_accepted, numbered}
 use Rattle.sheet_buffer.proofs.Answers.{buffer_most}
-use Rattle.report_line.specs.Line.{Row, rows_in, equal_bytes, found_at}
+use Rattle.report_line.specs.declared.Row.{Row}
+use Rattle.report_line.specs.Line.{rows_in, equal_bytes, found_at}
 use Rattle.report_line.proofs.ReadBack.{PrintableIn, row_is, number_among, read_in}
 use Rattle.printing.proofs.Lent.{refusal_row_fits}
 use Rattle.report.specs.Rows.{row, items_from}

@@ -10,7 +10,8 @@ use Rattle.judgement.specs.Sheet.{sheet_of}
 use Rattle.judgement.specs.Judgement.{Judgement, judgement}
 use Rattle.judgement.specs.Judgement.Judgement.{turned_away, sound}
 use Rattle.sheet_buffer.specs.Answer.{most_buffer}
-use Rattle.report_line.specs.Line.{Row, rows_in}
+use Rattle.report_line.specs.declared.Row.{Row}
+use Rattle.report_line.specs.Line.{rows_in}
 use Rattle.printing.specs.Printing.{refusal_row}
 use Rattle.report.specs.Rows.{row, items_from}
 use Rattle.stream.specs.Sheets.{Sheets, sheets_of, count}

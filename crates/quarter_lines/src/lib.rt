@@ -8,6 +8,7 @@ ghost use Rattle.summary.specs.Together.{summary_of};
 ghost use Rattle.summary.specs.declared.Accepted.{Accepted};
 ghost use Rattle.quarter_lines.specs.Printout.{columns, Few, sheet_row, accepted_as};
 
+use report_line::Row;
 use summary::{Accepted, Summary};
 
 // The most sheets that an input may have.
@@ -25,7 +26,13 @@ pub fn answer_sheet(sheet: &[u8], line: &mut [u8], number: usize, summary: Summa
     match sheet_buffer::buffer_of(sheet) {
         Ok(buffer) => {
             let n = cast::word(number);
-            report_line::write_line_in(line, *b"SHT", n, 1, buffer);
+            let row = Row {
+                code: *b"SHT",
+                block: n,
+                item: 1,
+                number: buffer,
+            };
+            row.write_in(line);
             summary::with_sheet(summary, Accepted { sheet: n, buffer })
         }
         Err(refusal) => {

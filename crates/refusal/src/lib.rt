@@ -5,6 +5,7 @@ ghost use Rattle.std.specs.Prelude.{◌≡◌};
 ghost use Rattle.refusal.specs.Outcome.{place_of, rule_number};
 
 // The kind of a place: nowhere, a line, a position, a risk, a sheet.
+// Kept: numbers, since the C interface has them: include/tsav.h says what each stands for.
 const NOWHERE: u64 = 0;
 
 // A line of the sheet.
@@ -31,11 +32,11 @@ pub enum Place {
 }
 
 // A rule that turns an input away, in the order of the numbers.
-#[derive(Clone, Copy, PartialEq, Eq)]
+#[derive(Clone, Copy)]
 pub enum Rule {
-    // 1: a sheet has more lines than there can be
+    // 1: a sheet has more bytes than the longest that there can be
     SheetTooLong,
-    // 2: an input is not of whole lines
+    // 2: a sheet is not of whole lines, or the movement call's input is not of its 18
     NotWholeLines,
     // 3: a line's columns break the layout
     BrokenLayout,

@@ -7,7 +7,7 @@ use native.Mathlib.Nat.{add-zero, mul-le-mul_left}
 use native.Mathlib.Numerals.{add-one}
 use native.Mathlib.Omega.{arith}
 use lib.ListN.{length, get_or, take, drop, length-append}
-use lib.Seq.{take-suc, take_all, length-take-le}
+use lib.Seq.{take-suc, length-take-le}
 use Rattle.search.proofs.Stretches.{Wrote, nothing, lent_part, all_written}
 use Rattle.search.proofs.Stretches as lent
 use Rattle.guideline.specs.Sizes.{number_columns}
@@ -67,9 +67,3 @@ module _ (c : List ℕ) (b : ℕ) where
             some = omega arith;
             front = rw (a, p) (lent_part I.front n ys (omega (arith, stretch, I.front.long)) y);
           }
-
-    pub all_items : length ns ≤ k → l ≡ rows_in (n - line_bytes 0) (items_from 1 c b ns)
-    all_items h =
-        let e : k ≡ length ns = omega (arith, I.some) in
-        let a : length l₀ ≤ n * k = omega (arith, ap (λ (j : ℕ). n * j) e) in
-        all_written I.front a ∙ rw (take_all k ns h)

@@ -15,11 +15,13 @@ use Rattle.search.proofs.Eaches.{each_append}
 use Rattle.search.proofs.Ascents.{each_ascending}
 use Rattle.std.specs.Prelude.{Option, Some}
 use Rattle.guideline.specs.Sizes.{blocks, block_figures, number_columns, FitsColumns}
-use Rattle.report_line.specs.Line.{Row, print_rows, equal_bytes, number_at}
+use Rattle.report_line.specs.declared.Row.{Row}
+use Rattle.report_line.specs.Line.{print_rows, equal_bytes, number_at}
 use Rattle.report_line.proofs.ReadBack.{PrintableIn, Printable, row_is, number_among, rows_read}
 use Rattle.report.specs.Rows.{BLK, TOT, row, items_from, block_rows, total_rows}
 
-pub items_printable : (w : ℕ) (c : List ℕ) (b i : ℕ) (ns : List ℕ) → length c ≡ 3 → b < 100 → i + length ns ≤ 100 → Each (λ n. n < 10 ^ w) ns → Each (PrintableIn w) (items_from i c b ns)
+pub items_printable : (w : ℕ) (c : List ℕ) (b i : ℕ) (ns : List ℕ) → length c ≡ 3 → b < 100 → i + length ns ≤ 100 → Each (λ n. n < 10 ^ w) ns
+    → Each (PrintableIn w) (items_from i c b ns)
 unfolding items_from
 items_printable w c b i [] h k l f = tt
 items_printable w c b i (n ∷ ns) h k l f =
@@ -68,7 +70,8 @@ module _ (exists : ℕ → Bool) (f : ℕ → List ℕ) where
   lines_to n = ascending exists (λ b. block_rows b (f b)) n
 
   -- the lines up to block n leave what is looked for to those after them
-  passed : (c : List ℕ) (b i n : ℕ) → ((b' : ℕ) → b' ≤ n → (z : Option ℕ) → number_among (block_rows b' (f b')) c b i z ≡ z) → (z : Option ℕ) → number_among (lines_to n) c b i z ≡ z
+  passed : (c : List ℕ) (b i n : ℕ) → ((b' : ℕ) → b' ≤ n → (z : Option ℕ) → number_among (block_rows b' (f b')) c b i z ≡ z)
+      → (z : Option ℕ) → number_among (lines_to n) c b i z ≡ z
   unfolding ascending number_among
   passed c b i zero h z = refl
   passed c b i (suc n) h z =
@@ -91,7 +94,8 @@ module _ (exists : ℕ → Bool) (f : ℕ → List ℕ) where
 -- ---- a whole report
 
 module _ (exists : ℕ → Bool) (f : ℕ → List ℕ) (sum ro buffer : ℕ) (rest : List ℕ)
-    (five : (b : ℕ) → 1 ≤ b → b ≤ blocks → exists b ≡ true → (length (f b) ≡ block_figures) × Each FitsColumns (f b)) (totals : Each FitsColumns (sum ∷ ro ∷ buffer ∷ [])) where
+    (five : (b : ℕ) → 1 ≤ b → b ≤ blocks → exists b ≡ true → (length (f b) ≡ block_figures) × Each FitsColumns (f b))
+    (totals : Each FitsColumns (sum ∷ ro ∷ buffer ∷ [])) where
   abbrev pub rows : List Row
   rows = ascending exists (λ b. block_rows b (f b)) blocks ++ total_rows sum ro buffer
 

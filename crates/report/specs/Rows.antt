@@ -1,9 +1,11 @@
 -- The rows of a report, after document 01, 'The sheet and the report': 'Blocks ascend, each with five BLK lines, items 1 I and 2 D
 -- (half cents), 3 U, 4 LT, 5 K (cents). Three TOT lines close it, block 0: 1 sum of K, 2 RO, 3 buffer'.
 -- Assumes nothing.
-use Rattle.std.specs.Prelude.{List, [], ◌∷◌, ◌++◌, ℕ, zero, suc, ◌+◌, ◌*◌, get_or, take, drop}
-use Rattle.guideline.specs.Sizes.{blocks, block_figures, row_numbers}
-use Rattle.report_line.specs.Line.{report_line_bytes, Row, print_rows}
+use Rattle.std.specs.Prelude.{List, [], ◌∷◌, ◌++◌, ℕ, suc, ◌+◌, ◌*◌}
+use Rattle.std.specs.List.{flat_map}
+use Rattle.guideline.specs.Sizes.{blocks, block_figures}
+use Rattle.report_line.specs.declared.Row.{Row}
+use Rattle.report_line.specs.Line.{report_line_bytes, print_rows}
 
 -- the code of a block's lines, as bytes
 abbrev pub BLK : List ℕ
@@ -30,16 +32,15 @@ block_rows b figures = items_from 1 BLK b figures
 abbrev pub total_rows : ℕ → ℕ → ℕ → List Row
 total_rows sum ro buffer = items_from 1 TOT 0 (sum ∷ ro ∷ buffer ∷ [])
 
--- ---- a report of a table of rows: a block's number and its five figures each
+-- ---- a report of rows: a block's number and its five figures each
 
--- the lines of the first n rows
-unfoldable pub table_rows : List ℕ → ℕ → List Row
-table_rows t zero = []
-table_rows t (suc n) = table_rows t n ++ block_rows (get_or t (row_numbers * n) 0) (take block_figures (drop (row_numbers * n + 1) t))
+-- the lines of the rows
+abbrev pub table_rows : List (ℕ × List ℕ) → List Row
+table_rows rows = flat_map (λ r. block_rows r.0 r.1) rows
 
--- a whole report
-unfoldable pub report_bytes : List ℕ → ℕ → ℕ → ℕ → ℕ → List ℕ
-report_bytes t n sum ro buffer = print_rows (table_rows t n ++ total_rows sum ro buffer)
+-- a whole report, of rows and the three totals
+unfoldable pub report_bytes : List (ℕ × List ℕ) → List ℕ → List ℕ
+report_bytes rows totals = print_rows (table_rows rows ++ items_from 1 TOT 0 totals)
 
 -- the lines that close a report
 abbrev pub totals : ℕ

@@ -1,13 +1,15 @@
 // A report, each line written into its own stretch of a lent slice.
 #![tactic(auto)]
 
-ghost use Rattle.std.specs.Prelude.{◌≡◌, ◌++◌, ◌-◌, ◌*◌, ◌≤◌, ◌<◌, length, drop};
-ghost use Rattle.guideline.specs.Sizes.{blocks, block_figures, row_numbers};
+ghost use Rattle.std.specs.Prelude.{◌≡◌, ◌++◌, ◌-◌, ◌*◌, ◌≤◌, ◌<◌, length, map, drop};
+ghost use Rattle.guideline.specs.Sizes.{blocks, block_figures};
+ghost use Rattle.figures.specs.Parts.{numbered_figures};
 ghost use Rattle.report_line.specs.Line.{line_bytes, report_line_bytes, rows_in, print_rows};
 ghost use Rattle.report.specs.Rows.{items_from, table_rows, report_bytes, report_length};
 
-use guideline::{BLOCK_FIGURES, BLOCKS, ROW_NUMBERS, TABLE_NUMBERS};
-use report_line::REPORT_LINE_BYTES;
+use figures::NumberedFigures;
+use guideline::{BLOCK_FIGURES, BLOCKS};
+use report_line::{REPORT_LINE_BYTES, Row};
 
 // Three lines close a report.
 const TOTALS: usize = 3;
@@ -26,45 +28,37 @@ pub fn length_for(count: usize) -> usize
     REPORT_LINE_BYTES * (BLOCK_FIGURES * count + TOTALS)
 }
 
-// A whole report: the blocks in the first rows of a table, a block's number and its five figures each, and then the totals.
-// Kept: a struct of these would be no plainer, since the one caller would fill it for this call alone.
-pub fn write_report(
-    rows: &[u64; TABLE_NUMBERS],
-    count: usize,
-    sum: u64,
-    ro: u64,
-    buffer: u64,
-    report: &mut [u8],
-)
-    requires { (count ≤ blocks) × (report_length count ≤ length report.old) }
-    ensures { report.new ≡ report_bytes rows.now count sum ro buffer ++ drop (report_length count) report.old }
+// A whole report: a block's number and its five figures in each row, and then the totals: the sum of K, RO and the buffer.
+pub fn write_report(rows: &[NumberedFigures], totals: &[u64; TOTALS], report: &mut [u8])
+    requires { (length rows.now ≤ blocks) × (report_length (length rows.now) ≤ length report.old) }
+    ensures { report.new ≡ report_bytes (map numbered_figures rows.now) totals.now ++ drop (report_length (length rows.now)) report.old }
 {
-    write_blocks(rows, count, report);
-    let at = BLOCK_BYTES * count;
-    let totals = [sum, ro, buffer];
+    write_blocks(rows, report);
+    let at = BLOCK_BYTES * rows.len();
     write_items(
         &mut report[at..at + REPORT_LINE_BYTES * TOTALS],
         REPORT_LINE_BYTES,
         *b"TOT",
         0,
-        &totals,
+        totals,
     );
 }
 
 // The blocks, five lines each.
-fn write_blocks(rows: &[u64], count: usize, report: &mut [u8])
-    requires { (row_numbers * count ≤ length rows.now) × (report_line_bytes * (block_figures * count) ≤ length report.old) }
-    ensures { report.new ≡ print_rows (table_rows rows.now count) ++ drop (report_line_bytes * (block_figures * count)) report.old }
+fn write_blocks(rows: &[NumberedFigures], report: &mut [u8])
+    requires { (length rows.now ≤ blocks) × (report_line_bytes * (block_figures * length rows.now) ≤ length report.old) }
+    ensures { report.new ≡ print_rows (table_rows (map numbered_figures rows.now))
+        ++ drop (report_line_bytes * (block_figures * length rows.now)) report.old }
 {
-    for i in 0..count {
+    for (i, row) in rows.iter().enumerate() {
         let at = BLOCK_BYTES * i;
-        let from = ROW_NUMBERS * i;
+        let f = row.figures;
         write_items(
             &mut report[at..at + BLOCK_BYTES],
             REPORT_LINE_BYTES,
             *b"BLK",
-            rows[from],
-            &rows[from + 1..from + ROW_NUMBERS],
+            row.block,
+            &[f.i, f.d, f.u, f.lt, f.k],
         );
     }
 }
@@ -77,6 +71,12 @@ pub fn write_items(out: &mut [u8], line: usize, code: [u8; 3], block: u64, numbe
     for (k, &number) in numbers.iter().enumerate() {
         let at = line * k;
         let item = cast::word(k + 1);
-        report_line::write_line_in(&mut out[at..at + line], code, block, item, number);
+        let row = Row {
+            code,
+            block,
+            item,
+            number,
+        };
+        row.write_in(&mut out[at..at + line]);
     }
 }

@@ -19,7 +19,8 @@ use Rattle.field.specs.Field.{field, leading_digits, decimal}
 use Rattle.std.specs.Prelude.{Option, Some}
 use Rattle.field.proofs.Writing.{length_decimal}
 use Rattle.field.proofs.Inverse.{read_back}
-use Rattle.report_line.specs.Line.{line_bytes, report_line_bytes, key, line_in, report_line, Row, row_in, rows_in, print_rows, equal_bytes, found_in, found_at, number_at}
+use Rattle.report_line.specs.declared.Row.{Row}
+use Rattle.report_line.specs.Line.{line_bytes, report_line_bytes, key, line_in, report_line, row_in, rows_in, print_rows, equal_bytes, found_in, found_at, number_at}
 use Rattle.search.proofs.Values.{values, is_values}
 
 abbrev pub key_of : Row → List ℕ

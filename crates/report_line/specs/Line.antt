@@ -6,6 +6,7 @@ use Rattle.std.specs.Prelude.{Option, None, ℕ, zero, suc, ◌+◌, ◌/◌, Bo
 use Rattle.search.specs.Pick.{pick}
 use Rattle.guideline.specs.Sizes.{number_columns}
 use Rattle.field.specs.Field.{field, decimal}
+use Rattle.report_line.specs.declared.Row.{Row}
 
 -- the bytes of a line whose number has w columns: ten stand before it, and the line feed after it
 abbrev pub line_bytes : ℕ → ℕ
@@ -27,14 +28,7 @@ line_in w code block item number = key code block item ++ (32 ∷ []) ++ decimal
 abbrev pub report_line : List ℕ → ℕ → ℕ → ℕ → List ℕ
 report_line code block item number = line_in number_columns code block item number
 
--- what a report line says
-pub record Row : Type 0 where
-  pub code : List ℕ
-  pub block : ℕ
-  pub item : ℕ
-  pub number : ℕ
-
--- its bytes, where the number has w columns
+-- the bytes of what a line says, where its number has w columns
 abbrev pub row_in : ℕ → Row → List ℕ
 row_in w r = line_in w r.code r.block r.item r.number
 

@@ -2,7 +2,8 @@
 #![tactic(auto)]
 
 ghost use Rattle.std.specs.Prelude.{◌≡◌, ◌-◌, ◌<◌, length};
-ghost use Rattle.report_line.specs.Line.{line_bytes, report_line_bytes, key, line_in, report_line};
+ghost use Rattle.guideline.specs.Sizes.{number_columns};
+ghost use Rattle.report_line.specs.Line.{line_bytes, report_line_bytes, key, row_in};
 
 use field::write_field;
 
@@ -15,24 +16,36 @@ const KEY_BYTES: usize = 9;
 // The bytes before the number: columns 1–9, and the space behind them.
 const BEFORE_NUMBER: usize = 10;
 
-// Writes a line into its own stretch of the report.
-pub fn write_line(out: &mut [u8], code: [u8; 3], block: u64, item: u64, number: u64)
-    requires { length out.old ≡ report_line_bytes }
-    ensures { out.new ≡ report_line code block item number }
-{
-    write_line_in(out, code, block, item, number);
+// What a line says.
+#[derive(Clone, Copy)]
+pub struct Row {
+    pub code: [u8; 3],
+    pub block: u64,
+    pub item: u64,
+    pub number: u64,
 }
 
-// Writes a line into a stretch that is longer than a line without its number: the number has the columns that are left beside the rest of it.
-pub fn write_line_in(out: &mut [u8], code: [u8; 3], block: u64, item: u64, number: u64)
-    requires { line_bytes 0 < length out.old }
-    ensures { out.new ≡ line_in (length out.old - line_bytes 0) code block item number }
-{
-    let last = out.len() - 1;
-    write_key(&mut out[0..KEY_BYTES], code, block, item);
-    out[KEY_BYTES] = b' ';
-    write_field(&mut out[BEFORE_NUMBER..last], number);
-    out[last] = b'\n';
+impl Row {
+    // Writes the line into its own stretch of the report.
+    // Kept: a slice of a length, as each of its callers lends a stretch of a longer text, and would make an array of it for this call alone.
+    pub fn write(self, out: &mut [u8])
+        requires { length out.old ≡ report_line_bytes }
+        ensures { out.new ≡ row_in number_columns self }
+    {
+        self.write_in(out);
+    }
+
+    // Writes the line into a stretch that is longer than a line without its number: the number has the columns that are left beside the rest of it.
+    pub fn write_in(self, out: &mut [u8])
+        requires { line_bytes 0 < length out.old }
+        ensures { out.new ≡ row_in (length out.old - line_bytes 0) self }
+    {
+        let last = out.len() - 1;
+        write_key(&mut out[0..KEY_BYTES], self.code, self.block, self.item);
+        out[KEY_BYTES] = b' ';
+        write_field(&mut out[BEFORE_NUMBER..last], self.number);
+        out[last] = b'\n';
+    }
 }
 
 // Writes columns 1–9 into their own stretch: a code and two numbers, with a space before each.

@@ -3,10 +3,8 @@ use Rattle.std.specs.Prelude.{Result, Ok, Err}
 use mathlib.Core.Path.{◌≡◌, refl, sym, ap, ◌∙◌}
 use mathlib.Core.Bool.{Bool, true, false, not}
 use Prim.Native.Nat.{ℕ, ◌*◌, ◌/◌, ◌%◌, ◌≤◌}
-use native.Mathlib.Decide.{dec_le}
 use native.Mathlib.Omega.{arith}
-use lib.Dec.{ltb}
-use borrow.Author.Tests.{ltb-false, lt-ltb, le-ltb, eqb-true, eq-eqb, not-false}
+use borrow.Author.Tests.{ltb-false, le-ltb, eqb-true, eq-eqb, not-false}
 use Rattle.search.specs.Pick.{pick}
 use Rattle.search.proofs.Picks.{if_true, if_false, by_test, never}
 use Rattle.amount.specs.Amount.{limit}
@@ -17,14 +15,6 @@ use Rattle.scaled_line.specs.Scale.{other}
 use Rattle.scaled_line.specs.Amounts.{thousand_dollars, of_scalar, barred, has_barred, rule20or21, convertible, in_other, amount_of, rescaled}
 use Rattle.scaled_line.specs.declared.Scale.{Scale}
 use Rattle.scaled_line.specs.declared.Scale.TheVariants.{Cents, Thousands}
-
--- an amount of thousands is tested before it is multiplied
-pub most_thousands : (n : ℕ) → ltb 999999999 n ≡ ltb limit (n * thousand_dollars)
-most_thousands n =
-    elim (dec_le n 999999999) [
-      | yes h ↦ le-ltb 999999999 n h ∙ sym (le-ltb limit (n * thousand_dollars) (omega arith))
-      | no h ↦ lt-ltb 999999999 n (omega arith) ∙ sym (lt-ltb limit (n * thousand_dollars) (omega arith))
-    ]
 
 -- ---- one amount
 

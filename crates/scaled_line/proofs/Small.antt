@@ -29,13 +29,6 @@ use Rattle.scaled_line.specs.declared.Scale.TheVariants.{Cents, Thousands}
 
 -- ---- three letters in front
 
--- three letters, each changed
-pub three : (f : ℕ → ℕ) (s : List ℕ) → 3 ≤ length s → map f (take 3 s) ≡ f (get_or s 0 0) ∷ f (get_or s 1 0) ∷ f (get_or s 2 0) ∷ []
-three f [] h = absurd (omega arith)
-three f (a ∷ []) h = absurd (omega arith)
-three f (a ∷ b ∷ []) h = absurd (omega arith)
-three f (a ∷ b ∷ c ∷ s) h = refl
-
 module _ (w : List ℕ) (h : length w ≡ 3) (n : Numbers) where
   pub letters_first : take 3 (lettered w n) ≡ w
   unfolding lettered values decimal leading_digits

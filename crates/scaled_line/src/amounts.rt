@@ -16,70 +16,73 @@ const THOUSAND_DOLLARS: u64 = 100000;
 // The most thousands whose cents have 14 digits.
 const MOST_THOUSANDS: u64 = LARGEST_AMOUNT / THOUSAND_DOLLARS;
 
-// The last test of a line: rule 20 of a sheet in cents, rule 21 of one in thousands.
-#[tactic(auto, unfolding(crate::specs::Amounts::rule20or21, search::specs::Pick::pick))]
-pub fn convertible(scale: Scale, line: Result<Entry, Rule>) -> Result<Entry, Rule>
-    ensures { result ≡ convertible scale line }
-{
-    let e = line?;
-    if has_barred(scale, e) {
-        return Err(barred_by(scale));
+impl Scale {
+    // The last test of a line: rule 20 of a sheet in cents, rule 21 of one in thousands.
+    #[tactic(auto, unfolding(crate::specs::Amounts::rule20or21, search::specs::Pick::pick))]
+    pub fn convertible(self, line: Result<Entry, Rule>) -> Result<Entry, Rule>
+        ensures { result ≡ convertible self line }
+    {
+        let e = line?;
+        if self.has_barred(e) {
+            return Err(self.barred_by());
+        }
+        Ok(e)
     }
-    Ok(e)
-}
 
-// The rule that an amount is refused by.
-fn barred_by(scale: Scale) -> Rule
-    ensures { result ≡ barred_by scale }
-{
-    match scale {
-        Scale::Cents => Rule::NotWholeThousands,
-        Scale::Thousands => Rule::ThousandsAboveLimit,
+    // The rule that an amount is refused by.
+    fn barred_by(self) -> Rule
+        ensures { result ≡ barred_by self }
+    {
+        match self {
+            Scale::Cents => Rule::NotWholeThousands,
+            Scale::Thousands => Rule::ThousandsAboveLimit,
+        }
     }
-}
 
-// Whether an entry has an amount that the other sort of sheet can't have; the scalar's line keeps its number.
-#[tactic(auto, unfolding(crate::specs::Amounts::has_barred, search::specs::Pick::pick))]
-fn has_barred(scale: Scale, e: Entry) -> bool
-    ensures { result ≡ has_barred scale e }
-{
-    !of_scalar(e) && (barred(scale, e.first) || barred(scale, e.second))
-}
-
-// Whether an amount isn't whole thousands; or one of thousands has more than 14 digits in cents.
-fn barred(scale: Scale, amount: u64) -> bool
-    ensures { result ≡ barred scale amount }
-{
-    match scale {
-        Scale::Cents => amount % THOUSAND_DOLLARS != 0,
-        Scale::Thousands => MOST_THOUSANDS < amount,
+    // Whether an entry has an amount that the other sort of sheet can't have; the scalar's line keeps its number.
+    #[tactic(auto, unfolding(crate::specs::Amounts::has_barred, search::specs::Pick::pick))]
+    fn has_barred(self, e: Entry) -> bool
+        ensures { result ≡ has_barred self e }
+    {
+        !of_scalar(e) && (self.barred(e.first) || self.barred(e.second))
     }
-}
 
-// The numbers of an entry in the other sort of sheet.
-pub(crate) fn rescaled(scale: Scale, e: Entry) -> Numbers
-    requires { (e.first ≤ limit) × (e.second ≤ limit) }
-    ensures { result ≡ numbers_of (rescaled scale e) }
-{
-    Numbers {
-        block: e.block,
-        class: e.class,
-        first: amount_of(scale, e, e.first),
-        second: amount_of(scale, e, e.second),
+    // Whether an amount isn't whole thousands; or one of thousands has more than 14 digits in cents.
+    fn barred(self, amount: u64) -> bool
+        ensures { result ≡ barred self amount }
+    {
+        match self {
+            Scale::Cents => amount % THOUSAND_DOLLARS != 0,
+            Scale::Thousands => MOST_THOUSANDS < amount,
+        }
     }
-}
 
-// An amount of an entry in the other sort: the scalar's line keeps its number.
-fn amount_of(scale: Scale, e: Entry, amount: u64) -> u64
-    requires { amount ≤ limit }
-    ensures { result ≡ amount_of scale e amount }
-{
-    if of_scalar(e) {
-        return amount;
+    // The numbers of an entry in the other sort of sheet.
+    pub(crate) fn rescaled(self, e: Entry) -> Numbers
+        requires { (e.first ≤ limit) × (e.second ≤ limit) }
+        ensures { result ≡ numbers_of (rescaled self e) }
+    {
+        Numbers {
+            block: e.block,
+            class: e.class,
+            first: self.amount_of(e, e.first),
+            second: self.amount_of(e, e.second),
+        }
     }
-    match scale {
-        Scale::Cents => amount / THOUSAND_DOLLARS,
-        Scale::Thousands => amount * THOUSAND_DOLLARS,
+
+    // An amount of an entry in the other sort: the scalar's line keeps its number.
+    #[tactic(auto, unfolding(crate::specs::Amounts::amount_of, search::specs::Pick::pick))]
+    fn amount_of(self, e: Entry, amount: u64) -> u64
+        requires { amount ≤ limit }
+        ensures { result ≡ amount_of self e amount }
+    {
+        if of_scalar(e) {
+            return amount;
+        }
+        match self {
+            Scale::Cents => amount / THOUSAND_DOLLARS,
+            Scale::Thousands => amount * THOUSAND_DOLLARS,
+        }
     }
 }
 

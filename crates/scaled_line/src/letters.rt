@@ -1,6 +1,5 @@
 // The letters of the two sorts of sheet: capital ones where amounts are cents, small ones where they are thousands.
-ghost use Rattle.std.specs.Prelude.{◌≡◌, map, ◌≤◌, length, take};
-ghost use Rattle.layout.specs.Columns.{sheet_line_bytes};
+ghost use Rattle.std.specs.Prelude.{◌≡◌, map, take};
 ghost use Rattle.scaled_line.specs.Scale.{raise, lower, scale_of, raised};
 ghost use Rattle.scaled_line.specs.Other.{other_letter};
 
@@ -8,45 +7,42 @@ use super::Scale;
 use layout::SHEET_LINE_BYTES;
 
 // The sort of a sheet, by its first letter.
+#[tactic(auto, unfolding(crate::specs::Scale::scale_of, crate::specs::Scale::raise, search::specs::Pick::pick))]
 pub fn scale_of(sheet: &[u8]) -> Scale
     ensures { result ≡ scale_of sheet.now }
 {
-    if sheet.len() == 0 {
-        return Scale::Cents;
+    match sheet.first() {
+        Some(b'a'..=b'z') => Scale::Thousands,
+        _ => Scale::Cents,
     }
-    if raise(sheet[0]) == 0 {
-        return Scale::Cents;
+}
+
+impl Scale {
+    // The three letters of a line as the other sort of sheet has them.
+    pub(crate) fn other_letters(self, line: &[u8; SHEET_LINE_BYTES]) -> [u8; 3]
+        ensures { result ≡ map (other_letter self) (take 3 line.now) }
+    {
+        match self {
+            Scale::Cents => [lower(line[0]), lower(line[1]), lower(line[2])],
+            Scale::Thousands => [raise(line[0]), raise(line[1]), raise(line[2])],
+        }
     }
-    Scale::Thousands
 }
 
 // A line with its three letters raised.
-pub(crate) fn raised(s: &[u8]) -> [u8; SHEET_LINE_BYTES]
-    requires { length s.now ≡ sheet_line_bytes }
-    ensures { result ≡ raised s.now }
+pub(crate) fn raised(line: &[u8; SHEET_LINE_BYTES]) -> [u8; SHEET_LINE_BYTES]
+    ensures { result ≡ raised line.now }
 {
-    let mut line = [0u8; SHEET_LINE_BYTES];
-    line.copy_from_slice(s);
-    line[0] = raise(s[0]);
-    line[1] = raise(s[1]);
-    line[2] = raise(s[2]);
-    line
-}
-
-// The three letters of a line as the other sort of sheet has them.
-pub(crate) fn other_letters(scale: Scale, s: &[u8]) -> [u8; 3]
-    requires { 3 ≤ length s.now }
-    ensures { result ≡ map (other_letter scale) (take 3 s.now) }
-{
-    match scale {
-        Scale::Cents => [lower(s[0]), lower(s[1]), lower(s[2])],
-        Scale::Thousands => [raise(s[0]), raise(s[1]), raise(s[2])],
-    }
+    let mut up = *line;
+    up[0] = raise(line[0]);
+    up[1] = raise(line[1]);
+    up[2] = raise(line[2]);
+    up
 }
 
 // The capital of a small letter, 0 for any other byte.
 //
-// Kept: by its own range and not by the library's method, which leaves any other byte as it is; one function for both ways would be no plainer.
+// Kept: the library's method leaves any other byte as it is, and an Option is no plainer: 0 is the byte that then stands in the line that is read.
 #[tactic(auto, unfolding(crate::specs::Scale::raise, search::specs::Pick::pick))]
 fn raise(b: u8) -> u8
     ensures { result ≡ raise b }
@@ -58,6 +54,8 @@ fn raise(b: u8) -> u8
 }
 
 // The small letter of a capital, 0 for any other byte.
+//
+// Kept: as `raise`; one function for both ways would want a range and a difference as arguments, and an Option is put back to 0 at once here too.
 #[tactic(auto, unfolding(crate::specs::Scale::lower, search::specs::Pick::pick))]
 fn lower(b: u8) -> u8
     ensures { result ≡ lower b }

@@ -7,11 +7,11 @@ pub mod letters;
 // The amounts of a line in the two sorts, rules 20 and 21.
 pub mod amounts;
 
-ghost use Rattle.std.specs.Prelude.{◌≡◌, length};
-ghost use Rattle.layout.specs.Columns.{sheet_line_bytes};
+ghost use Rattle.std.specs.Prelude.{◌≡◌};
 ghost use Rattle.scaled_line.specs.Scale.{parse_in};
 ghost use Rattle.scaled_line.specs.Other.{other_over};
 
+use layout::SHEET_LINE_BYTES;
 use refusal::Rule;
 use sheet_line::Entry;
 
@@ -22,30 +22,24 @@ pub enum Scale {
     Thousands,
 }
 
-// Reads a line of a sheet of this sort: one in small letters as that with its letters raised.
-pub fn read_in(scale: Scale, s: &[u8]) -> Result<Entry, Rule>
-    requires { length s.now ≡ sheet_line_bytes }
-    ensures { result ≡ parse_in scale s.now }
-{
-    match scale {
-        Scale::Cents => sheet_line::read_line(s),
-        Scale::Thousands => {
-            let line = letters::raised(s);
-            sheet_line::read_line(&line)
+impl Scale {
+    // Reads a line of a sheet of this sort: one in small letters as that with its letters raised.
+    pub fn read(self, line: &[u8; SHEET_LINE_BYTES]) -> Result<Entry, Rule>
+        ensures { result ≡ parse_in self line.now }
+    {
+        match self {
+            Scale::Cents => sheet_line::read_line(line),
+            Scale::Thousands => sheet_line::read_line(&letters::raised(line)),
         }
     }
-}
 
-// Writes a line, where its rules let it pass, as the other sort of sheet has it; rules 20 and 21 are tested before. Of a bad line nothing is written.
-pub fn write_other(scale: Scale, s: &[u8], out: &mut [u8])
-    requires { (length s.now ≡ sheet_line_bytes) × (length out.old ≡ sheet_line_bytes) }
-    ensures { out.new ≡ other_over scale (parse_in scale s.now) out.old }
-{
-    if let Ok(e) = read_in(scale, s) {
-        sheet_writer::write_lettered(
-            out,
-            letters::other_letters(scale, s),
-            amounts::rescaled(scale, e),
-        );
+    // Writes a line, where its rules let it pass, as the other sort of sheet has it; rules 20 and 21 are tested before. Of a bad line nothing is
+    // written.
+    pub fn write_other(self, line: &[u8; SHEET_LINE_BYTES], out: &mut [u8; SHEET_LINE_BYTES])
+        ensures { out.new ≡ other_over self (parse_in self line.now) out.old }
+    {
+        if let Ok(e) = self.read(line) {
+            sheet_writer::write_lettered(out, self.other_letters(line), self.rescaled(e));
+        }
     }
 }

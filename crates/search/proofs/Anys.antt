@@ -28,6 +28,12 @@ module _ (P : ℕ → Bool) where
         | no q ↦ if_true _ (goes_on m n (omega arith) e)
       ]
 
+  -- where one passes, one of the first does
+  pub one_of : (b n : ℕ) → 1 ≤ b → b ≤ n → P b ≡ true → any_to P n ≡ true
+  unfolding any_to
+  one_of zero n l h e = absurd (omega arith)
+  one_of (suc k) n l h e = goes_on (suc k) n h (by_test (λ t. t ≡ true) (any_to P k) true (P (suc k)) (λ q. refl) (λ q. e))
+
   -- where none passes, none of those before does, nor the last
   none_of_both : (n : ℕ) → any_to P (suc n) ≡ false → (any_to P n ≡ false) × (P (suc n) ≡ false)
   unfolding any_to
@@ -55,3 +61,9 @@ module _ (P : ℕ → Bool) where
   unfolding any_to
   any_next zero h = absurd (omega arith)
   any_next (suc n) h = let e : suc n - 1 ≡ n = omega arith in rw e
+
+-- two tests that agree on 1 to n
+pub any_same : (P Q : ℕ → Bool) (n : ℕ) → ((c : ℕ) → 1 ≤ c → c ≤ n → P c ≡ Q c) → any_to P n ≡ any_to Q n
+unfolding any_to
+any_same P Q zero h = refl
+any_same P Q (suc n) h = rw (any_same P Q n (λ c l k. h c l (omega arith)), h (suc n) (omega arith) (omega arith))

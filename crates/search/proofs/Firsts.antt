@@ -1,4 +1,4 @@
--- The first place that passes a test: what makes a place the first, and the steps of a loop that looks for it. Assumes nothing.
+-- The first place that passes a test: what makes a place the first, and what a search that has come to i says of it. Assumes nothing.
 use mathlib.Core.Path.{◌≡◌, sym, ◌∙◌}
 use mathlib.Core.Bool.{Bool, true, false, true≢false}
 use Prim.Native.Nat.{ℕ, zero, suc, ◌+◌, ◌≤◌, ◌<◌}
@@ -42,19 +42,12 @@ found_unique P n r f =
 pub none_passes : (P : ℕ → Bool) (n : ℕ) → n ≤ first P n → (k : ℕ) → k < n → P k ≡ false
 none_passes P n e k h = (found_from P 0 n).before k (omega arith) (omega arith)
 
--- a loop that stands at i of n places has found none before
+-- a search that stands at i of n places has found none before
 pub record Sought (P : ℕ → Bool) (n i : ℕ) : Type 0 where
   pub within : i ≤ n
   pub before : (k : ℕ) → k < i → P k ≡ false
 
 module _ (P : ℕ → Bool) (n : ℕ) where
-  pub sought_start : Sought P n 0
-  sought_start = record { within = omega arith; before = λ k h. absurd (omega arith) }
-
-  pub sought_more : (i : ℕ) → i < n → P i ≡ false → Sought P n i → Sought P n (i + 1)
-  sought_more i h e s =
-      record { within = omega arith; before = λ k l. elim (dec_lt k i) [ yes q ↦ s.before k q | no q ↦ let z : k ≡ i = omega arith in rw z e ] }
-
   pub sought_found : (i : ℕ) → i < n → P i ≡ true → Sought P n i → first P n ≡ i
   sought_found i h e s = found_unique P n i (record { low = omega arith; high = omega arith; before = λ k l q. s.before k q; passes = λ q. e })
 

@@ -5,11 +5,11 @@ pub mod Halving
 pub mod LeastOf
 pub mod Firsts
 pub mod Anys
+pub mod Ranges
 pub mod Values
 pub mod Eaches
 pub mod Ascents
 pub mod Stretches
 pub mod Roots
 pub mod Tests
-pub mod Counts
 pub mod Totals

@@ -60,7 +60,8 @@ from_front {k} {P} {l} e h =
     record { text = sym (take-append-drop k l) ∙ rw e; count = sym (ap length e) ∙ length-take-le k l h; long = refl }
 
 -- .. and m elements are put back behind it, as the code lends them
-pub put_behind : (k : ℕ) (l : List ℕ) {P : List ℕ} → take k l ≡ P → (m : ℕ) (ys : List ℕ) → k + m ≤ length l → length ys ≡ m → Wrote l (k + m) (P ++ ys) (put_mid k (k + m - k) l ys)
+pub put_behind : (k : ℕ) (l : List ℕ) {P : List ℕ} → take k l ≡ P → (m : ℕ) (ys : List ℕ) → k + m ≤ length l → length ys ≡ m
+    → Wrote l (k + m) (P ++ ys) (put_mid k (k + m - k) l ys)
 put_behind k l e m ys h y = lent_part (from_front e (omega arith)) m ys h y
 
 -- a stretch of m elements, as the code lends it

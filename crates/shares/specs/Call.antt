@@ -1,6 +1,6 @@
 -- The shares call, after document 02, #112: 'It refuses, as number 23 with no place, a block with a negative margin or with all margins zero,
 -- after the block's own tests.' Assumes nothing.
-use Rattle.std.specs.Prelude.{Result, List, [], ◌∷◌, ℕ, eqb}
+use Rattle.std.specs.Prelude.{Result, List, ℕ, eqb}
 use Rattle.search.specs.Pick.{pick}
 use Rattle.search.specs.First.{any_to}
 use Rattle.refusal.specs.Outcome.{Outcome, stated_by}
@@ -12,15 +12,10 @@ use Rattle.guideline.specs.Block.{K}
 use Rattle.block.specs.Call.{block_call}
 use Rattle.apportion.specs.Shares.{total, shares}
 use Rattle.shares.specs.Margins.{negative, margin}
-use Rattle.shares.specs.declared.Shares.{Shares}
 
--- the shares of the struct in the order of the parts, 1 to 10
-abbrev pub share_list : Shares → List ℕ
-share_list s = s.risk1 ∷ s.risk2 ∷ s.risk3 ∷ s.risk4 ∷ s.risk5 ∷ s.risk6 ∷ s.risk7 ∷ s.pc ∷ s.credit ∷ s.market ∷ []
-
--- what the result says in document 02's numbers: the ten shares, or the refusal's number and place
-abbrev pub stated : Result Shares Refusal → Outcome
-stated = stated_by share_list
+-- what the result says in document 02's numbers: the ten shares in the order of the parts, 1 to 10, or the refusal's number and place
+abbrev pub stated : Result (List ℕ) Refusal → Outcome
+stated = stated_by (λ shares. shares)
 
 -- 23 'with all margins zero', else the shares
 unfoldable pub unless_zero : List ℕ → Outcome

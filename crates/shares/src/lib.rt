@@ -3,29 +3,14 @@
 
 ghost use Rattle.std.specs.Prelude.{◌≡◌, ◌≤◌};
 ghost use Rattle.guideline.specs.Sizes.{parts};
-ghost use Rattle.guideline.specs.Block.{AcceptedBlock, K};
+ghost use Rattle.guideline.specs.Block.{K};
 ghost use Rattle.shares.specs.Margins.{without, k_without};
 ghost use Rattle.shares.specs.Call.{stated, shares_call, rule23};
 ghost use Rattle.shares.specs.Accepted.{SharesDemand};
 ghost use Rattle.shares.specs.Steps.{MarginsOf};
 
-use guideline::{BLOCK_NUMBERS, PARTS, RISKS};
+use guideline::{BLOCK_NUMBERS, Block, PARTS, RISKS};
 use refusal::{Place, Refusal, Rule};
-
-// The share of each part, in cents.
-#[derive(Clone, Copy)]
-pub struct Shares {
-    pub risk1: u64,
-    pub risk2: u64,
-    pub risk3: u64,
-    pub risk4: u64,
-    pub risk5: u64,
-    pub risk6: u64,
-    pub risk7: u64,
-    pub pc: u64,
-    pub credit: u64,
-    pub market: u64,
-}
 
 // The margins of the parts, and their sum.
 #[derive(Clone, Copy)]
@@ -34,21 +19,21 @@ struct Found {
     sum: u64,
 }
 
-// The shares of a block of any 17 numbers: seven pairs IR, LT, then PC, credit, market. Where it is accepted, they total K, and each is
-// within a cent of its unrounded share.
-pub fn shares_call(b: &[u64; BLOCK_NUMBERS]) -> Result<Shares, Refusal>
+// The shares of a block of any 17 numbers, seven pairs IR, LT, then PC, credit, market: those of the seven risks, then of PC, credit, market, in
+// cents. Where it is accepted, they total K, and each is within a cent of its unrounded share.
+pub fn shares_call(b: &[u64; BLOCK_NUMBERS]) -> Result<[u64; PARTS], Refusal>
     ensures outcome { stated result ≡ shares_call b.now }
     ensures shares_demand { SharesDemand b.now (stated result) }
 {
-    let worked = block::block_call(b)?;
-    rule_23(b, worked.figures.k)
+    let block = block::accepted_block(b)?;
+    rule_23(&block)
 }
 
-// The shares of a block that rules 7, 8 and 9 let pass, with its K; or rule 23.
-fn rule_23(b: &[u64; BLOCK_NUMBERS], k: u64) -> Result<Shares, Refusal>
-    requires { AcceptedBlock b.now × (k ≡ K b.now) }
-    ensures { stated result ≡ rule23 b.now }
+// The shares of a block, or rule 23.
+fn rule_23(b: &Block) -> Result<[u64; PARTS], Refusal>
+    ensures { stated result ≡ rule23 b.now.numbers }
 {
+    let k = figures::figures_of(b).k;
     let Some(found) = margins_of(b, k) else {
         return Err(Refusal(Rule::NoShares, Place::Nowhere));
     };
@@ -56,26 +41,13 @@ fn rule_23(b: &[u64; BLOCK_NUMBERS], k: u64) -> Result<Shares, Refusal>
     if sum == 0 {
         return Err(Refusal(Rule::NoShares, Place::Nowhere));
     }
-    let margins = found.each;
-    let s = apportion::shared_out(k, &margins, sum);
-    Ok(Shares {
-        risk1: s[0],
-        risk2: s[1],
-        risk3: s[2],
-        risk4: s[3],
-        risk5: s[4],
-        risk6: s[5],
-        risk7: s[6],
-        pc: s[7],
-        credit: s[8],
-        market: s[9],
-    })
+    Ok(apportion::shared_out(k, &found.each, sum))
 }
 
 // The margins, where none is negative: the block is not worked out again after the first that is.
-fn margins_of(b: &[u64; BLOCK_NUMBERS], k: u64) -> Option<Found>
-    requires { AcceptedBlock b.now × (k ≡ K b.now) }
-    ensures { MarginsOf b.now result }
+fn margins_of(b: &Block, k: u64) -> Option<Found>
+    requires { k ≡ K b.now.numbers }
+    ensures { MarginsOf b.now.numbers result }
 {
     let mut each = [0u64; PARTS];
     let mut sum = 0u64;
@@ -91,13 +63,12 @@ fn margins_of(b: &[u64; BLOCK_NUMBERS], k: u64) -> Option<Found>
 }
 
 // K with the amounts of a part, from 1 to 10, zero.
-fn k_without(b: &[u64; BLOCK_NUMBERS], part: usize) -> u64
-    requires { AcceptedBlock b.now × (1 ≤ part) × (part ≤ parts) }
-    ensures { result ≡ k_without b.now part }
+fn k_without(b: &Block, part: usize) -> u64
+    requires { (1 ≤ part) × (part ≤ parts) }
+    ensures { result ≡ k_without b.now.numbers part }
 {
-    let less = without_part(b, part);
-    let f = figures::figures_of(&less);
-    f.k
+    let less = Block::new(without_part(b.numbers(), part));
+    figures::figures_of(&less).k
 }
 
 // The block with the amounts of a part zero: IR and LT of a risk, or the one amount of PC, credit or market.

@@ -1,13 +1,12 @@
 -- The blocks worked out one after the other: none yet, one that doesn't exist, one that does; and that the sums fit. Assumes nothing.
-use borrow.Rule.Slice.PartMut.{put_mid}
 use mathlib.Core.Path.{◌≡◌, refl, sym, ap, ◌∙◌}
 use mathlib.Core.Bool.{Bool, true, false}
-use mathlib.Core.List.{List, [], ◌∷◌, append_assoc}
-use Prim.Native.Nat.{ℕ, suc, ◌+◌, ◌-◌, ◌*◌, ◌≤◌, ◌<◌}
+use mathlib.Core.List.{List, [], ◌∷◌, ◌++◌, map}
+use Prim.Native.Nat.{ℕ, ◌+◌, ◌-◌, ◌*◌, ◌≤◌, ◌<◌}
 use native.Mathlib.Omega.{arith}
 use lib.Dec.{ltb}
-use lib.ListN.{length, set, take, length-append}
-use lib.Seq.{sets-eq, drop-drop}
+use lib.ListN.{length, set, take, drop, length-append}
+use Rattle.std.proofs.lemmas.List.{drop-drop, drop-set-lt, map-append, take_more_set}
 use Rattle.search.specs.Each.{Each}
 use Rattle.search.specs.Ascending.{ascending}
 use Rattle.search.proofs.Ascents.{few, each_ascending, one_more, none_more}
@@ -17,13 +16,15 @@ use Rattle.search.specs.Total.{sum_to}
 use Rattle.search.proofs.Picks.{if_true, if_false}
 use Rattle.search.proofs.Anys.{any_next}
 use Rattle.search.proofs.Totals.{sum_next, sum_most}
-use Rattle.search.proofs.Stretches.{front, behind, part, from_front}
 use Rattle.amount.specs.Amount.{limit}
-use Rattle.guideline.specs.Sizes.{blocks, row_numbers, table_numbers}
+use Rattle.guideline.specs.Sizes.{blocks}
 use Rattle.guideline.specs.Block.{K, figures_of, AcceptedBlock}
 use Rattle.guideline.specs.Buffer.{sum_k}
-use Rattle.guideline.proofs.Figures.{u_fits, k_high, figures_long}
+use Rattle.guideline.proofs.Figures.{u_fits, k_high}
 use Rattle.guideline.proofs.Totals.{sum_more, sum_fits}
+use Rattle.figures.specs.Parts.{figure_list, numbered_figures, figures_are}
+use Rattle.figures.specs.declared.Figures.{Figures}
+use Rattle.figures.specs.declared.NumberedFigures.{NumberedFigures}
 use Rattle.sheet_line.specs.declared.Entry.{Entry}
 use Rattle.sheet_line.specs.Rules.{AcceptedLine}
 use Rattle.codes.specs.declared.Code.TheVariants.{Crd}
@@ -46,35 +47,35 @@ pub blocks_accepted : (es : List Entry) → Each AcceptedLine es → Covered es 
 unfolding blocks_to
 blocks_accepted es all covered n = each_ascending (exists es) (λ b. after_credit es b ∷ []) AcceptedBlock n (λ b l h t. (block_accepted es all covered b, tt))
 
--- a row stored number by number is a row put
-pub row_put : (l : List ℕ) (at b i d u lt k : ℕ) → at + row_numbers ≤ length l
-    → set (set (set (set (set (set l at b) (at + 1) i) (at + 2) d) (at + 3) u) (at + 4) lt) (at + 5) k ≡ put_mid at row_numbers l (b ∷ i ∷ d ∷ u ∷ lt ∷ k ∷ [])
-row_put l at b i d u lt k room =
-    let e₁ : at + 1 ≡ suc at = omega arith in
-    let e₂ : at + 2 ≡ suc (suc at) = omega arith in
-    let e₃ : at + 3 ≡ suc (suc (suc at)) = omega arith in
-    let e₄ : at + 4 ≡ suc (suc (suc (suc at))) = omega arith in
-    let e₅ : at + 5 ≡ suc (suc (suc (suc (suc at)))) = omega arith in
-    rw (e₁, e₂, e₃, e₄, e₅, drop-drop row_numbers at l) (sets-eq (b ∷ i ∷ d ∷ u ∷ lt ∷ k ∷ []) l at room ∙ simp append_assoc)
+-- a row put behind those of k blocks
+pub row_put : (rows : List NumberedFigures) (k : ℕ) (r : NumberedFigures) → k < length rows
+    → map numbered_figures (take (k + 1) (set rows k r)) ≡ map numbered_figures (take k rows) ++ (numbered_figures r ∷ [])
+row_put rows k r h = ap (map numbered_figures) (take_more_set rows k r h) ∙ map-append numbered_figures (take k rows) (r ∷ [])
 
--- a row put behind those of k blocks leaves what is behind it
-pub row_behind : (rows : List ℕ) (k : ℕ) (ys : List ℕ) → row_numbers * k + row_numbers ≤ length rows → length ys ≡ row_numbers
-    → RestKept (k + 1) rows (put_mid (row_numbers * k) row_numbers rows ys)
-row_behind rows k ys h e =
-    let a : row_numbers * k + row_numbers ≡ row_numbers * (k + 1) = omega arith in
-    rw (← a) (behind (part (from_front {P = take (row_numbers * k) rows} refl (omega arith)) row_numbers ys h e))
+-- and behind it the table is as it was
+pub row_behind : (rows : List NumberedFigures) (k : ℕ) (r : NumberedFigures) → RestKept (k + 1) rows (set rows k r)
+row_behind rows k r = drop-set-lt (k + 1) rows k r (omega arith)
+
+-- what is the same from a place on is so from any further one
+pub kept_further : (x y : List NumberedFigures) {k m : ℕ} → k ≤ m → RestKept k y x → RestKept m y x
+kept_further x y {k} {m} h e =
+    let n : k + (m - k) ≡ m = omega arith in
+    rw n at (sym (drop-drop (m - k) k x) ∙ ap (drop (m - k)) e ∙ drop-drop (m - k) k y)
 
 -- what is known of two stretches of blocks, where one of the two is barred
 pub joined_is : (w more : Worked) (b : Bool) → b ≡ pick w.barred true more.barred
     → ◌≡◌ {A = Worked} (record { count = w.count + more.count; sum = w.sum + more.sum; dividends = w.dividends + more.dividends; barred = b }) (join w more)
 joined_is w more b e = rw e
 
-pub none : (es : List Entry) (rows : List ℕ) → length rows ≡ table_numbers → WorkedOut es 0 (record { count = 0; sum = 0; dividends = 0; barred = false }) rows
+pub none : (es : List Entry) (rows : List NumberedFigures) → WorkedOut es 0 (record { count = 0; sum = 0; dividends = 0; barred = false }) rows
 unfolding blocks_to rows_to ascending sum_k sum_to any_to
-none es rows h = record { count = refl; sum = refl; dividends = refl; barred = refl; front = refl; long = h }
+none es rows = record { count = refl; sum = refl; dividends = refl; barred = refl; front = refl }
 
 -- block n, after those before it
-module _ (es : List Entry) {n : ℕ} {w : Worked} {rows : List ℕ} (from : 1 ≤ n) (before : WorkedOut es (n - 1) w rows) where
+module _ (es : List Entry) {n : ℕ} {w : Worked} {rows : List NumberedFigures} (from : 1 ≤ n) (before : WorkedOut es (n - 1) w rows) where
+  abbrev row : ℕ → List (ℕ × List ℕ)
+  row b = (b, figures_of (after_credit es b)) ∷ []
+
   -- the dividend credits with that of block n
   dividends_next : (d : ℕ) → d ≡ dividend_credit es n → w.dividends + d ≡ sum_to (dividend_credit es) n
   dividends_next d e = (λ i. before.dividends i + e i) ∙ sym (sum_next (dividend_credit es) n from)
@@ -94,8 +95,7 @@ module _ (es : List Entry) {n : ℕ} {w : Worked} {rows : List ℕ} (from : 1 �
         sum = omega (arith, before.sum, ap sum_k m);
         dividends = dividends_next d p;
         barred = barred_next t (q ∙ sym (if_false _ e));
-        front = rw z before.front ∙ sym (none_more (exists es) (λ b. b ∷ figures_of (after_credit es b)) n from e);
-        long = before.long;
+        front = rw z before.front ∙ sym (none_more (exists es) row n from e);
       }
 
   -- what is counted and summed with block n fits
@@ -120,23 +120,20 @@ module _ (es : List Entry) {n : ℕ} {w : Worked} {rows : List ℕ} (from : 1 �
       )
 
   -- its row is put behind those before
-  pub present : w.count < blocks → exists es n ≡ true → (f : List ℕ) (k d : ℕ) → f ≡ figures_of (after_credit es n) → k ≡ K (after_credit es n) → d ≡ dividend_credit es n
-      → WorkedOut es n (join w (record { count = 1; sum = k; dividends = d; barred = ltb k d }))
-      (put_mid (row_numbers * w.count) row_numbers rows (n ∷ f))
+  pub present : w.count < length rows → exists es n ≡ true → (f : Figures) (d : ℕ) → figure_list f ≡ figures_of (after_credit es n)
+      → d ≡ dividend_credit es n
+      → WorkedOut es n (join w (record { count = 1; sum = f.k; dividends = d; barred = ltb f.k d }))
+      (set rows w.count (record { block = n; figures = f }))
   unfolding blocks_to rows_to dividend_barred
-  present few e f k d p q c =
+  present room e f d p c =
       let m = one_more (exists es) (λ b. after_credit es b ∷ []) n from e in
-      let r = one_more (exists es) (λ b. b ∷ figures_of (after_credit es b)) n from e in
+      let r = one_more (exists es) row n from e in
       let bs = ascending (exists es) (λ b. after_credit es b ∷ []) (n - 1) in
-      let a : row_numbers * w.count + row_numbers ≡ row_numbers * (w.count + 1) = omega arith in
-      let room : row_numbers * w.count + row_numbers ≤ length rows = omega (arith, before.long) in
-      let long : length (n ∷ f) ≡ row_numbers = ap (λ (l : List ℕ). length (n ∷ l)) p ∙ rw (figures_long (after_credit es n)) in
-      let done = part (from_front before.front (omega arith)) row_numbers (n ∷ f) room long in
+      let q : f.k ≡ K (after_credit es n) = (figures_are f _ p).4 in
       record {
         count = rw m (omega (arith, before.count, length-append bs (after_credit es n ∷ [])));
         sum = rw m (omega (arith, before.sum, sum_more bs (after_credit es n), q));
         dividends = dividends_next d c;
-        barred = barred_next (ltb k d) ((λ i. ltb (q i) (c i)) ∙ sym (if_true _ e));
-        front = rw (← a) (front done ∙ rw (r, p));
-        long = done.long ∙ before.long;
+        barred = barred_next (ltb f.k d) ((λ i. ltb (q i) (c i)) ∙ sym (if_true _ e));
+        front = row_put rows w.count _ room ∙ rw (before.front, r, p);
       }

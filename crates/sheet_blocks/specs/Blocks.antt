@@ -14,8 +14,8 @@ unfoldable pub blocks_to : List Entry → ℕ → List (List ℕ)
 blocks_to es n = ascending (exists es) (λ b. after_credit es b ∷ []) n
 
 -- a row for each of the blocks 1 to n that exist, ascending: the block's number, and its five figures
-unfoldable pub rows_to : List Entry → ℕ → List ℕ
-rows_to es n = ascending (exists es) (λ b. b ∷ figures_of (after_credit es b)) n
+unfoldable pub rows_to : List Entry → ℕ → List (ℕ × List ℕ)
+rows_to es n = ascending (exists es) (λ b. (b, figures_of (after_credit es b)) ∷ []) n
 
 -- a dividend credit 'above its block's K or for a block that has no RSK or OTH line', whatever its amount
 unfoldable pub dividend_barred : List Entry → ℕ → Bool

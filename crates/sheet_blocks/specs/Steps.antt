@@ -1,11 +1,12 @@
 -- What is worked out of a sheet's blocks, one after the other: sections 11.2 and 11.3 by document 01's sheet, and rule 17 of document 02's #102.
 -- Assumes nothing.
-use Rattle.std.specs.Prelude.{◌≡◌, true, List, ℕ, ◌+◌, ◌*◌, length, take, drop}
+use Rattle.std.specs.Prelude.{◌≡◌, true, List, ℕ, ◌+◌, length, map, take, drop}
 use Rattle.search.specs.First.{any_to}
 use Rattle.search.specs.Pick.{pick}
 use Rattle.search.specs.Total.{sum_to}
-use Rattle.guideline.specs.Sizes.{row_numbers, table_numbers}
 use Rattle.guideline.specs.Buffer.{sum_k}
+use Rattle.figures.specs.Parts.{numbered_figures}
+use Rattle.figures.specs.declared.NumberedFigures.{NumberedFigures}
 use Rattle.sheet_line.specs.declared.Entry.{Entry}
 use Rattle.ledger.specs.Numbers.{dividend_credit}
 use Rattle.sheet_blocks.specs.Blocks.{blocks_to, rows_to, dividend_barred}
@@ -23,14 +24,13 @@ join w more =
 
 -- the blocks 1 to n of the lines are worked out: how many exist, the sum of their K, the sum of their dividend credits, whether one of these is
 -- barred by rule 17, and the blocks' rows in front of a table for all blocks
-pub record WorkedOut (es : List Entry) (n : ℕ) (w : Worked) (rows : List ℕ) : Type 0 where
+pub record WorkedOut (es : List Entry) (n : ℕ) (w : Worked) (rows : List NumberedFigures) : Type 0 where
   pub count : w.count ≡ length (blocks_to es n)
   pub sum : w.sum ≡ sum_k (blocks_to es n)
   pub dividends : w.dividends ≡ sum_to (dividend_credit es) n
   pub barred : w.barred ≡ any_to (dividend_barred es) n
-  pub front : take (row_numbers * w.count) rows ≡ rows_to es n
-  pub long : length rows ≡ table_numbers
+  pub front : map numbered_figures (take w.count rows) ≡ rows_to es n
 
 -- behind the rows of so many blocks the table is as it was
-abbrev pub RestKept : ℕ → List ℕ → List ℕ → Type 0
-RestKept count rows rows' = drop (row_numbers * count) rows' ≡ drop (row_numbers * count) rows
+abbrev pub RestKept : ℕ → List NumberedFigures → List NumberedFigures → Type 0
+RestKept count rows rows' = drop count rows' ≡ drop count rows

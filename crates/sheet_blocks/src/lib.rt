@@ -1,17 +1,14 @@
 // The blocks of a sheet worked out off the ledger that holds its lines: a row of figures for each, the sum of their K and of their dividend credits.
 #![tactic(auto)]
 
-ghost use Rattle.std.specs.Prelude.{◌≡◌, ◌∷◌, ◌+◌, ◌-◌, ◌^◌, ◌≤◌, ◌<◌, length};
-ghost use borrow.Rule.Slice.PartMut.{put_mid};
-ghost use Rattle.guideline.specs.Sizes.{blocks, row_numbers, table_numbers};
-ghost use Rattle.figures.specs.Parts.{figure_list};
+ghost use Rattle.std.specs.Prelude.{◌≡◌, ◌+◌, ◌-◌, ◌^◌, ◌≤◌, ◌<◌};
+ghost use Rattle.guideline.specs.Sizes.{blocks};
 ghost use Rattle.ledger.specs.Lines.{OfLines};
-ghost use Rattle.credits.specs.Credits.{Credited};
 ghost use Rattle.sheet_blocks.specs.Steps.{join, WorkedOut, RestKept};
 
-use figures::Figures;
-use guideline::{BLOCKS, NON_PARTICIPATING, ROW_NUMBERS};
-use ledger::Ledger;
+use credits::CreditedLedger;
+use figures::NumberedFigures;
+use guideline::BLOCKS;
 
 // What is known of the blocks up to some number: how many exist, the sum of their K, the sum of their dividend credits, and whether rule 17
 // bars one of these.
@@ -26,10 +23,8 @@ pub struct Worked {
 }
 
 // The rows of the blocks that exist, ascending, from the table's front on; behind them the table is as it was.
-pub fn work_out(ledger: &Ledger, credits: &[u64; NON_PARTICIPATING], rows: &mut [u64]) -> Worked
-    requires credited { OfLines ledger.now (λ es. Credited es credits.now) }
-    requires room { length rows.old ≡ table_numbers }
-    ensures worked_out { OfLines ledger.now (λ es. WorkedOut es blocks result rows.new) }
+pub fn work_out(credited: &CreditedLedger<'_>, rows: &mut [NumberedFigures; BLOCKS]) -> Worked
+    ensures worked_out { OfLines credited.now.ledger.now (λ es. WorkedOut es blocks result rows.new) }
     ensures rest_kept { RestKept result.count rows.old rows.new }
 {
     let mut w = Worked {
@@ -39,25 +34,25 @@ pub fn work_out(ledger: &Ledger, credits: &[u64; NON_PARTICIPATING], rows: &mut 
         barred: false,
     };
     for i in 0..BLOCKS {
-        w = work_block(ledger, credits, rows, i + 1, w);
+        w = work_block(credited, rows, i + 1, w);
     }
     w
 }
 
 // One block more: what is known of the blocks before it becomes what is known with it.
+// Kept: the block's range as a clause, as in credits, which says why.
 fn work_block(
-    ledger: &Ledger,
-    credits: &[u64; NON_PARTICIPATING],
-    rows: &mut [u64],
+    credited: &CreditedLedger<'_>,
+    rows: &mut [NumberedFigures; BLOCKS],
     block: usize,
     w: Worked,
 ) -> Worked
     requires block_number { (1 ≤ block) × (block ≤ blocks) }
-    requires credited { OfLines ledger.now (λ es. Credited es credits.now) }
-    requires worked_before { OfLines ledger.now (λ es. WorkedOut es (block - 1) w rows.old) }
-    ensures worked_out { OfLines ledger.now (λ es. WorkedOut es block result rows.new) }
+    requires worked_before { OfLines credited.now.ledger.now (λ es. WorkedOut es (block - 1) w rows.old) }
+    ensures worked_out { OfLines credited.now.ledger.now (λ es. WorkedOut es block result rows.new) }
     ensures rest_kept { (w.count ≤ result.count) × RestKept result.count rows.old rows.new }
 {
+    let ledger = credited.ledger;
     let dividend = credits::dividend_credit(ledger, block);
     if !ledger.block_exists(block) {
         let absent = Worked {
@@ -68,14 +63,17 @@ fn work_block(
         };
         return joined(w, absent);
     }
-    let numbers = credits::numbers_after_credit(ledger, credits, block);
-    let f = figures::figures_of(&numbers);
-    store(rows, ROW_NUMBERS * w.count, block, f);
+    let numbers = credited.numbers_after_credit(block);
+    let figures = figures::figures_of(&numbers);
+    rows[w.count] = NumberedFigures {
+        block: cast::word(block),
+        figures,
+    };
     let present = Worked {
         count: 1,
-        sum: f.k,
+        sum: figures.k,
         dividends: dividend,
-        barred: f.k < dividend,
+        barred: figures.k < dividend,
     };
     joined(w, present)
 }
@@ -91,17 +89,4 @@ fn joined(w: Worked, more: Worked) -> Worked
         dividends: w.dividends + more.dividends,
         barred: w.barred || more.barred,
     }
-}
-
-// A block's row, from a place of the table on.
-fn store(rows: &mut [u64], from: usize, block: usize, f: Figures)
-    requires { from + row_numbers ≤ length rows.old }
-    ensures { rows.new ≡ put_mid from row_numbers rows.old (block ∷ figure_list f) }
-{
-    rows[from] = cast::word(block);
-    rows[from + 1] = f.i;
-    rows[from + 2] = f.d;
-    rows[from + 3] = f.u;
-    rows[from + 4] = f.lt;
-    rows[from + 5] = f.k;
 }

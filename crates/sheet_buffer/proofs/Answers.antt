@@ -16,7 +16,12 @@ use Rattle.sheet_length.specs.Measured.{longest_sheet}
 use Rattle.search.proofs.Picks.{never}
 use Rattle.sheet_line.specs.declared.Entry.{Entry}
 use Rattle.judgement.specs.Sheet.{sheet_of}
-use Rattle.judgement.specs.Judgement.{Judgement, judgement, findings}
+use Rattle.std.specs.Prelude.{Result, Ok, Err}
+use Rattle.refusal.specs.declared.Refusal.{Refusal}
+use Rattle.refusal.specs.Outcome.{stated_by}
+use Rattle.figures.specs.declared.NumberedFigures.{NumberedFigures}
+use Rattle.judgement.specs.declared.Totals.{Totals}
+use Rattle.judgement.specs.Judgement.{Judgement, judgement, findings, stated}
 use Rattle.judgement.specs.Judgement.Judgement.{turned_away, sound}
 use Rattle.judgement.proofs.Accepted.{sound_accepted}
 use Rattle.judgement.specs.Judgement.Findings.{refusal, figures}
@@ -29,11 +34,18 @@ module _ (s : List ℕ) where
   unfolding buffer_of
   turned e = ap buffer_of (sym (findings_refusal (judgement s) e))
 
-  pub found : {n : ℕ} {rows : List ℕ} {sum ro x : ℕ} → figures n rows sum ro x ≡ findings (judgement s) → accepted (x ∷ []) ≡ buffer_of (judgement s)
+  pub found : {n : ℕ} {rows : List (ℕ × List ℕ)} {sum ro x : ℕ} → figures n rows sum ro x ≡ findings (judgement s)
+      → accepted (x ∷ []) ≡ buffer_of (judgement s)
   unfolding buffer_of
   found e =
       let f = findings_figures (judgement s) e in
       ap (λ (b : ℕ). accepted (b ∷ [])) f.2.buffer_is ∙ ap buffer_of (sym f.1)
+
+  -- what judging tells, with the buffer of its totals
+  pub buffer_told : (v : Result Totals Refusal) (rows : List NumberedFigures) → stated v rows ≡ findings (judgement s)
+      → stated_by (λ (t : Totals). t.buffer ∷ []) v ≡ buffer_of (judgement s)
+  buffer_told (Err r) rows e = turned e
+  buffer_told (Ok t) rows e = found e
 
   -- a room of one byte more than the longest sheet is enough to judge it
   pub cut_judged : judgement (take (suc longest_sheet) s) ≡ judgement s

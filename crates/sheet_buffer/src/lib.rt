@@ -5,7 +5,9 @@ ghost use Rattle.std.specs.Prelude.{◌≡◌};
 ghost use Rattle.judgement.specs.Judgement.{judgement};
 ghost use Rattle.sheet_buffer.specs.Answer.{stated, buffer_of};
 
-use guideline::TABLE_NUMBERS;
+use figures::NumberedFigures;
+use guideline::BLOCKS;
+use judgement::Totals;
 use ledger::Ledger;
 use refusal::Refusal;
 
@@ -14,8 +16,10 @@ pub fn buffer_of(sheet: &[u8]) -> Result<u64, Refusal>
     ensures { stated result ≡ buffer_of (judgement sheet.now) }
 {
     let mut ledger = Ledger::new();
-    let mut rows = [0u64; TABLE_NUMBERS];
-    let verdict = judgement::judge(sheet, &mut ledger, &mut rows);
-    let totals = verdict?;
-    Ok(totals.buffer)
+    let mut rows = [NumberedFigures::default(); BLOCKS];
+    judgement::judge(sheet, &mut ledger, &mut rows).map(
+        |totals: Totals|
+            ensures { result ≡ totals.buffer }
+        { totals.buffer },
+    )
 }

@@ -7,7 +7,7 @@ ghost use Rattle.std.specs.Prelude.{◌<◌};
 
 use refusal::Refusal;
 use report::LONGEST_REPORT;
-use report_line::REPORT_LINE_BYTES;
+use report_line::{REPORT_LINE_BYTES, Row};
 use sheet_length::LONGEST_SHEET;
 use std::io::Read;
 
@@ -46,31 +46,17 @@ fn next_case<R: Read>(input: &mut R) -> Option<Header> {
     let mut text = [0u8; HEADER];
     input.read_exact(&mut text).ok()?;
     Some(Header {
-        length: number(&text, 0),
-        lent: number(&text, 6),
+        length: number(&text[0..5]),
+        lent: number(&text[6..11]),
     })
 }
 
-// The number that five digits spell.
-fn number(text: &[u8], from: usize) -> usize {
-    if 10000 < from {
-        return 0;
-    }
-    digit(text, from) * 10000
-        + digit(text, from + 1) * 1000
-        + digit(text, from + 2) * 100
-        + digit(text, from + 3) * 10
-        + digit(text, from + 4)
-}
-
-// The digit at a place; 0 past the end.
-fn digit(text: &[u8], at: usize) -> usize
-    ensures { result < 10 }
-{
-    if text.len() <= at {
-        return 0;
-    }
-    usize::from(text[at].saturating_sub(b'0')) % 10
+// The number that digits spell.
+fn number(digits: &[u8]) -> usize {
+    digits.iter().fold(0, |n: usize, &digit| {
+        n.wrapping_mul(10)
+            .wrapping_add(usize::from(digit.saturating_sub(b'0')))
+    })
 }
 
 // One case, where the program has room for its sheet and for the report.
@@ -95,19 +81,25 @@ fn run<R: Read>(rt: &impl Print, input: &mut R, sheet: &mut [u8], room: &mut [u8
 
 // The answer in the form of a report line: ACC and the length, or REF, the number, the kind of the place and the place.
 fn tell(rt: &impl Print, answer: Result<usize, Refusal>) {
-    match answer {
-        Ok(length) => line(rt, *b"ACC", 0, 0, cast::word(length)),
+    let row = match answer {
+        Ok(length) => Row {
+            code: *b"ACC",
+            block: 0,
+            item: 0,
+            number: cast::word(length),
+        },
         Err(Refusal(rule, place)) => {
-            let at: [u64; 2] = place.into();
-            line(rt, *b"REF", rule.number(), at[0], at[1]);
+            let [kind, number]: [u64; 2] = place.into();
+            Row {
+                code: *b"REF",
+                block: rule.number(),
+                item: kind,
+                number,
+            }
         }
-    }
-}
-
-// One line of an answer.
-fn line(rt: &impl Print, code: [u8; 3], block: u64, item: u64, number: u64) {
+    };
     let mut text = [0u8; REPORT_LINE_BYTES];
-    report_line::write_line(&mut text, code, block, item, number);
+    row.write(&mut text);
     show(rt, &text);
 }
 

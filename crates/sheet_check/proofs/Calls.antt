@@ -33,7 +33,8 @@ use Rattle.sheet_check.specs.Walk.{walked_call}
 -- ---- the call's answers
 
 module _ (s r : List ℕ) where
-  pub walks : (n : ℕ) (rows : List ℕ) (sum ro x : ℕ) → figures n rows sum ro x ≡ findings (judgement s) → (l : Ledger) → LinesOf (judgement s) l
+  pub walks : (n : ℕ) (rows : List (ℕ × List ℕ)) (sum ro x : ℕ) → figures n rows sum ro x ≡ findings (judgement s) → (l : Ledger)
+      → LinesOf (judgement s) l
       → walked_call l.firsts l.seconds r ≡ check_call s r
   walks n rows sum ro x e t H =
       let w = findings_figures (judgement s) e in

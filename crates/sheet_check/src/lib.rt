@@ -12,7 +12,8 @@ ghost use Rattle.needs.specs.Needing.{most_listed};
 ghost use Rattle.sheet_check.specs.Call.{listing_to, check_call, ListsExactly};
 ghost use Rattle.sheet_check.specs.Walk.{walked, walked_call, counted_to, one_at, PutAt};
 
-use guideline::TABLE_NUMBERS;
+use figures::NumberedFigures;
+use guideline::BLOCKS;
 use ledger::Ledger;
 use needs::{LISTED_BYTES, LONGEST_LISTING, MOST_LISTED};
 use refusal::{Place, Refusal, Rule};
@@ -23,13 +24,14 @@ pub fn check_call(sheet: &[u8], room: &mut [u8]) -> Result<usize, Refusal>
     ensures lists_exactly { ListsExactly sheet.now (stated result) room.new }
 {
     let mut ledger = Ledger::new();
-    let mut rows = [0u64; TABLE_NUMBERS];
+    let mut rows = [NumberedFigures::default(); BLOCKS];
     judgement::judge(sheet, &mut ledger, &mut rows)?;
     list(&ledger, room)
 }
 
 // What tsav-check prints of a sheet of any bytes, from the room's start on: the listing, or the line of the refusal. It gives how many bytes
 // that is. There is room for every listing, so that 14 never comes.
+// Kept: two lines in each of four calls, as `printing::print_answer` says.
 pub fn print_check(sheet: &[u8], room: &mut [u8; LONGEST_LISTING]) -> usize
     ensures { Printed (printout (listing_to (judgement sheet.now))) result room.old room.new }
 {
@@ -74,6 +76,7 @@ fn write_listing(ledger: &Ledger, room: &mut [u8])
 }
 
 // One line more, into its own stretch, where its need is unmet. It gives where the next one stands.
+// Kept: the need is asked again, as `unmet` is a test that counting asks too; one that hands out the companion would be no shorter in either.
 fn write_one(ledger: &Ledger, n: usize, room: &mut [u8], at: usize) -> usize
     requires { (1 ≤ n) × (n ≤ most_listed) × (at + length (one_at ledger.now.firsts ledger.now.seconds n) ≤ length room.old) }
     ensures { PutAt (one_at ledger.now.firsts ledger.now.seconds n) at room.old result room.new }

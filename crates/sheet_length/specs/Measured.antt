@@ -25,7 +25,8 @@ longest_sheet = sheet_line_bytes * most_lines
 
 -- where rule 2 applies: 'It gives 3 with the first bad whole line, and 2 if all are sound'
 unfoldable pub layout_first : List ℕ → Result (Unit {0}) Refusal
-layout_first s = pick (ltb (lines_kept s) (whole_lines s)) (Err (rule.BrokenLayout, place.Line (lines_kept s + 1))) (Err (rule.NotWholeLines, place.Nowhere))
+layout_first s =
+    pick (ltb (lines_kept s) (whole_lines s)) (Err (rule.BrokenLayout, place.Line (lines_kept s + 1))) (Err (rule.NotWholeLines, place.Nowhere))
 
 -- rule 2: 'length isn't a multiple of 40'
 unfoldable pub rule2 : List ℕ → Result (Unit {0}) Refusal

@@ -26,7 +26,9 @@ pub const MOST_LINES: usize = BLOCKS * (RISK_CLASSES + OTHER_CLASSES)
 // The bytes of that many lines.
 pub const LONGEST_SHEET: usize = SHEET_LINE_BYTES * MOST_LINES;
 
-// Measures a sheet of any bytes: whole lines, and no more of them than there can be, or the rule that turns it away. One that rule 2 turns away is told its first whole line with a broken layout, if there is one.
+// Measures a sheet of any bytes: whole lines, and no more of them than there can be, or the rule that turns it away. One that rule 2 turns away
+// is told its first whole line with a broken layout, if there is one.
+#[tactic(auto, unfolding(crate::specs::Measured::measured, crate::specs::Measured::rule2, crate::specs::Measured::layout_first, search::specs::Pick::pick))]
 pub fn measure(sheet: &[u8]) -> Result<(), Refusal>
     ensures { result ≡ measured sheet.now }
 {
@@ -36,9 +38,8 @@ pub fn measure(sheet: &[u8]) -> Result<(), Refusal>
     if sheet.len() % SHEET_LINE_BYTES == 0 {
         return Ok(());
     }
-    let kept = layout::lines_kept(sheet);
-    if kept < sheet.len() / SHEET_LINE_BYTES {
-        return Err(Refusal(Rule::BrokenLayout, Place::Line(kept + 1)));
+    if let Some(line) = layout::first_broken(sheet) {
+        return Err(Refusal(Rule::BrokenLayout, Place::Line(line + 1)));
     }
     Err(Refusal(Rule::NotWholeLines, Place::Nowhere))
 }

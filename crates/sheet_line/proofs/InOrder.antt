@@ -52,8 +52,8 @@ pub record InOrder : Type 0 where
 
 pub in_order : InOrder
 unfolding
-    pick digits field digit_or_space leading_digits decimal is_code code_among spaced layout_of lettered outside second_barred trend_above scalar_outside
-    rule5 rule6 rule8 parse_line
+    pick digits field digit_or_space leading_digits decimal is_code code_among spaced layout_of lettered outside second_barred trend_above
+    scalar_outside rule5 rule6 rule8 parse_line
 in_order =
     record {
       rules_3_4 = (replicate sheet_line_bytes 32, refl, refl, refl);

@@ -4,8 +4,7 @@
 // Rules 5 to 10, of what the line says.
 pub mod rules;
 
-ghost use Rattle.std.specs.Prelude.{◌≡◌, length};
-ghost use Rattle.layout.specs.Columns.{sheet_line_bytes};
+ghost use Rattle.std.specs.Prelude.{◌≡◌};
 ghost use Rattle.sheet_line.specs.Rules.{parse_line};
 
 use codes::Code;
@@ -23,12 +22,11 @@ pub struct Entry {
 }
 
 // Reads a line: its layout and its code, then the rules of what it says. The first rule that it breaks turns it away.
-pub fn read_line(s: &[u8]) -> Result<Entry, Rule>
-    requires { length s.now ≡ sheet_line_bytes }
+#[tactic(auto, unfolding(crate::specs::Rules::parse_line))]
+pub fn read_line(s: &[u8; SHEET_LINE_BYTES]) -> Result<Entry, Rule>
     ensures { result ≡ parse_line s.now }
 {
-    // a part and not s itself: its place is handed on in words, where a slice that is handed on whole is copied, which waits
-    let n = layout::read_layout(&s[0..SHEET_LINE_BYTES]).ok_or(Rule::BrokenLayout)?;
+    let n = layout::read_layout(s).ok_or(Rule::BrokenLayout)?;
     let code = codes::read_code(s).ok_or(Rule::UnknownCode)?;
     rules::judged(Entry {
         code,

@@ -13,20 +13,19 @@ use refusal::Rule;
 pub(crate) fn judged(e: Entry) -> Result<Entry, Rule>
     ensures { result ≡ rule5 e }
 {
-    let code = e.code;
     if block_outside(e) {
         return Err(Rule::BlockOutside);
     }
     if class_outside(e) {
         return Err(Rule::ClassOutside);
     }
-    if second_barred(code, e.class, e.second) {
+    if second_barred(e) {
         return Err(Rule::SecondAmount);
     }
-    if trend_above(code, e.first, e.second) {
+    if trend_above(e) {
         return Err(Rule::TrendAboveComponent);
     }
-    if scalar_outside(code, e.class, e.first) {
+    if scalar_outside(e) {
         return Err(Rule::ScalarOutside);
     }
     Ok(e)
@@ -58,10 +57,11 @@ fn outside(low: u64, high: u64, n: u64) -> bool
 
 // The test of rule 8: a second amount where a line has one alone.
 #[tactic(auto, unfolding(crate::specs::Rules::second_barred, search::specs::Pick::pick))]
-fn second_barred(code: Code, class: u64, second: u64) -> bool
-    ensures { result ≡ second_barred code class second }
+fn second_barred(e: Entry) -> bool
+    ensures { result ≡ second_barred e.code e.class e.second }
 {
-    single(code, class) && second != 0
+    let code = e.code;
+    single(code, e.class) && e.second != 0
 }
 
 // Whether a line has one amount alone.
@@ -69,7 +69,7 @@ fn single(code: Code, class: u64) -> bool
     ensures { result ≡ single_of code class }
 {
     match code {
-        Code::Rsk => class == EXPENSES_CLASS as u64,
+        Code::Rsk => class == cast::word(EXPENSES_CLASS),
         Code::Oth => true,
         Code::Mor => false,
         Code::Vol => false,
@@ -81,10 +81,10 @@ fn single(code: Code, class: u64) -> bool
 
 // The test of rule 9: LT above IR.
 #[tactic(auto, unfolding(crate::specs::Rules::trend_above, search::specs::Pick::pick))]
-fn trend_above(code: Code, first: u64, second: u64) -> bool
-    ensures { result ≡ trend_above code first second }
+fn trend_above(e: Entry) -> bool
+    ensures { result ≡ trend_above e.code e.first e.second }
 {
-    has_trend(code) && first < second
+    has_trend(e.code) && e.first < e.second
 }
 
 // Whether a line's second amount is a part of the first. Volumes may fall or rise, and T may pass
@@ -92,36 +92,21 @@ fn trend_above(code: Code, first: u64, second: u64) -> bool
 fn has_trend(code: Code) -> bool
     ensures { result ≡ has_trend code }
 {
-    match code {
-        Code::Rsk => true,
-        Code::Oth => false,
-        Code::Mor => false,
-        Code::Vol => false,
-        Code::Acq => false,
-        Code::Gen => false,
-        Code::Crd => false,
-    }
+    matches!(code, Code::Rsk)
 }
 
 // The test of rule 10: the scalar is outside its range.
 #[tactic(auto, unfolding(crate::specs::Rules::scalar_outside, search::specs::Pick::pick))]
-fn scalar_outside(code: Code, class: u64, first: u64) -> bool
-    ensures { result ≡ scalar_outside code class first }
+fn scalar_outside(e: Entry) -> bool
+    ensures { result ≡ scalar_outside e.code e.class e.first }
 {
-    is_scalar(code, class) && outside(1, LARGEST_SCALAR, first)
+    let code = e.code;
+    is_scalar(code, e.class) && outside(1, LARGEST_SCALAR, e.first)
 }
 
 // Whether a line is that of the scalar g.
 pub fn is_scalar(code: Code, class: u64) -> bool
     ensures { result ≡ is_scalar code class }
 {
-    match code {
-        Code::Rsk => false,
-        Code::Oth => false,
-        Code::Mor => false,
-        Code::Vol => false,
-        Code::Acq => false,
-        Code::Gen => class == SCALAR_CLASS as u64,
-        Code::Crd => false,
-    }
+    matches!(code, Code::Gen) && class == cast::word(SCALAR_CLASS)
 }

@@ -1,4 +1,5 @@
--- What reading a sheet's lines leaves in the ledger, and its answer: how many lines there are, or 'the first bad line' (document 01). Assumes nothing.
+-- What reading a sheet's lines leaves in the ledger, and its answer: how many lines there are, or 'the first bad line' (document 01).
+-- Assumes nothing.
 use Rattle.std.specs.Prelude.{◌≡◌, ℕ, Result, [], ◌∷◌}
 use Rattle.refusal.specs.Outcome.{Outcome, stated_by}
 use Rattle.refusal.specs.declared.Refusal.{Refusal}

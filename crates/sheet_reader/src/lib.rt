@@ -14,16 +14,15 @@ pub fn read_lines(sheet: &[u8], ledger: &mut Ledger) -> Result<usize, Refusal>
     requires { Empty ledger.old }
     ensures { Filled (reading sheet.now) result ledger.new }
 {
-    let n = sheet.len() / SHEET_LINE_BYTES;
+    let (lines, _) = sheet.as_chunks::<SHEET_LINE_BYTES>();
     let mut last = 0u64;
-    for i in 0..n {
-        let from = SHEET_LINE_BYTES * i;
-        let read = sheet_line::read_line(&sheet[from..from + SHEET_LINE_BYTES]);
+    for (i, bytes) in lines.iter().enumerate() {
+        let read = sheet_line::read_line(bytes);
         let line = ledger.admit(read, last);
         match line {
             Err(rule) => return Err(Refusal(rule, Place::Line(i + 1))),
             Ok(e) => last = order::key_of(e),
         }
     }
-    Ok(n)
+    Ok(lines.len())
 }

@@ -1,51 +1,42 @@
--- A stretch of a line's bytes with a line written into it: the four fields put back after they were lent, then letters and separators stored.
--- Assumes nothing.
+-- A line's bytes with a line written into them from the front: columns 1–9 as a report's line has them, then each amount behind a space, and the line
+-- feed. Assumes nothing.
 use borrow.Rule.Slice.PartMut.{put_mid}
-use mathlib.Core.Path.{◌≡◌, refl}
-use mathlib.Core.List.{List}
+use mathlib.Core.Path.{◌≡◌, refl, sym, ap, ◌∙◌}
+use mathlib.Core.List.{List, [], ◌∷◌, ◌++◌}
 use Prim.Native.Nat.{ℕ}
 use native.Mathlib.Omega.{arith}
 use lib.ListN.{length, get_or, set}
+use Rattle.search.proofs.Stretches.{nothing, part, next, all_written}
 use Rattle.search.proofs.Values.{values, is_values}
 use Rattle.field.specs.Field.{leading_digits, decimal}
-use Rattle.field.proofs.Put.{Field-in, put_long, put_is}
+use Rattle.field.proofs.Writing.{length_decimal}
+use Rattle.field.proofs.Put.{Field-in, put_is}
+use Rattle.report_line.specs.Line.{key}
+use Rattle.report_line.proofs.Filled.{length_key}
 use Rattle.layout.specs.Columns.{sheet_line_bytes, lettered}
 use Rattle.layout.specs.declared.Numbers.{Numbers}
 
--- letters and separators stored into a stretch
-abbrev framed : List ℕ → List ℕ → List ℕ
-framed w l =
-    set (set (set (set (set (set (set (set l 0 (get_or w 0 0)) 1 (get_or w 1 0)) 2 (get_or w 2 0)) 3 32) 6 32) 9 32) 24 32) 39 10
+-- a line of a sheet is columns 1–9 of a report's line, with the class for its item, and what stands behind them
+by_key : (f : ℕ → ℕ) (n : Numbers)
+    → lettered (values f 3) n
+    ≡ key (values f 3) n.block n.class ++ (32 ∷ []) ++ decimal 14 n.first ++ (32 ∷ []) ++ decimal 14 n.second ++ (10 ∷ [])
+unfolding values decimal leading_digits key lettered
+by_key f n = refl
 
--- the numbers put into their columns, one after the other
-abbrev with_block : List ℕ → List ℕ → List ℕ
-with_block l ys = put_mid 4 2 l ys
+module _ (l w : List ℕ) (n : Numbers) (ks xs ys : List ℕ) where
+  abbrev with_key : List ℕ
+  with_key = set (put_mid 0 9 l ks) 9 32
 
-abbrev with_class : List ℕ → List ℕ → List ℕ → List ℕ
-with_class l xs ys = put_mid 7 2 (with_block l xs) ys
+  abbrev with_first : List ℕ
+  with_first = set (put_mid 10 14 with_key xs) 24 32
 
-abbrev with_first : List ℕ → List ℕ → List ℕ → List ℕ → List ℕ
-with_first l xs ys zs = put_mid 10 14 (with_class l xs ys) zs
-
-abbrev with_second : List ℕ → List ℕ → List ℕ → List ℕ → List ℕ → List ℕ
-with_second l xs ys zs us = put_mid 25 14 (with_first l xs ys zs) us
-
-filled : (f g : ℕ → ℕ) (n : Numbers)
-    → framed (values g 3)
-    (with_second (values f sheet_line_bytes) (decimal 2 n.block) (decimal 2 n.class) (decimal 14 n.first) (decimal 14 n.second))
-    ≡ lettered (values g 3) n
-unfolding values decimal leading_digits lettered
-filled f g n = refl
-
-pub line_written : (l w : List ℕ) (n : Numbers) (xs ys zs us : List ℕ) → length l ≡ sheet_line_bytes → length w ≡ 3
-    → Field-in l 4 2 n.block xs → Field-in (with_block l xs) 7 2 n.class ys → Field-in (with_class l xs ys) 10 14 n.first zs
-    → Field-in (with_first l xs ys zs) 25 14 n.second us → framed w (with_second l xs ys zs us) ≡ lettered w n
-line_written l w n xs ys zs us h k p q r t =
-    let n₁ = put_long l 4 2 n.block xs p in
-    let n₂ = put_long (with_block l xs) 7 2 n.class ys q in
-    let n₃ = put_long (with_class l xs ys) 10 14 n.first zs r in
-    let b = put_is l 4 2 n.block xs p (omega arith) in
-    let c = put_is (with_block l xs) 7 2 n.class ys q (omega arith) in
-    let f = put_is (with_class l xs ys) 10 14 n.first zs r (omega arith) in
-    let g = put_is (with_first l xs ys zs) 25 14 n.second us t (omega arith) in
-    rw (b, c, f, g, is_values 0 sheet_line_bytes l h, is_values 0 3 w k) (filled (λ i. get_or l i 0) (λ i. get_or w i 0) n)
+  pub line_written : length l ≡ sheet_line_bytes → length w ≡ 3 → ks ≡ key w n.block n.class → Field-in with_key 10 14 n.first xs
+      → Field-in with_first 25 14 n.second ys → set (put_mid 25 14 with_first ys) 39 10 ≡ lettered w n
+  line_written h k e p q =
+      let a : length ks ≡ 9 = ap length e ∙ length_key w n.block n.class k in
+      let A = next (part (nothing l) 9 ks (omega arith) a) 32 (omega arith) in
+      let x = put_is with_key 10 14 n.first xs p (omega (arith, A.long)) in
+      let B = next (part A 14 xs (omega arith) (ap length x ∙ length_decimal 14 n.first)) 32 (omega arith) in
+      let y = put_is with_first 25 14 n.second ys q (omega (arith, B.long)) in
+      let C = next (part B 14 ys (omega arith) (ap length y ∙ length_decimal 14 n.second)) 10 (omega arith) in
+      all_written C (omega arith) ∙ rw (e, x, y, is_values 0 3 w k) (sym (by_key (λ i. get_or w i 0) n))

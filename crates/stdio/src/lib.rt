@@ -57,7 +57,7 @@ pub fn read_some<R: Read>(input: &mut R, room: &mut [u8]) -> Result<usize, Failu
 }
 
 // Writes the first n bytes of a text, and fails where not all of them were written: always of a text that has fewer.
-// Kept: the length stands beside the text, as the test of it is what a text that is too short is refused by.
+// Kept: the length stands beside the text: that a text with fewer bytes is refused is a promise, which a slice alone can't give.
 pub fn put<W: Write>(output: &mut W, text: &[u8], n: usize) -> Result<(), Failure>
     ensures whole { OnOk result (n ≤ length text.now) }
     ensures written { OnOk result (Appends (W.contents output.old) (W.contents output.new) (take n text.now)) }

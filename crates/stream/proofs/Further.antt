@@ -79,7 +79,8 @@ unfolding count
 byte_after s b t h =
     let e = further s (b ∷ t) h in
     let p = some_count b t in
-    let n : length ((sheets_of s).closed ++ (sheets_of (b ∷ t)).closed) ≡ length (sheets_of s).closed + length (sheets_of (b ∷ t)).closed = length-append (sheets_of s).closed (sheets_of (b ∷ t)).closed in
+    let n : length ((sheets_of s).closed ++ (sheets_of (b ∷ t)).closed) ≡ length (sheets_of s).closed + length (sheets_of (b ∷ t)).closed =
+    length-append (sheets_of s).closed (sheets_of (b ∷ t)).closed in
     rw e (rw n (omega arith), take_at (sheets_of s).closed (sheets_of (b ∷ t)).closed (length (sheets_of s).closed) refl)
 
 -- more sheets than n stay more, whatever follows, and the first n stay as they are

@@ -41,6 +41,7 @@ pub fn fresh() -> Held
 }
 
 // The bytes of a chunk from a place on, up to the first closing line: the sheet goes on after all of them, or it is closed.
+// Kept: the place beside the chunk, as `next` counts from the chunk's front too; a part of it would be counted from there and added back.
 pub fn feed(room: &mut [u8], held: Held, chunk: &[u8], from: usize) -> ControlFlow<Closed, Held>
     requires within { Within (length room.old) held }
     requires from_in_bounds { from ≤ length chunk.now }

@@ -16,7 +16,7 @@ pub struct Accepted {
 }
 
 // What is known of the accepted sheets so far; zeros where there is none.
-// Kept: zeros and not an Option, since they are what is printed where none is accepted.
+// Kept: zeros and not an Option: in one, that the count is above 0 would be a fact carried beside it, for the division by it in `items`.
 #[derive(Clone, Copy)]
 pub struct Summary {
     pub count: u64,

@@ -17,6 +17,7 @@ use stdio::Failure;
 const INPUT_ROOM: usize = INPUT_BYTES + 1;
 
 // Has the input answered, or says what kept it from its answer.
+// Kept: in each program, as two sentences differ. A shared function would be public and could promise nothing, as `eprintln` has no contract.
 fn main(rt: HostRuntime) {
     if let Err(failure) = answer(&mut rt.stdin(), &mut io::writer(&rt)) {
         let _ = rt.eprintln(match failure {
@@ -27,6 +28,7 @@ fn main(rt: HostRuntime) {
 }
 
 // Of an input of any bytes and any length, the lines of the movements or the line of its refusal.
+// Kept: in each program, as the room, the call and its text differ: what the programs share is `stdio::answer`.
 fn answer<R: Read, W: Write>(input: &mut R, output: &mut W) -> Result<(), Failure>
     ensures { Prints (λ s. printout (movements s)) (R.remaining input.old) (W.contents output.old) (W.contents output.new) result }
 {

@@ -15,6 +15,7 @@ use stdio::Failure;
 const CHUNK: usize = 4096;
 
 // Has the sheets answered, or says what kept them from their answer.
+// Kept: in each program, as two sentences differ. A shared function would be public and could promise nothing, as `eprintln` has no contract.
 fn main(rt: HostRuntime) {
     if let Err(failure) = answer(&mut rt.stdin(), &mut io::writer(&rt)) {
         let _ = rt.eprintln(match failure {
@@ -49,7 +50,7 @@ fn take_input<R: Read>(
     for _ in 0..u64::MAX {
         let n = stdio::read_some(input, &mut chunk)?;
         q = quarter::take_chunk(room, out, q, &chunk[..n]);
-        if n == 0 || q.over {
+        if n == 0 || q.held.is_none() {
             return Ok(q);
         }
     }

@@ -18,6 +18,7 @@ use stdio::Failure;
 const SHEET_ROOM: usize = LONGEST_SHEET + 1;
 
 // Has the sheet answered, or says what kept it from its answer.
+// Kept: in each program, as two sentences differ. A shared function would be public and could promise nothing, as `eprintln` has no contract.
 fn main(rt: HostRuntime) {
     if let Err(failure) = answer(&mut rt.stdin(), &mut io::writer(&rt)) {
         let _ = rt.eprintln(match failure {
@@ -28,6 +29,7 @@ fn main(rt: HostRuntime) {
 }
 
 // Of a sheet of any bytes and any length, its report or the line of its refusal.
+// Kept: in each program, as the room, the call and its text differ: what the programs share is `stdio::answer`.
 fn answer<R: Read, W: Write>(input: &mut R, output: &mut W) -> Result<(), Failure>
     ensures { Prints (λ s. printout (answer_to (judgement s))) (R.remaining input.old) (W.contents output.old) (W.contents output.new) result }
 {

@@ -3,13 +3,12 @@ use Rattle.std.specs.Prelude.{Option, Some, None}
 use mathlib.Core.Path.{◌≡◌, refl, sym, ap, ◌∙◌}
 use mathlib.Core.Bool.{Bool, false, not}
 use mathlib.Core.List.{List}
-use Prim.Native.Nat.{ℕ, zero, suc, ◌≤◌}
+use Prim.Native.Nat.{ℕ}
 use native.Mathlib.Decide.{ℕ_discrete}
-use native.Mathlib.Omega.{arith}
 use lib.Dec.{ltb}
 use Rattle.search.specs.Pick.{pick}
-use Rattle.search.specs.First.{any_to}
 use Rattle.search.proofs.Picks.{if_eq, if_ne}
+use Rattle.search.proofs.Anys.{any_same}
 use Rattle.codes.specs.Codes.{risk_classes, Key}
 use Rattle.codes.specs.declared.Code.TheVariants.{Rsk}
 use Rattle.sheet_line.specs.declared.Entry.{Entry}
@@ -22,13 +21,7 @@ use Rattle.needs.specs.declared.Label.{Label}
 use Rattle.unmet.specs.Asked.{Asked}
 use Rattle.unmet.proofs.Asking.{risk_key, companion_asked}
 
--- two tests that agree on 1 to n
-any_same : (P Q : ℕ → Bool) (n : ℕ) → ((c : ℕ) → 1 ≤ c → c ≤ n → P c ≡ Q c) → any_to P n ≡ any_to Q n
-unfolding any_to
-any_same P Q zero h = refl
-any_same P Q (suc n) h = rw (any_same P Q n (λ c l k. h c l (omega arith)), h (suc n) (omega arith) (omega arith))
-
-module _ {es : List Entry} {f s m : List ℕ} (H : Held es f s m) where
+module _ {es : List Entry} {f s : List ℕ} {m : List Bool} (H : Held es f s m) where
   same_counts : (l : Label) → Asked l → counts (tabled f) l ≡ counts (lookup first_of es) l
   unfolding counts some_risk
   same_counts l a =

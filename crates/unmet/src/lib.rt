@@ -13,6 +13,7 @@ use needs::Label;
 use order::PLACES;
 
 // Whether the need of a line is unmet.
+// Kept: tables beside one another, which any caller may fill; a ledger would ask more of callers.
 pub fn unmet(firsts: &[u64; PLACES], seconds: &[u64; PLACES], l: Label) -> bool
     requires { Key l.code l.block l.class }
     ensures { result ≡ unmet_by (tabled firsts.now) (tabled seconds.now) l }
@@ -38,6 +39,7 @@ fn all_zero(first: u64, second: u64) -> bool
 }
 
 // Whether a companion is there and its first amount isn't 0.
+// Kept: class 0 for whichever class there is, as `needs::need_of` gives it.
 fn counts(firsts: &[u64; PLACES], companion: Label) -> bool
     requires { Asked companion }
     ensures { result ≡ counts (tabled firsts.now) companion }
@@ -50,6 +52,7 @@ fn counts(firsts: &[u64; PLACES], companion: Label) -> bool
 }
 
 // Whether an RSK line of a block has a first amount that isn't 0.
+// Kept: the block's range as a clause, as in credits, which says why.
 fn some_risk(firsts: &[u64; PLACES], block: usize) -> bool
     requires { (1 ≤ block) × (block ≤ blocks) }
     ensures { result ≡ some_risk (tabled firsts.now) block }

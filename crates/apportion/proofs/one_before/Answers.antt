@@ -17,7 +17,11 @@ use Rattle.apportion.proofs.one_before.Goals as goal
 
 -- what the tests of two pairs say together
 together : (l e m n : Bool) →
-    is_some_and is_lt (partial_ordering_then (Some (cond l Ordering.Less (cond e Ordering.Equal Ordering.Greater))) (Some (cond m Ordering.Less (cond n Ordering.Equal Ordering.Greater)))) ≡ cond l true (cond e m false)
+    is_some_and is_lt
+    (partial_ordering_then
+    (Some (cond l Ordering.Less (cond e Ordering.Equal Ordering.Greater)))
+    (Some (cond m Ordering.Less (cond n Ordering.Equal Ordering.Greater))))
+    ≡ cond l true (cond e m false)
 together true e m n = refl
 together false true true n = refl
 together false true false true = refl

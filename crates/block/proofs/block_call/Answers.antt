@@ -1,32 +1,20 @@
--- Each return is the chain of the tests that led to it: rules 7, 8 and 9 in order, and past the last one the block is accepted. Demand 3 and
--- the bound of the steps are laws of that outcome. Assumes nothing.
-use mathlib.Core.Path.{sym, ◌∙◌}
+-- What is worked out of the block is what the call is to give. Demand 3 and the bound of the steps are laws of that outcome. Assumes nothing.
+use mathlib.Core.Path.{◌≡◌, ◌∙◌}
 use mathlib.Core.List.{◌++◌}
 use Rattle.refusal.specs.Outcome.Outcome.{accepted}
-use Rattle.amount.proofs.Amounts.{none_above}
-use Rattle.block.proofs.Rules.{refused_7, passed_7, refused_8, passed_8, refused_9, passed_9, acceptable}
+use Rattle.figures.specs.Parts.{figure_list, step_list}
+use Rattle.block.specs.Call.{block_call}
 use Rattle.block.proofs.Accepted.{block_demanded, block_few_steps}
+use Rattle.block.proofs.block_call.Goals.{After-worked_out}
 use Rattle.block.proofs.block_call.Goals as goal
 
-pub returns-in-Some-clause-outcome : goal.returns-in-Some-clause-outcome
-returns-in-Some-clause-outcome c = sym (refused_7 _ c.in-Some.ensures)
+given : (c : After-worked_out) →
+    let w = c.worked_out.result in
+    accepted (figure_list w.figures ++ step_list w.steps) ≡ block_call c.args.b.now
+given c = (λ j. accepted (c.worked_out.ensures.0 j ++ c.worked_out.ensures.1 j)) ∙ c.in_ok-block.ensures.outcome
 
-pub returns-then-b-ne0-clause-outcome : goal.returns-then-b-ne0-clause-outcome
-returns-then-b-ne0-clause-outcome c = sym (passed_7 _ c.in_default.ensures ∙ refused_8 _ c.if-b-ne0.true)
+pub returns-clause-demand3 : goal.returns-clause-demand3
+returns-clause-demand3 c = block_demanded _ _ (given c)
 
-pub returns-in-Some-first_lt_above-clause-outcome : goal.returns-in-Some-first_lt_above-clause-outcome
-returns-in-Some-first_lt_above-clause-outcome c =
-    sym (passed_7 _ c.in_default.ensures ∙ passed_8 _ c.if-b-ne0.false ∙ refused_9 _ c.in-Some-first_lt_above.ensures)
-
-pub worked_out-requires : goal.worked_out-requires
-worked_out-requires c = acceptable _ (none_above _ c.in_default.ensures) c.if-b-ne0.false c.in_default-first_lt_above.ensures
-
-pub returns : goal.returns
-returns c =
-    let e =
-    (λ j. accepted (c.worked_out.ensures.0 j ++ c.worked_out.ensures.1 j))
-    ∙ sym (passed_7 _ c.in_default.ensures ∙ passed_8 _ c.if-b-ne0.false ∙ passed_9 _ c.in_default-first_lt_above.ensures) in record {
-      outcome = e;
-      demand3 = block_demanded _ _ e;
-      few_steps = block_few_steps _ _ e;
-    }
+pub returns-clause-few_steps : goal.returns-clause-few_steps
+returns-clause-few_steps c = block_few_steps _ _ (given c)

@@ -2,13 +2,13 @@
 use mathlib.Core.Path.{refl, sym, ap, ◌∙◌}
 use native.Mathlib.Omega.{arith}
 use Rattle.std.proofs.lemmas.Result.{err_from_is_err_and}
-use Rattle.order.specs.Places.{table}
+use Rattle.order.specs.Marks.{marks_of}
 use Rattle.printing.specs.Lent.{stated}
 use Rattle.convert.proofs.Calls.{lines_turned, lines_short, lines_written}
 use Rattle.convert.proofs.convert_lines.Goals as goal
 
 pub test_lines-requires : goal.test_lines-requires
-unfolding table
+unfolding marks_of
 test_lines-requires c = refl
 
 pub returns-in_err-test_lines : goal.returns-in_err-test_lines

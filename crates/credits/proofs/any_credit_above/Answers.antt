@@ -6,7 +6,7 @@ use lib.Dec.{ltb}
 use Rattle.codes.specs.declared.Code.TheVariants.{Rsk}
 use Rattle.order.specs.Places.{tabled}
 use Rattle.guideline.specs.Sizes.{non_participating}
-use Rattle.ledger.proofs.Ranges.{any_below}
+use Rattle.search.proofs.Ranges.{any_below}
 use Rattle.credits.specs.Credits.{credit_above}
 use Rattle.credits.proofs.Credits.{above_is}
 use Rattle.credits.proofs.any_credit_above.Goals as goal

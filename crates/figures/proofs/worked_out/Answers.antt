@@ -13,24 +13,24 @@ use Rattle.figures.proofs.worked_out.Goals as goal
 
 pub diversified-joint-requires : goal.diversified-joint-requires
 diversified-joint-requires c =
-    omega (arith, c.insurance-insurance.ensures.0, joint_fits _ c.requires)
+    omega (arith, c.insurance-insurance.ensures.0, c.credit_and_market.ensures.0, joint_fits _ c.args.b.now.accepted)
 
 -- D, from what was found of I
-joined : (c : After-diversified-joint) → c.diversified-joint.result.root ≡ fine_d c.args.b.now
+joined : (c : After-diversified-joint) → c.diversified-joint.result.root ≡ fine_d c.args.b.now.numbers
 joined c =
-    joint_found _ _ _ c.insurance-insurance.ensures.0 c.diversified-joint.ensures.0
+    joint_found _ _ _ _ c.credit_and_market.ensures.0 c.insurance-insurance.ensures.0 c.diversified-joint.ensures.0
 
 pub adjusted-k-requires : goal.adjusted-k-requires
 adjusted-k-requires c =
-    bounded _ c.requires _ _ _ c.undiversified-u.ensures c.level_and_trend-lt.ensures (joined (goal.at.adjusted-k-requires c).After-diversified-joint)
+    bounded _ c.args.b.now.accepted _ _ _ c.undiversified-u.ensures c.level_and_trend-lt.ensures (joined (goal.at.adjusted-k-requires c).After-diversified-joint)
 
 pub in_half_cents-requires : goal.in_half_cents-requires
 in_half_cents-requires c =
-    omega (arith, c.insurance-insurance.ensures.0, (fine_fit _ c.requires).0)
+    omega (arith, c.insurance-insurance.ensures.0, (fine_fit _ c.args.b.now.accepted).0)
 
 pub in_half_cents-requires-2 : goal.in_half_cents-requires-2
 in_half_cents-requires-2 c =
-    omega (arith, joined (goal.at.in_half_cents-requires-2 c).After-diversified-joint, (fine_fit _ c.requires).1)
+    omega (arith, joined (goal.at.in_half_cents-requires-2 c).After-diversified-joint, (fine_fit _ c.args.b.now.accepted).1)
 
 pub returns : goal.returns
 unfolding figures_of steps_of
@@ -43,5 +43,5 @@ returns c =
     let h = i_found _ _ _ i.0 c.in_half_cents.ensures in
     let e = d_found _ _ _ (joined diversified_joint) c.in_half_cents-2.ensures in (
       (λ j. h j ∷ e j ∷ u j ∷ t j ∷ k j ∷ []),
-      λ j. i.1 j ∷ (c.diversified-joint.ensures.1 ∙ ap steps (joint_radicand _ _ i.0)) j ∷ [],
+      λ j. i.1 j ∷ (c.diversified-joint.ensures.1 ∙ ap steps (joint_radicand _ _ _ c.credit_and_market.ensures.0 i.0)) j ∷ [],
     )

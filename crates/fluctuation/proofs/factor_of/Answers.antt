@@ -70,8 +70,3 @@ returns-in-0-to-30000000000 c = one 7 _ _ c.in-7.is (omega arith)
 pub returns-in_default-face : goal.returns-in_default-face
 unfolding row_of rows base_of
 returns-in_default-face c = falling 7 _ _ c.in-7.is (omega arith)
-
-pub returns-in_default : goal.returns-in_default
-unfolding row_of rows base_of
-returns-in_default c =
-    absurd (omega arith)

@@ -8,17 +8,9 @@ use Rattle.search.specs.Least.{least}
 use Rattle.wide.specs.Value.{value}
 use Rattle.fluctuation.specs.Result.{scale}
 use Rattle.fluctuation.specs.Parts.{most_twentieths}
-use Rattle.fluctuation.proofs.Radicand.{radicand, radicand_within, root_same, in_root, in_words}
+use Rattle.fluctuation.proofs.Radicand.{radicand, radicand_within, root_same}
 use Rattle.fluctuation.proofs.over_root.Goals.{After-divide_up-part, After-from}
 use Rattle.fluctuation.proofs.over_root.Goals as goal
-
-pub divide-by-requires : goal.divide-by-requires
-divide-by-requires c = let p = c.requires in (p.positive, omega (arith, p.small))
-
-pub divide_up-part-requires : goal.divide_up-part-requires
-divide_up-part-requires c =
-    let p = c.requires in
-    (p.positive, omega (arith, p.small), omega (arith, c.product-2.ensures, c.divide-by.ensures.0))
 
 -- the quotient and the rest of c², and what the rest adds
 module _ (c : After-divide_up-part) where
@@ -38,24 +30,9 @@ module _ (c : After-divide_up-part) where
   radicand_small : own_radicand ≤ most_twentieths * most_twentieths
   radicand_small = radicand_within _ _ _ _ _ small whole part_is _ c.requires.within
 
-pub mul-requires : goal.mul-requires
-mul-requires c = in_words _ (omega (arith, radicand_small (goal.at.mul-requires c).After-divide_up-part))
-
 -- the sum is the radicand
 sum_is : (c : After-from) → value c.mul.result + value c.from.result ≡ own_radicand (goal.at.After-from c).After-divide_up-part
 sum_is c = omega (arith, c.mul.ensures, c.from.ensures)
-
-pub add-requires : goal.add-requires
-add-requires c =
-    let from = (goal.at.add-requires c).After-from in
-    let divide_up_part = (goal.at.add-requires c).After-divide_up-part in
-    in_words _ (omega (arith, sum_is from, radicand_small divide_up_part))
-
-pub root_up-requires : goal.root_up-requires
-root_up-requires c =
-    let from = (goal.at.root_up-requires c).After-from in
-    let divide_up_part = (goal.at.root_up-requires c).After-divide_up-part in
-    in_root _ (omega (arith, c.add.ensures, sum_is from, radicand_small divide_up_part))
 
 pub returns : goal.returns
 returns c =

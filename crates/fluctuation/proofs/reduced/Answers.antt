@@ -12,18 +12,12 @@ use Rattle.fluctuation.proofs.reduced.Goals as goal
 first_fits : (c : Start) → c.args.factor.0 * c.args.requirement ≤ 1999999999999980
 first_fits c = mul-le-mul {n₂ = 20} {m₂ = limit} c.requires.first_small c.requires.amount
 
-pub overflow_mul-requirement : goal.overflow_mul-requirement
-overflow_mul-requirement c = omega (arith, mul-le-mul {n₂ = limit} {m₂ = 14722} c.requires.amount c.requires.second_small)
-
 pub over_root-over-requires : goal.over_root-over-requires
 over_root-over-requires c = let p = c.requires in record { positive = p.positive; small = p.small; within = square_small _ _ _ _ p }
 
 -- with the root's part the sum is at most 20 × B
 sum_small : (c : After-over_root-over) → c.args.factor.0 * c.args.requirement + c.over_root-over.result ≤ 1999999999999980
 sum_small c = omega (arith, root_high _ _ _ _ c.requires _ c.over_root-over.ensures, c.requires.amount)
-
-pub overflow_mul-first : goal.overflow_mul-first
-overflow_mul-first c = omega (arith, sum_small (goal.at.overflow_mul-first c).After-over_root-over)
 
 pub overflow_add-first : goal.overflow_add-first
 overflow_add-first c = omega (arith, sum_small (goal.at.overflow_add-first c).After-over_root-over)

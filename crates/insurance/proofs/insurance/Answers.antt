@@ -5,7 +5,7 @@ use mathlib.Core.List.{List}
 use Prim.Native.Nat.{ℕ, max, ◌+◌, ◌*◌, ◌≤◌}
 use native.Mathlib.Omega.{arith}
 use Rattle.guideline.specs.Sizes.{fineness}
-use Rattle.guideline.specs.Block.{PC, largest_of, largest, root, fine_i}
+use Rattle.guideline.specs.Block.{largest_of, largest, root, fine_i}
 use Rattle.wide.specs.Value.{value}
 use Rattle.root.specs.Steps.{steps}
 use Rattle.correlation.specs.Products.{SmallYs}
@@ -15,38 +15,38 @@ use Rattle.insurance.proofs.insurance.Goals.{After-root_and_steps-found, After-m
 use Rattle.insurance.proofs.insurance.Goals as goal
 
 pub correlated-sum-requires : goal.correlated-sum-requires
-correlated-sum-requires c = subst (λ (l : List ℕ). SmallYs l) (sym c.half_cents-y.ensures) (ys_fit _ c.requires)
+correlated-sum-requires c = subst (λ (l : List ℕ). SmallYs l) (sym c.half_cents-y.ensures) (ys_fit _ c.args.b.now.accepted)
 
 pub mul-requires : goal.mul-requires
 mul-requires c =
-    product_fits _ c.requires _ _ c.half_cents-y.ensures c.correlated-sum.ensures
+    product_fits _ c.args.b.now.accepted _ _ c.half_cents-y.ensures c.correlated-sum.ensures
 
 -- 10,000 × Q
-radicand : (c : After-mul) → value c.mul.result ≡ radicand_i c.args.b.now
+radicand : (c : After-mul) → value c.mul.result ≡ radicand_i c.args.b.now.numbers
 radicand c =
     radicand_found _ _ _ _ c.half_cents-y.ensures c.correlated-sum.ensures c.mul.ensures
 
 pub root_and_steps-found-requires : goal.root_and_steps-found-requires
 root_and_steps-found-requires c =
-    let h : value c.mul.result ≤ largest_radicand = omega (arith, radicand c, radicand_small _ c.requires) in
+    let h : value c.mul.result ≤ largest_radicand = omega (arith, radicand c, radicand_small _ c.args.b.now.accepted) in
     in_root _ h
 
-rooted : (c : After-root_and_steps-found) → c.root_and_steps-found.result.root ≡ root c.args.b.now
+rooted : (c : After-root_and_steps-found) → c.root_and_steps-found.result.root ≡ root c.args.b.now.numbers
 rooted c = root_found _ _ _ (radicand (goal.at.After-root_and_steps-found c).After-mul) c.root_and_steps-found.ensures.0
 
 -- the larger of the root and the largest y(i), as the block has them
 floor : (c : After-root_and_steps-found) →
-    let b = c.args.b.now in
+    let b = c.args.b.now.numbers in
     max c.root_and_steps-found.result.root (fineness * largest_of c.half_cents-y.result) ≡ max (root b) (fineness * largest b)
-floor c = floor_found _ c.requires _ _ c.half_cents-y.ensures (rooted c)
+floor c = floor_found _ c.args.b.now.accepted _ _ c.half_cents-y.ensures (rooted c)
 
 pub floor_then_pc-requires : goal.floor_then_pc-requires
 floor_then_pc-requires c =
-    omega (arith, floor (goal.at.floor_then_pc-requires c).After-root_and_steps-found, floor_room _ c.requires)
+    omega (arith, floor (goal.at.floor_then_pc-requires c).After-root_and_steps-found, floor_room _ c.args.b.now.accepted)
 
 pub returns : goal.returns
 unfolding fine_i
 returns c = (
-  c.floor_then_pc.ensures ∙ ap (λ (n : ℕ). n + fineness * (2 * PC c.args.b.now)) (floor (goal.at.returns c).After-root_and_steps-found),
+  c.floor_then_pc.ensures ∙ (λ j. floor (goal.at.returns c).After-root_and_steps-found j + fineness * (2 * c.pc.ensures j)),
   c.root_and_steps-found.ensures.1 ∙ ap steps (radicand (goal.at.returns c).After-mul),
 )

@@ -1,4 +1,4 @@
--- The numbers taken off the tables are those of the lines they hold. Assumes nothing.
+-- The numbers taken off the ledger are those of the lines that it holds. Assumes nothing.
 use mathlib.Core.Path.{◌≡◌, ◌∙◌}
 use mathlib.Core.List.{List, [], ◌∷◌}
 use native.Mathlib.Omega.{arith}

@@ -13,21 +13,18 @@ use Rattle.sheet_blocks.specs.Blocks.{dividend_barred}
 use Rattle.ledger.specs.Lines.{Holds}
 use Rattle.std.proofs.Props.{props}
 use Rattle.ledger.proofs.Tables.{of_lines, general_is}
-use Rattle.judgement.proofs.Accepted.{dividends_most, available_small, free_small, scalar_ranged}
+use Rattle.judgement.proofs.Accepted.{dividends_most, available_small, free_small, scalar_most}
 use Rattle.judgement.proofs.Available.{available_is, buffer_is}
 use Rattle.judgement.proofs.Rules.{dividend_above, credits_above, passes, figured}
 use Rattle.judgement.proofs.rule_17.Goals.{After-general_amount, After-general_amount-2, After-general_amount-3, Else-w, Start}
 use Rattle.judgement.proofs.rule_17.Goals as goal
 
--- the tables hold these lines
+-- the ledger holds these lines
 abbrev Lines : Start → List Entry → Type 0
-Lines s es = Holds es s.args.ledger.now
+Lines s es = Holds es s.args.credited.now.ledger.now
 
-pub returns-then-w : goal.returns-then-w
-returns-then-w c = record {
-  findings = λ es H. dividend_above es (sym (c.work_out-w.ensures.worked_out es H).barred ∙ c.if-w.true);
-  behind_rows = tt;
-}
+pub returns-then-w-clause-findings : goal.returns-then-w-clause-findings
+returns-then-w-clause-findings c es H = dividend_above es (sym (c.work_out-w.ensures.worked_out es H).barred ∙ c.if-w.true)
 
 -- rule 17 bars no dividend credit
 none_barred : (c : Else-w) (es : List Entry) → Lines (goal.at.Else-w c).Start es → any_to (dividend_barred es) blocks ≡ false
@@ -36,7 +33,7 @@ none_barred c es H = sym (c.work_out-w.ensures.worked_out es H).barred ∙ c.if-
 -- so they can be taken off the sum of K
 pub overflow_sub-available : goal.overflow_sub-available
 overflow_sub-available c =
-    of_lines c.args.ledger.now (hlevel props)
+    of_lines c.args.credited.now.ledger.now (hlevel props)
     (λ es H.
     let e = c.work_out-w.ensures.worked_out es H in
     omega (arith, e.sum, e.dividends, dividends_most es H.lines blocks (none_barred (goal.at.overflow_sub-available c).Else-w es H)))
@@ -56,8 +53,8 @@ small : (c : After-general_amount) →
     let w = c.work_out-w.result in
     w.sum - w.dividends + c.general_amount.result + c.operational_figure-ro.result ≤ most_available
 small c =
-    of_lines c.args.ledger.now (hlevel props)
-    (λ es H. omega (arith, total c es H, available_small es H.lines (c.requires.credited es H).covered))
+    of_lines c.args.credited.now.ledger.now (hlevel props)
+    (λ es H. omega (arith, total c es H, available_small es H.lines (c.args.credited.now.covered es H)))
 
 -- the credits that belong to no block
 free_is : (c : After-general_amount-2) (es : List Entry) → Lines (goal.at.After-general_amount-2 c).Start es
@@ -69,17 +66,15 @@ free_is c es H =
     λ i. a i + g i
 
 pub overflow_add-free : goal.overflow_add-free
-overflow_add-free c = of_lines c.args.ledger.now (hlevel props) (λ es H. omega (arith, free_is c es H, free_small es H.lines))
+overflow_add-free c = of_lines c.args.credited.now.ledger.now (hlevel props) (λ es H. omega (arith, free_is c es H, free_small es H.lines))
 
-pub returns-then-available-free : goal.returns-then-available-free
-returns-then-available-free c =
-    let at_w = (goal.at.returns-then-available-free c).Else-w in
-    let general_amount = (goal.at.returns-then-available-free c).After-general_amount in
-    let general_amount_2 = (goal.at.returns-then-available-free c).After-general_amount-2 in
-    record {
-      findings = λ es H. credits_above es (none_barred at_w es H) (omega (arith, c.if-available-free.true, total general_amount es H, free_is general_amount_2 es H));
-      behind_rows = tt;
-    }
+pub returns-then-available-free-clause-findings : goal.returns-then-available-free-clause-findings
+returns-then-available-free-clause-findings c es H =
+    let at_w = (goal.at.returns-then-available-free-clause-findings c).Else-w in
+    let general_amount = (goal.at.returns-then-available-free-clause-findings c).After-general_amount in
+    let general_amount_2 = (goal.at.returns-then-available-free-clause-findings c).After-general_amount-2 in
+    credits_above es (none_barred at_w es H)
+    (omega (arith, c.if-available-free.true, total general_amount es H, free_is general_amount_2 es H))
 
 scalar_is_g : (c : After-general_amount-3) (es : List Entry) → Lines (goal.at.After-general_amount-3 c).Start es
     → c.general_amount-3.result ≡ (sheet_of es).g
@@ -89,30 +84,26 @@ scalar_is_g c es H = c.general_amount-3.ensures ∙ general_is H 4 (omega arith,
 pub scaled-buffer-requires : goal.scaled-buffer-requires
 scaled-buffer-requires c =
     let general_amount = (goal.at.scaled-buffer-requires c).After-general_amount in
-    of_lines c.args.ledger.now (hlevel props)
-    (λ es H. (omega (arith, scalar_is_g c es H, (scalar_ranged es H.lines (c.requires.credited es H).scalar).1), omega (arith, small general_amount)))
+    of_lines c.args.credited.now.ledger.now (hlevel props)
+    (λ es H. (omega (arith, scalar_is_g c es H, scalar_most es H.lines), omega (arith, small general_amount)))
 
-pub returns : goal.returns
+pub returns-clause-findings : goal.returns-clause-findings
 unfolding sheet_of
-returns c =
-    let general_amount_3 = (goal.at.returns c).After-general_amount-3 in
-    let general_amount = (goal.at.returns c).After-general_amount in
-    let general_amount_2 = (goal.at.returns c).After-general_amount-2 in
-    let at_w = (goal.at.returns c).Else-w in
-    let w = c.work_out-w.ensures in record {
-      findings = λ es H.
-          let worked = w.worked_out es H in
-          figured es
-          (record {
-            count_is = worked.count;
-            rows_are = worked.front;
-            sum_is = worked.sum;
-            ro_is = c.operational_figure-ro.ensures es H;
-            buffer_is = buffer_is es _ _ _ _ (scalar_is_g general_amount_3 es H) (total general_amount es H) (free_is general_amount_2 es H) c.scaled-buffer.ensures;
-          })
-          ∙ passes es (none_barred at_w es H) (omega (arith, c.if-available-free.false, total general_amount es H, free_is general_amount_2 es H));
-      behind_rows = w.rest_kept;
-    }
+returns-clause-findings c es H =
+    let at_w = (goal.at.returns-clause-findings c).Else-w in
+    let bracket = total (goal.at.returns-clause-findings c).After-general_amount es H in
+    let credits = free_is (goal.at.returns-clause-findings c).After-general_amount-2 es H in
+    let g = scalar_is_g (goal.at.returns-clause-findings c).After-general_amount-3 es H in
+    let worked = c.work_out-w.ensures.worked_out es H in
+    figured es
+    (record {
+      count_is = worked.count;
+      rows_are = worked.front;
+      sum_is = worked.sum;
+      ro_is = c.operational_figure-ro.ensures es H;
+      buffer_is = buffer_is es _ _ _ _ g bracket credits c.scaled-buffer.ensures;
+    })
+    ∙ passes es (none_barred at_w es H) (omega (arith, c.if-available-free.false, bracket, credits))
 
 pub overflow_add-available : goal.overflow_add-available
 overflow_add-available c = omega (arith, small c)

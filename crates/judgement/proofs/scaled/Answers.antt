@@ -1,25 +1,13 @@
--- The bracket split by 10,000 gives the same quotient, and no product of the parts passes a word. Assumes nothing.
-use Prim.Native.Nat.{◌*◌, ◌/◌, ◌%◌, ◌^◌, ◌<◌}
+-- The bracket split by 10,000 gives the same quotient. Assumes nothing.
+use mathlib.Core.Path.{◌≡◌}
+use Prim.Native.Nat.{◌+◌, ◌*◌, ◌/◌, ◌%◌}
 use native.Mathlib.Omega.{arith}
 use Rattle.guideline.specs.Sizes.{ten_thousandths}
-use Rattle.guideline.proofs.Totals.{buffer_split, split_fits}
-use Rattle.judgement.proofs.scaled.Goals.{Start}
+use Rattle.guideline.proofs.Totals.{buffer_split}
 use Rattle.judgement.proofs.scaled.Goals as goal
 
-room : (c : Start) → (c.args.g * (c.args.bracket / ten_thousandths) < 2 ^ 57) × (c.args.g * (c.args.bracket % ten_thousandths) < 2 ^ 28)
-room c = split_fits _ _ c.requires.0 c.requires.1
-
-pub overflow_mul-result : goal.overflow_mul-result
-overflow_mul-result c = omega (arith, room c)
-
-pub overflow_mul-result-2 : goal.overflow_mul-result-2
-overflow_mul-result-2 c = omega (arith, room c)
-
-pub overflow_add-result : goal.overflow_add-result
-overflow_add-result c = omega (arith, room c)
-
-pub overflow_add-result-2 : goal.overflow_add-result-2
-overflow_add-result-2 c = omega (arith, room c)
-
 pub returns : goal.returns
-returns c = buffer_split _ _ c.requires.0 c.requires.1
+returns c =
+    let x = c.args.g * (c.args.bracket % ten_thousandths) in
+    let e : c.div_ceil.result ≡ (x + 9999) / ten_thousandths = omega (arith, c.div_ceil.ensures) in
+    rw e (buffer_split _ _ c.requires.0 c.requires.1)

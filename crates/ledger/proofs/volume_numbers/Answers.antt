@@ -1,14 +1,9 @@
 -- Whenever the loop's test is reached, the first i pairs are those of the tables; the pair that follows is read at its own index. Assumes nothing.
 use mathlib.Core.Path.{refl}
 use native.Mathlib.Omega.{arith}
-use Rattle.ledger.proofs.Numbers.{no_pair, next_pair, joined_fits, volumes_written}
+use Rattle.ledger.proofs.Numbers.{no_pair, next_pair, volumes_written}
 use borrow.Author.Rules.{rules}
 use Rattle.ledger.proofs.volume_numbers.Goals as goal
-
--- the sum of the two prior amounts fits
-pub overflow_add-numbers : goal.overflow_add-numbers
-overflow_add-numbers c =
-    omega (arith, joined_fits c.requires c.loop-i.i c.loop-i-test.true c.index_of-at.ensures.0 c.index_of.ensures.0)
 
 pub loop-i-preserved : goal.loop-i-preserved
 loop-i-preserved c =

@@ -5,4 +5,4 @@ use Rattle.listing.proofs.write_label.Goals as goal
 
 pub returns : goal.returns
 unfolding label_of
-returns c = c.write_key.ensures ∙ rw (c.letters_of-code.ensures, c.word.ensures, c.word-2.ensures)
+returns c = c.write_key.ensures ∙ rw (c.into.ensures, c.word.ensures, c.word-2.ensures)

@@ -1,15 +1,7 @@
 -- The two labels are put back where they were lent, and the stores put a space and the line feed behind them. Assumes nothing.
-use lib.ListN.{length-set}
 use Rattle.listing.proofs.Written.{listed_filled}
-use borrow.Author.Rules.{rules}
 use Rattle.listing.proofs.write_listed.Goals as goal
 
 pub returns : goal.returns
 returns c =
     listed_filled c.args.out.now _ _ _ _ c.requires c.write_label.ensures c.write_label-2.ensures
-
-pub bounds-out-19 : goal.bounds-out-19
-bounds-out-19 c = simp length-set (search rules)
-
-pub shape_of-out : goal.shape_of-out
-shape_of-out c = simp length-set (search rules)

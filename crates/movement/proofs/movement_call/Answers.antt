@@ -2,41 +2,48 @@
 -- what the theorem says of them is a law of that outcome. Assumes nothing.
 use mathlib.Core.Path.{◌≡◌, sym, ap, ◌∙◌}
 use native.Mathlib.Omega.{arith}
+use lib.ListN.{length}
 use Rattle.std.specs.Prelude.{Result}
 use Rattle.std.proofs.lemmas.Result.{err_from_is_err_and}
 use Rattle.refusal.specs.declared.Refusal.{Refusal}
-use Rattle.figures.specs.declared.Worked.{Worked}
-use Rattle.block.specs.Call.{stated, block_call}
+use Rattle.guideline.specs.declared.Block.{Block}
+use Rattle.guideline.specs.Sizes.{block_numbers}
+use Rattle.figures.specs.Parts.{figures_are}
+use Rattle.block.specs.Call.{stated_block, block_call}
 use Rattle.movement_input.specs.Reading.{block_of}
-use Rattle.movement.proofs.Calls.{unmoved, wrong_length, broken_line, block_refused, all_told, promised}
-use Rattle.movement.proofs.movement_call.Goals.{After-block_call}
+use Rattle.movement_input.proofs.Numbers.{length_numbers}
+use Rattle.movement.proofs.Calls.{wrong_length, broken_line, block_refused, all_told, promised}
+use Rattle.movement.proofs.movement_call.Goals.{After-accepted_block}
 use Rattle.movement.proofs.movement_call.Goals as goal
 
 -- what the block call says of the block that was read
-said : (c : After-block_call) (a : Result Worked Refusal) → c.block_call.result ≡ a → stated a ≡ block_call (block_of c.args.input.now)
-said c a e = sym (ap stated e) ∙ c.block_call.ensures.outcome ∙ ap block_call c.block_of-block.ensures
+said : (c : After-accepted_block) (a : Result Block Refusal) → c.accepted_block.result ≡ a → stated_block a ≡ block_call (block_of c.in-Some.input.now)
+said c a e = sym (ap stated_block e) ∙ c.accepted_block.ensures.outcome ∙ ap block_call c.block_of.ensures
 
-pub returns-then-input-ne-INPUT_BYTES : goal.returns-then-input-ne-INPUT_BYTES
-returns-then-input-ne-INPUT_BYTES c = promised _ _ _ (wrong_length _ _ c.if-input-ne-INPUT_BYTES.true)
+pub returns-in_default : goal.returns-in_default
+returns-in_default c = promised _ _ _ (wrong_length _ _ c.in_default.ensures.cases)
 
-pub returns-then-kept-lt-INPUT_LINES : goal.returns-then-kept-lt-INPUT_LINES
-returns-then-kept-lt-INPUT_LINES c =
-    promised _ _ _ (broken_line _ _ c.if-input-ne-INPUT_BYTES.false c.lines_kept-kept.ensures c.if-kept-lt-INPUT_LINES.true)
+pub returns-in-Some-first_broken : goal.returns-in-Some-first_broken
+returns-in-Some-first_broken c =
+    let w = c.in-Some.ensures.cases in
+    rw (← w.same) (promised _ _ _ (broken_line _ _ (ap length w.same ∙ w.long) c.in-Some-first_broken.ensures))
 
 pub write_movements-requires : goal.write_movements-requires
 write_movements-requires c =
-    (unmoved c.args.input.now c.block_of-block.ensures _ _ c.in_ok-worked.ensures.outcome, omega arith)
+    let read = c.in_ok-block.ensures.numbers ∙ c.block_of.ensures in
+    (ap length read ∙ length_numbers _ block_numbers, (figures_are _ _ c.figures_of-figures.ensures).4, omega arith)
 
-pub returns-in_err-worked : goal.returns-in_err-worked
-returns-in_err-worked c =
-    let e = said (goal.at.returns-in_err-worked c).After-block_call _ c.in_err-worked.was in
+pub returns-in_err-block : goal.returns-in_err-block
+returns-in_err-block c =
+    let w = c.in-Some.ensures.cases in
+    let e = said (goal.at.returns-in_err-block c).After-accepted_block _ c.in_err-block.was in
     let p = err_from_is_err_and c.from_residual.result c.from_residual.ensures.1 in
-    rw (p.1, p.2)
-    (promised _ _ _ (block_refused _ _ c.if-input-ne-INPUT_BYTES.false c.lines_kept-kept.ensures c.if-kept-lt-INPUT_LINES.false e))
+    rw (p.1, p.2, ← w.same) (promised _ _ _ (block_refused _ _ (ap length w.same ∙ w.long) c.in_default-first_broken.ensures e))
 
 pub returns : goal.returns
 returns c =
-    promised _ _ _
-    (all_told _ _ c.if-input-ne-INPUT_BYTES.false c.lines_kept-kept.ensures c.if-kept-lt-INPUT_LINES.false
-    (said (goal.at.returns c).After-block_call _ c.in_ok-worked.was)
-    (omega arith) c.block_of-block.ensures c.number_at-raise.ensures c.write_movements.ensures)
+    let w = c.in-Some.ensures.cases in
+    rw (← w.same)
+    (promised _ _ _
+    (all_told _ _ (ap length w.same ∙ w.long) c.in_default-first_broken.ensures (said (goal.at.returns c).After-accepted_block _ c.in_ok-block.was)
+    (omega arith) (c.in_ok-block.ensures.numbers ∙ c.block_of.ensures) c.number_at-raise.ensures c.write_movements.ensures))

@@ -2,7 +2,7 @@
 use mathlib.Core.Path.{refl}
 use Rattle.search.proofs.Stretches.{nothing}
 use Rattle.movement_input.specs.Reading.{numbers_to}
-use Rattle.movement_input.proofs.Numbers.{next_number, all_numbers}
+use Rattle.movement_input.proofs.Numbers.{next_number}
 use Rattle.movement_input.proofs.block_of.Goals as goal
 
 pub loop-i-init : goal.loop-i-init
@@ -11,6 +11,3 @@ loop-i-init c = (refl, nothing _)
 
 pub loop-i-preserved : goal.loop-i-preserved
 loop-i-preserved c = next_number _ c.loop-i.invariant c.loop-i-test.true c.number_at.ensures
-
-pub returns : goal.returns
-returns c = all_numbers _ c.loop-i.invariant c.loop-i.auto.i-end c.loop-i-test.false

@@ -4,14 +4,14 @@ use native.Mathlib.Omega.{arith}
 use Rattle.order.proofs.Admission.{stands_marked, comes_before, comes_after}
 use Rattle.order.proofs.admit.Goals as goal
 
-pub returns-then-marks-at-gt0 : goal.returns-then-marks-at-gt0
-returns-then-marks-at-gt0 c =
-    stands_marked c.in_ok-e.was _ _ c.index_for-at.ensures.0 refl c.if-marks-at-gt0.true
+pub returns-then-marks-at : goal.returns-then-marks-at
+returns-then-marks-at c =
+    stands_marked c.in_ok-e.was _ _ c.index_for-at.ensures.0 refl c.if-marks-at.true
 
 pub returns-then-key_of-last : goal.returns-then-key_of-last
 returns-then-key_of-last c =
-    comes_before c.in_ok-e.was _ _ c.index_for-at.ensures.0 c.key_of.ensures c.if-marks-at-gt0.false (omega (arith, c.if-key_of-last.true))
+    comes_before c.in_ok-e.was _ _ c.index_for-at.ensures.0 c.key_of.ensures c.if-marks-at.false (omega (arith, c.if-key_of-last.true))
 
 pub returns : goal.returns
 returns c =
-    comes_after c.in_ok-e.was _ _ c.index_for-at.ensures.0 c.key_of.ensures c.if-marks-at-gt0.false (omega (arith, c.if-key_of-last.false))
+    comes_after c.in_ok-e.was _ _ c.index_for-at.ensures.0 c.key_of.ensures c.if-marks-at.false (omega (arith, c.if-key_of-last.false))

@@ -13,12 +13,3 @@ bounded s = (omega (arith, block_most s.args.code s.args.block), omega (arith, c
 pub returns : goal.returns
 unfolding index_of
 returns c = let b = bounded (goal.at.returns c).Start in (rw c.columns_before.ensures, omega arith)
-
-pub overflow_mul-result : goal.overflow_mul-result
-overflow_mul-result c = omega (arith, (bounded c).0)
-
-pub overflow_add-result : goal.overflow_add-result
-overflow_add-result c = let b = bounded (goal.at.overflow_add-result c).Start in omega arith
-
-pub overflow_add-result-2 : goal.overflow_add-result-2
-overflow_add-result-2 c = let b = bounded (goal.at.overflow_add-result-2 c).Start in omega arith

@@ -10,7 +10,7 @@ with_sheet-requires c = accepted_fits _ 0 c.in-Ok.ensures c.args.summary c.requi
 
 pub returns-in-Ok : goal.returns-in-Ok
 returns-in-Ok c = record {
-  line_after = in_columns columns c.args.line.now _ _ _ _ c.requires.0 (rw c.word-n.ensures at c.write_line_in.ensures) ∙ sym (accepted_line _ _ c.in-Ok.ensures);
+  line_after = in_columns columns c.args.line.now _ _ _ _ c.requires.0 (rw c.word-n.ensures at c.write_in.ensures) ∙ sym (accepted_line _ _ c.in-Ok.ensures);
   summed = λ zs q. accepted_with _ _ c.in-Ok.ensures zs c.word-n.ensures q c.with_sheet.ensures;
 }
 

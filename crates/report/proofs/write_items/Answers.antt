@@ -1,5 +1,5 @@
 -- Whenever the loop's test is reached, the lines of the first k numbers stand in front. Assumes nothing.
-use Rattle.report.proofs.Items.{no_item, next_item, all_items}
+use Rattle.report.proofs.Items.{no_item, next_item}
 use borrow.Author.Rules.{rules}
 use Rattle.report.proofs.write_items.Goals as goal
 
@@ -8,7 +8,4 @@ loop-k-init c = no_item c.args.code c.args.block _ c.args.numbers.now _
 
 pub loop-k-preserved : goal.loop-k-preserved
 loop-k-preserved c =
-    next_item _ _ c.loop-k.invariant c.requires.0 c.requires.1 c.loop-k-test.true (search rules) (rw c.word-item.ensures at c.write_line_in.ensures)
-
-pub returns : goal.returns
-returns c = all_items _ _ c.loop-k.invariant c.requires.0 c.requires.1 c.loop-k-test.false
+    next_item _ _ c.loop-k.invariant c.requires.0 c.requires.1 c.loop-k-test.true (search rules) (rw c.word-item.ensures at c.write_in.ensures)

@@ -4,4 +4,5 @@ use Rattle.report.proofs.write_report.Goals as goal
 
 pub returns : goal.returns
 returns c =
-    closed c.args.rows.now c.args.count _ _ _ _ _ c.report-1.given c.requires.1 c.write_blocks.ensures c.write_items.ensures
+    closed c.args.rows.now c.args.totals.now c.told-totals _ _ c.write_blocks.auto.report c.requires.1 c.write_blocks.ensures
+    c.write_items.ensures

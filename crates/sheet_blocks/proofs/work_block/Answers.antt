@@ -1,8 +1,9 @@
 -- A block that doesn't exist adds its dividend credit alone; the row of one that does goes behind those before it. Assumes nothing.
-use mathlib.Core.Path.{◌≡◌, refl, sym, ap, ◌∙◌}
-use mathlib.Core.List.{List, ◌∷◌}
+use mathlib.Core.Path.{◌≡◌, sym, ap, ◌∙◌}
+use mathlib.Core.List.{List}
 use Prim.Native.Nat.{◌+◌, ◌*◌, ◌≤◌, ◌<◌}
 use native.Mathlib.Omega.{arith}
+use lib.ListN.{length}
 use Rattle.amount.specs.Amount.{limit}
 use Rattle.guideline.specs.Sizes.{blocks}
 use Rattle.guideline.specs.Block.{K, figures_of}
@@ -14,14 +15,13 @@ use Rattle.credits.specs.Credits.{after_credit}
 use Rattle.ledger.specs.Lines.{Holds}
 use Rattle.std.proofs.Props.{props}
 use Rattle.ledger.proofs.Tables.{of_lines, exists_is}
-use Rattle.credits.proofs.Accepted.{block_accepted}
-use Rattle.sheet_blocks.proofs.Figured.{row_behind, absent, present, fits, dividends_fit}
-use Rattle.sheet_blocks.proofs.work_block.Goals.{After-block_exists, After-figures_of-f, Start}
+use Rattle.sheet_blocks.proofs.Figured.{absent, present, fits, dividends_fit}
+use Rattle.sheet_blocks.proofs.work_block.Goals.{After-block_exists, After-figures_of-figures, Start}
 use Rattle.sheet_blocks.proofs.work_block.Goals as goal
 
--- the tables hold these lines
+-- the ledger holds these lines
 abbrev Lines : Start → List Entry → Type 0
-Lines s es = Holds es s.args.ledger.now
+Lines s es = Holds es s.args.credited.now.ledger.now
 
 -- there is room for a row more, and the sums with its K and its dividend credit fit
 room : (c : Start) (es : List Entry) → Lines c es →
@@ -29,7 +29,7 @@ room : (c : Start) (es : List Entry) → Lines c es →
     × (c.args.w.dividends + dividend_credit es c.args.block ≤ limit * blocks)
 room c es H =
     let w = c.requires.worked_before es H in
-    let f = fits es c.requires.block_number.0 w c.requires.block_number.1 H.lines (c.requires.credited es H).covered in
+    let f = fits es c.requires.block_number.0 w c.requires.block_number.1 H.lines (c.args.credited.now.covered es H) in
     (f.0, f.1, dividends_fit es c.requires.block_number.0 w c.requires.block_number.1 H.lines)
 
 -- the test tells whether the block exists
@@ -39,65 +39,46 @@ existence c es H = c.block_exists.ensures ∙ exists_is H _ c.requires.block_num
 
 pub joined-requires : goal.joined-requires
 joined-requires c =
-    of_lines c.args.ledger.now (hlevel props)
+    of_lines c.args.credited.now.ledger.now (hlevel props)
     (λ es H. omega (arith, room (goal.at.joined-requires c).Start es H, c.dividend_credit-dividend.ensures es H))
 
-pub returns-then-not-block_exists : goal.returns-then-not-block_exists
-returns-then-not-block_exists c =
-    let block_exists = (goal.at.returns-then-not-block_exists c).After-block_exists in
-    record {
-      worked_out = λ es H.
-          let s = c.requires in
-          rw c.joined.ensures
-          (absent es s.block_number.0 (s.worked_before es H) (sym (existence block_exists es H) ∙ c.if-not-block_exists.true)
-          _ _ (c.dividend_credit-dividend.ensures es H) (c.has_dividend.ensures es H));
-      rest_kept = rw c.joined.ensures (omega arith, refl);
-    }
-
-pub figures_of-f-requires : goal.figures_of-f-requires
-figures_of-f-requires c =
-    of_lines c.args.ledger.now (hlevel props)
-    (λ es H. rw (c.numbers_after_credit-numbers.ensures es H) (block_accepted es H.lines (c.requires.credited es H).covered _))
-
-pub store-requires : goal.store-requires
-store-requires c =
-    of_lines c.args.ledger.now (hlevel props)
-    (λ es H. omega (arith, (room (goal.at.store-requires c).Start es H).0, (c.requires.worked_before es H).long))
+pub returns-then-not-block_exists-clause-worked_out : goal.returns-then-not-block_exists-clause-worked_out
+returns-then-not-block_exists-clause-worked_out c es H =
+    let block_exists = (goal.at.returns-then-not-block_exists-clause-worked_out c).After-block_exists in
+    let s = c.requires in
+    rw c.joined.ensures
+    (absent es s.block_number.0 (s.worked_before es H) (sym (existence block_exists es H) ∙ c.if-not-block_exists.true) _ _
+    (c.dividend_credit-dividend.ensures es H) (c.has_dividend.ensures es H))
 
 -- the block's numbers are those of the lines, and so are its figures
-figured : (c : After-figures_of-f) →
-    let r = c.figures_of-f.result in
-    (es : List Entry) → Lines (goal.at.After-figures_of-f c).Start es
+figured : (c : After-figures_of-figures) →
+    let r = c.figures_of-figures.result in
+    (es : List Entry) → Lines (goal.at.After-figures_of-figures c).Start es
     → (figure_list r ≡ figures_of (after_credit es c.args.block)) × (r.k ≡ K (after_credit es c.args.block))
 figured c es H =
-    let f = c.figures_of-f.ensures ∙ ap figures_of (c.numbers_after_credit-numbers.ensures es H) in
+    let f = c.figures_of-figures.ensures ∙ ap figures_of (c.numbers_after_credit-numbers.ensures es H) in
     (f, (figures_are _ _ f).4)
 
 pub joined-requires-2 : goal.joined-requires-2
 joined-requires-2 c =
     let start = (goal.at.joined-requires-2 c).Start in
-    let figures_of_f = (goal.at.joined-requires-2 c).After-figures_of-f in
-    of_lines c.args.ledger.now (hlevel props)
-    (λ es H. omega (arith, room start es H, (figured figures_of_f es H).1, c.dividend_credit-dividend.ensures es H))
+    let figures_of_figures = (goal.at.joined-requires-2 c).After-figures_of-figures in
+    of_lines c.args.credited.now.ledger.now (hlevel props)
+    (λ es H. omega (arith, room start es H, (figured figures_of_figures es H).1, c.dividend_credit-dividend.ensures es H))
 
-pub returns : goal.returns
-returns c =
-    let start = (goal.at.returns c).Start in
-    let block_exists = (goal.at.returns c).After-block_exists in record {
-      worked_out = λ es H.
-          let w = figured (goal.at.returns c).After-figures_of-f es H in
-          rw (c.joined-2.ensures, c.store.ensures)
-          (present es c.requires.block_number.0 (c.requires.worked_before es H) (room start es H).0 (sym (existence block_exists es H) ∙ c.if-not-block_exists.false) _ _ _ w.0 w.1
-          (c.dividend_credit-dividend.ensures es H));
-      rest_kept = rw (c.joined-2.ensures, c.store.ensures) (
-        omega arith,
-        of_lines c.args.ledger.now (hlevel props)
-            (λ es H.
-            row_behind c.args.rows.now c.args.w.count (c.args.block ∷ figure_list c.figures_of-f.result)
-            (omega (arith, (room start es H).0, (c.requires.worked_before es H).long)) refl),
-      );
-    }
+pub returns-clause-worked_out : goal.returns-clause-worked_out
+returns-clause-worked_out c es H =
+    let start = (goal.at.returns-clause-worked_out c).Start in
+    let block_exists = (goal.at.returns-clause-worked_out c).After-block_exists in
+    let fits : c.args.w.count < length c.args.rows.now = omega (arith, (room start es H).0, c.told-rows) in
+    rw (c.joined-2.ensures, c.word.ensures)
+    (present es c.requires.block_number.0 (c.requires.worked_before es H) fits
+    (sym (existence block_exists es H) ∙ c.if-not-block_exists.false) _ _
+    (figured (goal.at.returns-clause-worked_out c).After-figures_of-figures es H).0 (c.dividend_credit-dividend.ensures es H))
 
-pub overflow_mul-w : goal.overflow_mul-w
-overflow_mul-w c =
-    of_lines c.args.ledger.now (hlevel props) (λ es H. omega (arith, (room (goal.at.overflow_mul-w c).Start es H).0))
+pub bounds-rows-w : goal.bounds-rows-w
+bounds-rows-w c = of_lines c.args.credited.now.ledger.now (hlevel props) (λ es H. (room (goal.at.bounds-rows-w c).Start es H).0)
+
+pub offset_bounds-rows-w : goal.offset_bounds-rows-w
+offset_bounds-rows-w c =
+    of_lines c.args.credited.now.ledger.now (hlevel props) (λ es H. omega (arith, (room (goal.at.offset_bounds-rows-w c).Start es H).0))

@@ -1,4 +1,4 @@
--- What judging tells is what the judgement has to tell, so each way out is the call's: a refusal, or what is made of the tables. Assumes nothing.
+-- What judging tells is what the judgement has to tell, so each way out is the call's: a refusal, or what is made of the ledger. Assumes nothing.
 use mathlib.Core.Path.{◌∙◌}
 use Rattle.std.proofs.lemmas.Result.{err_from_is_err_and}
 use Rattle.judged_text.proofs.Judged.{turned}

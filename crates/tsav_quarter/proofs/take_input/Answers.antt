@@ -1,22 +1,27 @@
 -- What is known is that of no bytes at first, and of a chunk's bytes more once it is taken; at the end of the input these are all of its bytes, and after
 -- too many sheets the bytes that follow change nothing. Assumes nothing.
-use Rattle.std.proofs.Common.{◌≡◌, ℕ, List, [], ◌++◌, true, refl, sym, ap, ◌∙◌, subst, append-nil, rules, arith}
-use Rattle.std.specs.Prelude.{Option, None, Some, Ok}
+use Rattle.std.proofs.Common.{◌≡◌, ℕ, List, [], ◌++◌, refl, sym, ap, ◌∙◌, subst, append-nil, rules, arith}
+use Rattle.std.specs.Prelude.{Option, None, Some, Ok, IsNone}
 use Rattle.std.specs.Io.KnownBytes.{Consumes, IsAtEnd}
 use Rattle.std.proofs.KnownBytes.{Consumes-nil, Consumes-trans}
 use Rattle.quarter.specs.declared.Quarter.{Quarter}
 use Rattle.quarter.specs.Steps.{After}
 use Rattle.quarter.proofs.Taking.{taken_over}
 use Rattle.tsav_quarter.specs.Input.{TakenAll}
-use Rattle.tsav_quarter.proofs.take_input.Goals.{then-n-eq0-via-then-n-eq0, then-n-eq0-via-else-n-eq0+then-q}
+use Rattle.tsav_quarter.proofs.take_input.Goals.{then-n-eq0-via-then-n-eq0, then-n-eq0-via-else-n-eq0+then-is_none}
 use Rattle.tsav_quarter.proofs.take_input.Goals as goal
 
-too_many : (left rest : Option (List ℕ)) (s room out : List ℕ) (q : Quarter) → Consumes left rest s → After s room out q → q.over ≡ true
+-- nothing is held where the test says so
+none_held : {A : Type 0} (h : Option A) → IsNone h → h ≡ None
+none_held None e = refl
+none_held (Some h) e = cc
+
+too_many : (left rest : Option (List ℕ)) (s room out : List ℕ) (q : Quarter) → Consumes left rest s → After s room out q → IsNone q.held
     → TakenAll left room out (Ok q)
 too_many None rest s room out q took known over = (s, known)
 too_many (Some xs) None s room out q took known over = absurd took
 too_many (Some xs) (Some ys) s room out q took known over =
-    subst (λ u. After u room out q) (sym took) ((taken_over room out ys q over).after s known)
+    subst (λ u. After u room out q) (sym took) ((taken_over room out ys q (none_held q.held over)).after s known)
 
 all_taken : (left rest : Option (List ℕ)) (s room out : List ℕ) (q : Quarter) → Consumes left rest s → After s room out q → IsAtEnd rest
     → TakenAll left room out (Ok q)
@@ -45,5 +50,5 @@ returns-then-n-eq0 g c =
       | then-n-eq0-via-then-n-eq0 w ↦
           all_taken _ _ _ _ _ _ more after
           (c.in_ok-n.ensures.taken.1 w.if-n-eq0.true (omega (arith, c.in_ok-n.ensures.within.1, c.loop.invariant.chunk_long)))
-      | then-n-eq0-via-else-n-eq0+then-q w ↦ too_many _ _ _ _ _ _ more after w.if-q.true
+      | then-n-eq0-via-else-n-eq0+then-is_none w ↦ too_many _ _ _ _ _ _ more after w.if-is_none.ensures
     ]

@@ -6,15 +6,9 @@ use Rattle.search.proofs.Picks.{if_eq, if_ne}
 use Rattle.needs.specs.Needs.{counts}
 use Rattle.unmet.proofs.counts.Goals as goal
 
-pub some_risk-requires : goal.some_risk-requires
-some_risk-requires c = c.requires.a_block c.if-companion-eq0.true
-
 pub returns-then-companion-eq0 : goal.returns-then-companion-eq0
 unfolding counts
 returns-then-companion-eq0 c = c.some_risk.ensures ∙ sym (if_eq _ c.if-companion-eq0.true)
-
-pub amount_of-requires : goal.amount_of-requires
-amount_of-requires c = c.requires.a_class c.if-companion-eq0.false
 
 pub returns : goal.returns
 unfolding counts

@@ -6,7 +6,7 @@ use lib.Dec.{ltb}
 use Rattle.codes.specs.Codes.{risk_classes}
 use Rattle.codes.specs.declared.Code.TheVariants.{Rsk}
 use Rattle.order.specs.Places.{tabled}
-use Rattle.ledger.proofs.Ranges.{any_below}
+use Rattle.search.proofs.Ranges.{any_below}
 use Rattle.needs.specs.Needs.{some_risk}
 use Rattle.unmet.proofs.some_risk.Goals as goal
 

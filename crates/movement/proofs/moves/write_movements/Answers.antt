@@ -7,11 +7,11 @@ pub loop-i-init : goal.loop-i-init
 loop-i-init c = no_line _ _ _
 
 pub write_movement-requires : goal.write_movement-requires
-write_movement-requires c = (c.requires.0, search rules, search rules)
+write_movement-requires c = (c.requires.0, c.requires.1, search rules, search rules)
 
 pub loop-i-preserved : goal.loop-i-preserved
 loop-i-preserved c =
-    next_line _ _ c.loop-i.invariant c.requires.1 c.loop-i-test.true c.write_movement.ensures
+    next_line _ _ c.loop-i.invariant c.requires.2 c.loop-i-test.true c.write_movement.ensures
 
 pub returns : goal.returns
-returns c = all_lines _ _ c.loop-i.invariant c.requires.1 c.loop-i-test.false
+returns c = all_lines _ _ c.loop-i.invariant c.requires.2 c.loop-i-test.false

@@ -3,4 +3,4 @@ use Rattle.movement.proofs.Lines.{signed_in}
 use Rattle.movement.proofs.moves.write_signed.Goals as goal
 
 pub returns : goal.returns
-returns c = signed_in _ _ _ c.write_line.ensures c.write_difference.ensures
+returns c = signed_in _ _ _ c.write.ensures c.write_difference.ensures

@@ -1,5 +1,0 @@
--- The table is read at the index of the code, block and class. Assumes nothing.
-use Rattle.order.proofs.has_mark.Goals as goal
-
-pub returns : goal.returns
-returns c = rw c.index_of.ensures.0
