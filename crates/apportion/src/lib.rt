@@ -21,6 +21,7 @@ struct RoundedDown {
 }
 
 // The shares of k by margins that are not all zero, whose sum is handed with them.
+// Kept: k and the sum as two parameters, here and in two below; a struct of them would be filled by one caller and opened at once.
 pub fn shared_out(k: u64, margins: &[u64; PARTS], sum: u64) -> [u64; PARTS]
     requires { Shareable k (value_of_part margins.now) sum }
     ensures { result ≡ shares k (value_of_part margins.now) }

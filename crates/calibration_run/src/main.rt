@@ -54,6 +54,7 @@ fn refused(rt: &impl Print, refusal: Refusal) {
 }
 
 // What the block call gives, on a line.
+// Kept: where it prints beside the block, here and in two below; a struct of both would be filled for each row.
 fn block_row(rt: &impl Print, b: &[u64; BLOCK_NUMBERS]) {
     match block::block_call(b) {
         Ok(worked) => {

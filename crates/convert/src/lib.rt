@@ -41,6 +41,7 @@ pub fn print_converted(sheet: &[u8], room: &mut [u8; LONGEST_SHEET]) -> usize
 }
 
 // A sheet of whole lines: they are tested, then comes rule 14, and then they are written.
+// Kept: the sort beside the sheet, here and in two below; a sheet that knows its sort would be made here and opened at once.
 fn convert_lines(scale: Scale, sheet: &[u8], room: &mut [u8]) -> Result<usize, Refusal>
     requires { length sheet.now % sheet_line_bytes ≡ 0 }
     ensures { ◌≡◌ {A = Done} (record { outcome = stated result; room = room.new }) (lines_call scale sheet.now room.old) }

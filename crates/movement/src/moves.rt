@@ -14,6 +14,7 @@ use refusal::{Place, Refusal, Rule};
 use report_line::{REPORT_LINE_BYTES, Row};
 
 // A line for each risk, of a block whose reported K is k, each into its own stretch of the room.
+// Kept: the block and its raise as two parameters, here and in two below; a struct of them would be filled here and opened at once.
 // Kept: how many numbers the block has stays a clause, here and in two below. `Block` can't say it, as one is made of any array of 17 numbers
 // (`block::accepted_block`), and a law gets no length of an array from its type; here it is known of what was read.
 pub(crate) fn write_movements(block: &Block, k: u64, raise: u64, room: &mut [u8])

@@ -23,6 +23,7 @@ pub struct Worked {
 }
 
 // The rows of the blocks that exist, ascending, from the table's front on; behind them the table is as it was.
+// Kept: the rows beside the ledger, here, below and in judgement; they are the caller's memory, lent for the call.
 pub fn work_out(credited: &CreditedLedger<'_>, rows: &mut [NumberedFigures; BLOCKS]) -> Worked
     ensures worked_out { OfLines credited.now.ledger.now (λ es. WorkedOut es blocks result rows.new) }
     ensures rest_kept { RestKept result.count rows.old rows.new }

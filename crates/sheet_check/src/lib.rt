@@ -40,6 +40,7 @@ pub fn print_check(sheet: &[u8], room: &mut [u8; LONGEST_LISTING]) -> usize
 }
 
 // Rule 14, and then the listing of the lines that the ledger holds.
+// Kept: the room beside the ledger, here and in two below; it is the caller's memory, lent for the call.
 fn list(ledger: &Ledger, room: &mut [u8]) -> Result<usize, Refusal>
     ensures { ◌≡◌ {A = Done} (record { outcome = stated result; room = room.new }) (walked_call ledger.now.firsts ledger.now.seconds room.old) }
 {
