@@ -7,8 +7,27 @@
 
    What is asked of a caller: every pointer is valid for the numbers or bytes that its parameter names, pointers to numbers
    are aligned to 8, and what is lent to be written overlaps nothing else that is lent. A length may be 0; a pointer is
-   then read and written nowhere, but give one that is not null all the same. Nothing is asked of the numbers and bytes
-   themselves.
+   then read and written nowhere, but give one that is not null all the same. Until a call has returned, nobody else writes
+   what is lent to it, and nobody else reads what is lent to be written: no other thread, and no signal handler. Nothing is
+   asked of the numbers and bytes themselves.
+
+   The thread that calls needs stack: beside what the caller takes itself, as much as stands here. That is measured on the
+   largest inputs (bench/stack) and rounded up; no proof speaks of it. With less, the system ends the program where a guard
+   page lies below the stack, as below a thread's own by default; where none does, what lies below is overwritten.
+
+     tsav_version        1 KiB
+     tsav_block          1 KiB
+     tsav_shares         2 KiB
+     tsav_operational    1 KiB
+     tsav_fluctuation    1 KiB
+     tsav_sheet         20 KiB
+     tsav_convert        2 KiB
+     tsav_check         20 KiB
+
+   Not counted: a signal handler on the same stack; what the C library keeps of a thread's stack, some 5 KiB of the size that
+   pthread_attr_setstacksize is given with glibc; and 3 KiB or more of the dynamic linker, where it looks up a name at its first
+   use, a call's in libtsav.so or the C library's memcpy and memset. A program that is linked with -z now has its names looked up
+   before, and libtsav.so is linked so.
 
    All amounts are whole cents, 0 to TSAV_LARGEST_AMOUNT; those of a sheet in small letters, which the convert call alone takes,
    are thousands of dollars.

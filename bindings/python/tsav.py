@@ -2,6 +2,7 @@
 
 What each call takes, gives and refuses is written in tsav.h. All amounts are whole cents, 0 to LARGEST_AMOUNT,
 but for a sheet in thousands of dollars that is converted. A refusal is the exception Refused, with its number and place.
+A thread that calls has the stack that tsav.h asks for, beside what Python takes of it.
 
     >>> import tsav
     >>> print(tsav.sheet(open("my.sheet", "rb").read()).decode())

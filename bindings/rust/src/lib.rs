@@ -3,7 +3,8 @@
 //!
 //! All amounts are whole cents, 0 to [`LARGEST_AMOUNT`], but for a sheet in thousands of dollars, which [`convert`] takes. Any
 //! numbers and bytes may be given: what is out of range is refused, and no call panics or allocates. Each call compares the
-//! library's version with [`VERSION`] before it lends anything.
+//! library's version with [`VERSION`] before it lends anything. A thread that calls has the stack that include/tsav.h asks for,
+//! beside what its own frames take.
 
 mod contract;
 mod error;

@@ -11,18 +11,20 @@ use Rattle.refusal.specs.declared.Place.TheVariants.{Nowhere}
 use Rattle.guideline.specs.Sizes.{blocks}
 use Rattle.report_line.specs.Line.{print_rows}
 use Rattle.sheet_line.specs.declared.Entry.{Entry}
-use Rattle.printing.specs.Lent.{Done, untouched, lent}
+use Rattle.printing.specs.Lent.{Done, TooLong, untouched, lent}
+use Rattle.printing.specs.Printing.{ReadsRefusal, printout}
 use Rattle.printing.specs.Lent.Text.{bytes}
 use Rattle.printing.proofs.Lent.{lent_short, lent_filled}
 use Rattle.report.specs.Rows.{total_rows, table_rows, report_bytes, report_length, longest_report}
 use Rattle.judgement.specs.Sheet.{sheet_of}
 use Rattle.judgement.specs.Judgement.{judgement, findings}
 use Rattle.judgement.specs.Judgement.Findings.{figures}
+use Rattle.judgement.specs.Judgement.Judgement.{turned_away}
 use Rattle.sheet_blocks.proofs.Figured.{few_blocks}
 use Rattle.judgement.proofs.Rules.{findings_figures}
 use Rattle.judged_text.proofs.Judged as judged
 use Rattle.judged_text.proofs.Judged.{of_lines}
-use Rattle.aggregate.specs.Call.{report_of, sheet_call}
+use Rattle.aggregate.specs.Call.{report_of, answer_to, sheet_call}
 use Rattle.aggregate.proofs.Rows.{table_lines, report_long}
 
 module _ (s r : List ℕ) (n : ℕ) (rows : List (ℕ × List ℕ)) (sum ro x : ℕ) (e : figures n rows sum ro x ≡ findings (judgement s)) where
@@ -61,3 +63,13 @@ never_longer es = omega (arith, report_long es, few_blocks es blocks)
 -- 'lends room for the longest report, so that it never answers 14'
 pub never_14 : (s r : List ℕ) → longest_report ≤ length r → (p : Place) → (sheet_call s r).outcome ≡ refused 14 p → ⊥
 never_14 s r = judged.never_14 report_of s r (λ es e. never_longer es)
+
+-- 'lent report shorter than the report': a sheet refused by 14 has a report, longer than the lent one, and a lent report of its length takes it
+pub refused_by_14 : (s r : List ℕ) (p : Place) → (sheet_call s r).outcome ≡ refused 14 p → (p ≡ Nowhere) × TooLong (sheet_call s) (answer_to (judgement s)) r
+refused_by_14 s r = judged.refused_by_14 report_of s r
+
+-- ---- its REF line
+
+-- the number and the place of a refusal fit their columns: both are read back off the line that is printed
+pub refusal_read : (s : List ℕ) (n : ℕ) (p : Place) → judgement s ≡ turned_away n p → ReadsRefusal n p (printout (answer_to (judgement s)))
+refusal_read s = judged.refusal_read report_of s

@@ -7,7 +7,9 @@ use Rattle.std.specs.Prelude.{◌≡◌, true, List, ℕ, ◌+◌, ◌*◌, ◌�
 use Rattle.refusal.specs.Outcome.{Outcome}
 use Rattle.refusal.specs.Outcome.Outcome.{accepted, refused}
 use Rattle.guideline.specs.Sizes.{fineness, block_allowance}
-use Rattle.guideline.specs.Block.{U, LT}
+use Rattle.guideline.specs.Block.{I, D, U, LT, K}
+use Rattle.guideline.specs.Operational.{RO}
+use Rattle.guideline.specs.Buffer.{sum_k, buffer}
 use Rattle.guideline.specs.Fraction.{whole, hundredths}
 use Rattle.guideline.specs.Exact.{StrictlyBelowK}
 use Rattle.guideline.specs.Demand.{BufferDemand}
@@ -54,3 +56,25 @@ pub record ReportDemand (es : List Entry) (report : List ℕ) : Type 0 where
 abbrev pub Demand3 : List ℕ → Outcome → List ℕ → Type 0
 Demand3 sheet (accepted vs) report = (es : List Entry) × (judgement sheet ≡ sound es) × ReportDemand es report
 Demand3 sheet (refused n p) report = Unit {0}
+
+-- ---- every number of the report
+
+-- the five numbers of a block that exists, read back off the report: each is the figure whole, and none is cut to its columns
+pub record WholeBlock (es : List Entry) (report : List ℕ) (b : ℕ) : Type 0 where
+  pub i : number_at report BLK b 1 ≡ Some (I (after_credit es b))
+  pub d : number_at report BLK b 2 ≡ Some (D (after_credit es b))
+  pub u : number_at report BLK b 3 ≡ Some (U (after_credit es b))
+  pub lt : number_at report BLK b 4 ≡ Some (LT (after_credit es b))
+  pub k : number_at report BLK b 5 ≡ Some (K (after_credit es b))
+
+-- those of every block, and the three totals
+pub record WholeNumbers (es : List Entry) (report : List ℕ) : Type 0 where
+  pub blocks : (b : ℕ) → exists es b ≡ true → WholeBlock es report b
+  pub sum : number_at report TOT 0 1 ≡ Some (sum_k (sheet_of es).blocks)
+  pub ro : number_at report TOT 0 2 ≡ Some (RO (sheet_of es).volumes (sheet_of es).general)
+  pub total : number_at report TOT 0 3 ≡ Some (buffer (sheet_of es))
+
+-- of a sheet, the call's outcome and the report afterwards
+abbrev pub PrintedWhole : List ℕ → Outcome → List ℕ → Type 0
+PrintedWhole sheet (accepted vs) report = (es : List Entry) × (judgement sheet ≡ sound es) × WholeNumbers es report
+PrintedWhole sheet (refused n p) report = Unit {0}

@@ -6,7 +6,7 @@ ghost use Rattle.printing.specs.Lent.{stated, Done};
 ghost use Rattle.printing.specs.Printing.{printout, Printed};
 ghost use Rattle.judgement.specs.Judgement.{judgement};
 ghost use Rattle.aggregate.specs.Call.{answer_to, sheet_call};
-ghost use Rattle.aggregate.specs.Demand.{Demand3};
+ghost use Rattle.aggregate.specs.Demand.{Demand3, PrintedWhole};
 
 use figures::NumberedFigures;
 use guideline::BLOCKS;
@@ -18,6 +18,7 @@ use report::LONGEST_REPORT;
 pub fn sheet_call(sheet: &[u8], report: &mut [u8]) -> Result<usize, Refusal>
     ensures answer { ◌≡◌ {A = Done} (record { outcome = stated result; room = report.new }) (sheet_call sheet.now report.old) }
     ensures demand3 { Demand3 sheet.now (stated result) report.new }
+    ensures printed_whole { PrintedWhole sheet.now (stated result) report.new }
 {
     let mut ledger = Ledger::new();
     let mut rows = [NumberedFigures::default(); BLOCKS];

@@ -2,3 +2,4 @@
 pub mod Ranks
 pub mod Fair
 pub mod Parts
+pub mod Cases

@@ -1,3 +1,4 @@
--- The laws behind the block call: its rules, and what they leave.
+-- The laws behind the block call: its rules, what they leave, and cases of their order.
 pub mod Rules
 pub mod Accepted
+pub mod Cases

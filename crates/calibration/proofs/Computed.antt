@@ -2,7 +2,7 @@
 -- figure of the call and the one that the miscalibration gives. Assumes nothing.
 use mathlib.Core.Path.{◌≡◌, refl}
 use mathlib.Core.List.{List, [], ◌∷◌}
-use Prim.Native.Nat.{ℕ, suc}
+use Prim.Native.Nat.{ℕ, suc, ◌*◌}
 use lib.Dec.{T, eqb}
 use Rattle.search.specs.Pick.{pick}
 use Rattle.search.specs.Least.{least_from}
@@ -11,7 +11,7 @@ use Rattle.search.specs.Total.{sum_to, one}
 use Rattle.search.specs.Ascending.{ascending}
 use Rattle.refusal.specs.Outcome.Outcome.{accepted}
 use Rattle.amount.specs.Amount.{first_above}
-use Rattle.guideline.specs.Sizes.{risks}
+use Rattle.guideline.specs.Sizes.{risks, fineness}
 use Rattle.guideline.specs.Factors.{factors, sumℤ}
 use Rattle.guideline.specs.Block.{A, U, LT, Vh, y, ys, Q4, largest_of, largest, root, fine_i, a, fine_d, reported, I, D, requirement, K, figures_of}
 use Rattle.guideline.specs.Operational.{total, volume, growth, operational_numerator, RO}
@@ -30,15 +30,23 @@ use Rattle.shares.specs.Call.{after_block, unless_zero, rule23, shares_call}
 use Rattle.order.specs.Entries.{has_key, lookup}
 use Rattle.ledger.specs.Numbers.{pairs, volumes_by}
 use Rattle.calibration.specs.Points.{nothing, gives, all_given, points}
-use Rattle.calibration.specs.Miscalibrations.{pc_in_risk, netted, each_rounded}
+use Rattle.calibration.specs.Miscalibrations.{i_from, pc_in_risk, k_lost, ys_halved, each_rounded}
 
 -- IR(1), IR(2) and PC of 100
 abbrev pub pc_block : List ℕ
 pc_block = 100 ∷ 0 ∷ 100 ∷ 0 ∷ 0 ∷ 0 ∷ 0 ∷ 0 ∷ 0 ∷ 0 ∷ 0 ∷ 0 ∷ 0 ∷ 0 ∷ 100 ∷ 0 ∷ 0 ∷ []
 
--- class 1 grows from 10,000 to 15,000, class 2 shrinks from 10,000 to 5,000
-abbrev pub one_shrinks : List ℕ
-one_shrinks = 15000 ∷ 10000 ∷ 5000 ∷ 10000 ∷ 0 ∷ 0 ∷ 0 ∷ 0 ∷ 0 ∷ 0 ∷ 0 ∷ 0 ∷ 0 ∷ 0 ∷ 0 ∷ 0 ∷ []
+-- IR(5) of 100, IR(6) of 50 and PC of 100: the floor is larger than the root
+abbrev pub floor_block : List ℕ
+floor_block = 0 ∷ 0 ∷ 0 ∷ 0 ∷ 0 ∷ 0 ∷ 0 ∷ 0 ∷ 100 ∷ 0 ∷ 50 ∷ 0 ∷ 0 ∷ 0 ∷ 100 ∷ 0 ∷ 0 ∷ []
+
+-- a component of n cents, of which one is level and trend, and credit of m
+abbrev pub odd_block : ℕ → ℕ → List ℕ
+odd_block n m = n ∷ 1 ∷ 0 ∷ 0 ∷ 0 ∷ 0 ∷ 0 ∷ 0 ∷ 0 ∷ 0 ∷ 0 ∷ 0 ∷ 0 ∷ 0 ∷ 0 ∷ m ∷ 0 ∷ []
+
+-- IR(1) of 220, IR(3) of n and credit of m
+abbrev pub root_block : ℕ → ℕ → List ℕ
+root_block n m = 220 ∷ 0 ∷ 0 ∷ 0 ∷ n ∷ 0 ∷ 0 ∷ 0 ∷ 0 ∷ 0 ∷ 0 ∷ 0 ∷ 0 ∷ 0 ∷ 0 ∷ m ∷ 0 ∷ []
 
 -- a cent of class 7 and a cent of class 8, together a fiftieth of a cent
 abbrev pub two_cents : List ℕ
@@ -57,8 +65,21 @@ pub record Table : Type 0 where
   pub rows : T (all_given points)
   pub pc : block_call pc_block ≡ accepted (445 ∷ 445 ∷ 300 ∷ 0 ∷ 246 ∷ 15 ∷ 16 ∷ [])
   pub pc_in_risk_lem : first (λ k. eqb (pc_in_risk k pc_block) 445) (suc risks) ≡ suc risks
-  pub growth : operational_call one_shrinks nothing ≡ accepted (575 ∷ [])
-  pub growth_netted : netted one_shrinks nothing ≡ 500
+  pub floor : block_call floor_block ≡ accepted (400 ∷ 400 ∷ 250 ∷ 0 ∷ 212 ∷ 15 ∷ 16 ∷ [])
+  pub floor_larger : root floor_block ≡ 17321
+  pub floor_alone : reported (fineness * largest floor_block) ≡ 200
+  pub cent : block_call (odd_block 1 0) ≡ accepted (1 ∷ 1 ∷ 1 ∷ 1 ∷ 1 ∷ 7 ∷ 7 ∷ [])
+  pub half_lost : reported (i_from (2 ∷ 0 ∷ 0 ∷ 0 ∷ 0 ∷ 0 ∷ 0 ∷ []) 0) ≡ 2
+  pub half_more : reported (i_from (0 ∷ 0 ∷ 0 ∷ 0 ∷ 0 ∷ 0 ∷ 0 ∷ []) 0) ≡ 0
+  pub cent_lost : k_lost (odd_block 1 0) ≡ 2
+  pub v_high : block_call (odd_block 4 4) ≡ accepted (7 ∷ 13 ∷ 8 ∷ 1 ∷ 8 ∷ 10 ∷ 11 ∷ [])
+  pub d_high : fine_d (odd_block 4 4) ≡ fineness * 13
+  pub v_high_lem : requirement 8 1 16 (fineness * 13) ≡ 7
+  pub v_low : block_call (odd_block 2 0) ≡ accepted (3 ∷ 3 ∷ 2 ∷ 1 ∷ 2 ∷ 9 ∷ 9 ∷ [])
+  pub d_low : fine_d (odd_block 2 0) ≡ fineness * 3
+  pub v_low_lem : requirement 2 1 2 (fineness * 3) ≡ 3
+  pub root_i : block_call (root_block 171 0) ≡ accepted (680 ∷ 680 ∷ 391 ∷ 0 ∷ 349 ∷ 17 ∷ 17 ∷ [])
+  pub root_d : block_call (root_block 0 171) ≡ accepted (440 ∷ 680 ∷ 391 ∷ 0 ∷ 349 ∷ 16 ∷ 17 ∷ [])
   pub charge : operational_call two_cents nothing ≡ accepted (1 ∷ [])
   pub each_rounded_lem : each_rounded two_cents nothing ≡ 2
   pub three_classes_lem : operational_call three_classes nothing ≡ accepted (1 ∷ [])
@@ -66,18 +87,32 @@ pub record Table : Type 0 where
 
 pub computed : Table
 unfolding
-    pick least_from first_from first_above factors sumℤ A U LT Vh y ys Q4 largest_of largest root fine_i a fine_d reported I D requirement K figures_of
-    total volume growth operational_numerator RO binary_length steps radicand_i radicand_d steps_of first_lt_above rule9 rule8 block_call rule7 operational_call
-    rows row_of base_of reaches factored_requirement fluctuation_rule7 fluctuation_call
-    any_to sum_to one ascending base remainder left_over before rank cent share shares without k_without margin after_block unless_zero rule23 shares_call
-    has_key lookup pairs volumes_by twice_radicand aggregated credit gives all_given pc_in_risk netted each_rounded
+    pick least_from first_from first_above factors sumℤ A U LT Vh y ys Q4 largest_of largest root fine_i a fine_d reported I D requirement K
+    figures_of total volume growth operational_numerator RO binary_length steps radicand_i radicand_d steps_of first_lt_above rule9 rule8
+    block_call rule7 operational_call rows row_of base_of reaches factored_requirement fluctuation_rule7 fluctuation_call
+    any_to sum_to one ascending base remainder left_over before rank cent share shares without k_without margin after_block unless_zero rule23
+    shares_call
+    has_key lookup pairs volumes_by twice_radicand aggregated credit gives all_given i_from pc_in_risk ys_halved k_lost each_rounded
 computed =
     record {
       rows = tt;
       pc = refl;
       pc_in_risk_lem = refl;
-      growth = refl;
-      growth_netted = refl;
+      floor = refl;
+      floor_larger = refl;
+      floor_alone = refl;
+      cent = refl;
+      half_lost = refl;
+      half_more = refl;
+      cent_lost = refl;
+      v_high = refl;
+      d_high = refl;
+      v_high_lem = refl;
+      v_low = refl;
+      d_low = refl;
+      v_low_lem = refl;
+      root_i = refl;
+      root_d = refl;
       charge = refl;
       each_rounded_lem = refl;
       three_classes_lem = refl;

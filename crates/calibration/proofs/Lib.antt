@@ -2,4 +2,6 @@
 pub mod Computed
 pub mod Calibrated
 pub mod Refuted
+pub mod Nearest
+pub mod Netted
 pub mod Programs

@@ -1,16 +1,16 @@
 -- A sheet that is accepted is the bytes of its lines, and what it is converted to is the bytes of those lines in the other sort. They are accepted
--- there and come back as they were, so the converted sheet is accepted and converts back to the first one. Assumes nothing.
+-- there and come back as they were, so the converted sheet is accepted and converts back to the first one; and its lines have letters of one sort.
+-- Assumes nothing.
 use mathlib.Core.Path.{◌≡◌, refl, sym, ap, ◌∙◌}
 use mathlib.Core.List.{List, [], ◌∷◌, ◌++◌, map}
 use Prim.Native.Nat.{ℕ, ◌*◌, ◌%◌, ◌≤◌, ◌<◌}
 use native.Mathlib.Omega.{arith}
-use lib.ListN.{length, length-map, get_or-append}
-use Rattle.search.specs.Pick.{pick}
+use lib.ListN.{length, length-map}
 use Rattle.search.specs.Each.{Each}
 use Rattle.search.proofs.Picks.{never}
 use Rattle.codes.specs.declared.Code.{Code}
-use Rattle.codes.specs.declared.Code.TheVariants.{Rsk, Oth, Mor, Vol, Acq, Gen, Crd}
-use Rattle.layout.specs.Columns.{sheet_line_bytes, lettered}
+use Rattle.layout.specs.Columns.{sheet_line_bytes, columns, lettered}
+use Rattle.layout.specs.Whole.{whole_lines, line_at}
 use Rattle.layout.specs.declared.Numbers.{Numbers}
 use Rattle.sheet_length.specs.Measured.{longest_sheet, after_length}
 use Rattle.sheet_length.proofs.Measures.{whole, by_length}
@@ -22,39 +22,22 @@ use Rattle.order.specs.Reading.{Reading, print_by}
 use Rattle.order.specs.Reading.Reading.{complete, stopped}
 use Rattle.order.proofs.Lines.{Passes, accepted_by, passes_by, ascending_by}
 use Rattle.order.proofs.Printed.{printed_by, read_by, length_by}
-use Rattle.scaled_line.specs.Scale.{other, raise, lower, letters_in, scale_of, print_in}
+use Rattle.scaled_line.specs.Scale.{other, letters_in, scale_of, print_in}
 use Rattle.scaled_line.specs.Amounts.{convertible, rescaled}
 use Rattle.convert.specs.Call.{reading_in, after_reading, conversion}
 use Rattle.printing.specs.Lent.Text.{no_text, bytes}
 use Rattle.scaled_line.specs.Other.{other_line}
 use Rattle.scaled_line.specs.declared.Scale.{Scale}
 use Rattle.scaled_line.specs.declared.Scale.TheVariants.{Cents, Thousands}
+use Rattle.scaled_line.proofs.Small.{letters_first, three_in}
 use Rattle.scaled_line.proofs.Scaled.{passes_convertible, rescaled_accepted, rescaled_passes, rescaled_back}
+use Rattle.convert.proofs.Letters.{scale_first, first_tells, read_in}
 use Rattle.convert.proofs.Reading.{reads, inverse}
 
 -- ---- the sort of a printed sheet
 
 first_letter : (d : Scale) (k : Code) (n : Numbers) → scale_of (lettered (letters_in d k) n) ≡ d
-unfolding scale_of raise lower lettered pick
-first_letter Cents Rsk n = refl
-first_letter Cents Oth n = refl
-first_letter Cents Mor n = refl
-first_letter Cents Vol n = refl
-first_letter Cents Acq n = refl
-first_letter Cents Gen n = refl
-first_letter Cents Crd n = refl
-first_letter Thousands Rsk n = refl
-first_letter Thousands Oth n = refl
-first_letter Thousands Mor n = refl
-first_letter Thousands Vol n = refl
-first_letter Thousands Acq n = refl
-first_letter Thousands Gen n = refl
-first_letter Thousands Crd n = refl
-
--- what stands first tells the sort, whatever follows
-scale_first : (s t : List ℕ) → 0 < length s → scale_of (s ++ t) ≡ scale_of s
-unfolding scale_of
-scale_first s t h = rw (get_or-append s t 0 0 h)
+first_letter d k n = first_tells d k _ (letters_first (letters_in d k) (three_in d k) n)
 
 scale_printed : (d : Scale) (e : Entry) (es : List Entry) → scale_of (print_by (print_in d) (e ∷ es)) ≡ d
 unfolding print_by
@@ -190,3 +173,7 @@ module _ (s t : List ℕ) (q : conversion s ≡ bytes t) where
   -- for every accepted sheet the converted sheet is accepted and converts back to the first one, byte for byte
   pub back : conversion t ≡ bytes s
   back = scale_back A.lines refl
+
+  -- each line has the letters of line 1's sort
+  pub one_sort : (i : ℕ) → i < whole_lines s → (k : Code) × (columns 1 3 (line_at s i) ≡ letters_in d k)
+  one_sort = read_in d s A.lines A.read

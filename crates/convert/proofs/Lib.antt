@@ -3,3 +3,5 @@ pub mod Reading
 pub mod Back
 pub mod Passes
 pub mod Calls
+pub mod Letters
+pub mod Refusals

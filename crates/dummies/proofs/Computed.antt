@@ -1,5 +1,5 @@
 -- The table of small sheets holds, computed: the one place where the definitions of the sheet call are run. Assumes nothing.
-use mathlib.Core.Path.{◌≡◌, refl}
+use mathlib.Core.Path.{refl}
 use Rattle.search.specs.Pick.{pick}
 use Rattle.search.specs.First.{any_to}
 use Rattle.search.specs.Least.{least_from}
@@ -30,14 +30,20 @@ use Rattle.printing.specs.Lent.{lent}
 use Rattle.judged_text.specs.Judged.{text_of, judged_call}
 use Rattle.aggregate.specs.Call.{block_rows_of}
 use Rattle.dummies.specs.Dummies.{are_bytes}
-use Rattle.dummies.specs.Answers.{answers, given, claimed}
+use Rattle.dummies.specs.Answers.{Answered, empty, guaranteed, two_blocks, another_second}
 
-pub computed : given answers ≡ claimed answers
+pub record Table : Type 0 where
+  pub no_block : Answered empty
+  pub guarantee_alone : Answered guaranteed
+  pub two : Answered two_blocks
+  pub another : Answered another_second
+
+pub computed : Table
 unfolding
-    pick least_from ascending digits field digit_or_space leading_digits decimal factors sumℤ A U LT Vh y ys Q4 largest_of largest root fine_i a fine_d reported I D
-    requirement K figures_of total volume growth operational_numerator RO sum_k available bracket buffer key line_in
-    rows_in equal_bytes found_in found_at is_code code_among spaced layout_of lettered line.outside line.second_barred line.trend_above line.scalar_outside
-    line.rule10 line.rule9 line.rule8 line.rule6 line.rule5 line.parse_line has_key lookup exists pairs block_by volumes_by key_of rule19 rule11 on_line read_from
-    items_from twice_radicand aggregated credit lowered credit_of after_credit blocks_to sheet_of any_to credit_above sum_to dividend_barred rule13
+    pick least_from ascending digits field digit_or_space leading_digits decimal factors sumℤ A U LT Vh y ys Q4 largest_of largest root fine_i a
+    fine_d reported I D requirement K figures_of total volume growth operational_numerator RO sum_k available bracket buffer key line_in
+    rows_in equal_bytes found_in found_at is_code code_among spaced layout_of lettered line.outside line.second_barred line.trend_above
+    line.scalar_outside line.rule10 line.rule9 line.rule8 line.rule6 line.rule5 line.parse_line has_key lookup exists pairs block_by volumes_by
+    key_of rule19 rule11 on_line read_from items_from twice_radicand aggregated credit lowered credit_of after_credit blocks_to sheet_of any_to credit_above sum_to dividend_barred rule13
     rule17 rule16 rule12 rule_lines layout_first rule2 measured judgement block_rows_of lent text_of judged_call are_bytes
-computed = refl
+computed = record { no_block = refl; guarantee_alone = refl; two = refl; another = refl }

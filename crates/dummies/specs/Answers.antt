@@ -1,9 +1,10 @@
 -- Small sheets, and what the sheet call answers to each: the dummies are refuted there. Assumes nothing.
-use Rattle.std.specs.Prelude.{Bool, true, List, [], ◌∷◌, ◌++◌, ℕ, ◌+◌, get_or, replicate, Option, Some, None}
+use Rattle.std.specs.Prelude.{◌≡◌, Bool, true, List, [], ◌∷◌, ◌++◌, ℕ, ◌+◌, get_or, replicate, Option, Some, None}
 use Rattle.refusal.specs.Outcome.{Outcome}
 use Rattle.refusal.specs.Outcome.Outcome.{accepted}
 use Rattle.guideline.specs.Buffer as Buffer
 use Rattle.report_line.specs.Line.{number_at}
+use Rattle.sheet_line.specs.declared.Entry.{Entry}
 use Rattle.codes.specs.Codes.{guarantee_class, scalar_class}
 use Rattle.sheet_line.specs.Line.{print_line}
 use Rattle.codes.specs.declared.Code.TheVariants.{Rsk, Gen}
@@ -16,16 +17,21 @@ use Rattle.aggregate.specs.Call.{sheet_call}
 use Rattle.dummies.specs.Dummies.{are_bytes, claimed_report, filled_in}
 
 -- GEN 0 4, a scalar of one
-abbrev pub scalar : List ℕ
-scalar = print_line (record { code = Gen; block = 0; class = scalar_class; first = 10000; second = 0 })
+abbrev pub scalar : Entry
+scalar = record { code = Gen; block = 0; class = scalar_class; first = 10000; second = 0 }
 
 -- GEN 0 2, a guarantee requirement of a cent
-abbrev pub guarantee : List ℕ
-guarantee = print_line (record { code = Gen; block = 0; class = guarantee_class; first = 1; second = 0 })
+abbrev pub guarantee : Entry
+guarantee = record { code = Gen; block = 0; class = guarantee_class; first = 1; second = 0 }
 
 -- RSK b 1, a component of n cents
-abbrev pub component : ℕ → ℕ → List ℕ
-component b n = print_line (record { code = Rsk; block = b; class = 1; first = n; second = 0 })
+abbrev pub component : ℕ → ℕ → Entry
+component b n = record { code = Rsk; block = b; class = 1; first = n; second = 0 }
+
+-- a sheet of these lines
+abbrev pub sheet_with : List Entry → List ℕ
+sheet_with [] = []
+sheet_with (e ∷ es) = print_line e ++ sheet_with es
 
 -- room of n bytes
 abbrev pub room : ℕ → List ℕ
@@ -45,10 +51,16 @@ amounts_of (sound es) =
     let s = sheet_of es in
     record { allowance = Buffer.allowance s; credits = s.CRᵢ + Buffer.free s; buffer = Buffer.buffer s; filled_in = Buffer.buffer (filled_in s) }
 
--- what is looked at of an answer: whether all that was handed over is bytes, the sheet's amounts, the outcome, the report's first byte, and the
+-- the lines of a sheet that was judged, the last one first
+abbrev pub lines_of : Judgement → List Entry
+lines_of (turned_away n p) = []
+lines_of (sound es) = es
+
+-- what is looked at of an answer: whether all that was handed over is bytes, the sheet's lines and amounts, the outcome, the report's first byte, and the
 -- numbers read back of the buffer and of K of blocks 1 and 2
 pub record Facts : Type 0 where
   pub bytes : Bool
+  pub lines : List Entry
   pub amounts : Amounts
   pub outcome : Outcome
   pub head : ℕ
@@ -61,6 +73,7 @@ abbrev pub facts_of : List ℕ → List ℕ → Done → Facts
 facts_of s r d =
     record {
       bytes = are_bytes (s ++ r);
+      lines = lines_of (judgement s);
       amounts = amounts_of (judgement s);
       outcome = d.outcome;
       head = get_or d.room 0 0;
@@ -79,11 +92,12 @@ pub record Case : Type 0 where
 abbrev pub empty : Case
 empty =
     record {
-      sheet = scalar;
+      sheet = sheet_with (scalar ∷ []);
       lent = room (report_length 0);
       facts =
           record {
             bytes = true;
+            lines = scalar ∷ [];
             amounts = record { allowance = 2000000; credits = 0; buffer = 0; filled_in = 0 };
             outcome = accepted (report_length 0 ∷ []);
             head = 84;
@@ -97,11 +111,12 @@ empty =
 abbrev pub guaranteed : Case
 guaranteed =
     record {
-      sheet = guarantee ++ scalar;
+      sheet = sheet_with (guarantee ∷ scalar ∷ []);
       lent = room (report_length 0);
       facts =
           record {
             bytes = true;
+            lines = scalar ∷ guarantee ∷ [];
             amounts = record { allowance = 2000000; credits = 0; buffer = 2; filled_in = 2 };
             outcome = accepted (report_length 0 ∷ []);
             head = 84;
@@ -115,11 +130,12 @@ guaranteed =
 abbrev pub two_blocks : Case
 two_blocks =
     record {
-      sheet = component 1 100 ++ component 2 200 ++ scalar;
+      sheet = sheet_with (component 1 100 ∷ component 2 200 ∷ scalar ∷ []);
       lent = room (report_length 2);
       facts =
           record {
             bytes = true;
+            lines = scalar ∷ component 2 200 ∷ component 1 100 ∷ [];
             amounts = record { allowance = 4020000; credits = 0; buffer = 300; filled_in = 200 };
             outcome = accepted (report_length 2 ∷ []);
             head = 66;
@@ -129,16 +145,25 @@ two_blocks =
           };
     }
 
--- the table
-abbrev pub answers : List Case
-answers = empty ∷ guaranteed ∷ two_blocks ∷ []
+-- the same first block, and a second one with another amount
+abbrev pub another_second : Case
+another_second =
+    record {
+      sheet = sheet_with (component 1 100 ∷ component 2 300 ∷ scalar ∷ []);
+      lent = room (report_length 2);
+      facts =
+          record {
+            bytes = true;
+            lines = scalar ∷ component 2 300 ∷ component 1 100 ∷ [];
+            amounts = record { allowance = 4020000; credits = 0; buffer = 400; filled_in = 200 };
+            outcome = accepted (report_length 2 ∷ []);
+            head = 66;
+            buffer = Some 400;
+            k₁ = Some 100;
+            k₂ = Some 300;
+          };
+    }
 
--- what the sheet call gives for each row of a table
-abbrev pub given : List Case → List Facts
-given [] = []
-given (a ∷ rest) = facts_of a.sheet a.lent (sheet_call a.sheet a.lent) ∷ given rest
-
--- what the table says
-abbrev pub claimed : List Case → List Facts
-claimed [] = []
-claimed (a ∷ rest) = a.facts ∷ claimed rest
+-- what the sheet call gives for the case's sheet and room has the facts that the case says
+abbrev pub Answered : Case → Type 0
+Answered a = facts_of a.sheet a.lent (sheet_call a.sheet a.lent) ≡ a.facts

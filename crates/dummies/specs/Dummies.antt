@@ -1,13 +1,15 @@
 -- Document 01, 'To the testers': 'Then try dummies.' Each is what is true of the call of a program that does so, and of nothing that such a
 -- program leaves open: a call is asked about sheets and rooms of bytes, and about its report where it accepts.
 -- Assumes nothing.
-use Rattle.std.specs.Prelude.{◌≡◌, Bool, true, ◌&&◌, List, [], ◌∷◌, ◌++◌, map, ℕ, ◌+◌, ◌*◌, ◌≤◌, ltb, get_or, take, Some}
+use Rattle.std.specs.Prelude.{◌≡◌, Bool, true, ◌&&◌, List, [], ◌∷◌, ◌++◌, map, ℕ, ◌+◌, ◌*◌, ◌≤◌, ◌<◌, ltb, get_or, take, Some}
+use Rattle.search.specs.Pick.{pick}
 use Rattle.refusal.specs.Outcome.{Outcome}
 use Rattle.refusal.specs.Outcome.Outcome.{accepted, refused}
 use Rattle.refusal.specs.declared.Place.{Place}
-use Rattle.guideline.specs.Buffer.{Sheet, buffer, CreditsWithin, millionths, allowance}
+use Rattle.guideline.specs.Buffer.{Sheet, buffer, free, CreditsWithin, millionths, allowance}
 use Rattle.report_line.specs.Line.{number_at}
 use Rattle.sheet_line.specs.declared.Entry.{Entry}
+use Rattle.order.specs.Entries.{of_block, exists}
 use Rattle.report.specs.Rows.{BLK, TOT}
 use Rattle.judgement.specs.Sheet.{sheet_of}
 use Rattle.judgement.specs.Judgement.{judgement}
@@ -90,6 +92,34 @@ pub record BufferOfFirst (call : Call) : Type 0 where
   pub reads_buffer :
       (s r vs : List ℕ) (es : List Entry) → Lent s r → judgement s ≡ sound es → (call s r).outcome ≡ accepted vs →
       number_at (call s r).room TOT 0 3 ≡ Some (buffer (filled_in (sheet_of es)))
+
+-- ---- and with whatever doesn't depend on their lines, zeros among them
+
+-- a line as such a program sees it: an RSK or OTH line of another block than the first has lost its amounts
+unfoldable pub blanked : Entry → Entry
+blanked e = pick (of_block e.code && ltb 1 e.block) (record { code = e.code; block = e.block; class = e.class; first = 0; second = 0 }) e
+
+-- the lines of two sheets that have a block 1 and differ in nothing that such a program sees
+pub record AlikeButOthers (s t : List ℕ) (es fs : List Entry) : Type 0 where
+  pub one : judgement s ≡ sound es
+  pub other : judgement t ≡ sound fs
+  pub first : exists es 1 ≡ true
+  pub same : map blanked es ≡ map blanked fs
+
+-- where K of another block can be read off the reports of two such sheets, it is the same in both
+abbrev pub OthersFilledIn : Call → Type 0
+OthersFilledIn call =
+    (s t r : List ℕ) (es fs : List Entry) (b k m : ℕ) → Lent s r → Lent t r → AlikeButOthers s t es fs → 1 < b →
+    number_at (claimed_report (call s r)) BLK b 5 ≡ Some k → number_at (claimed_report (call t r)) BLK b 5 ≡ Some m → k ≡ m
+
+-- it accepts what the sheet call accepts, at least where there are no credits, and the buffers that it reports of two such sheets are the same
+pub record BufferWithoutOthers (call : Call) : Type 0 where
+  pub accepts :
+      (s r vs : List ℕ) (es : List Entry) → Lent s r → judgement s ≡ sound es → (sheet_of es).CRᵢ + free (sheet_of es) ≡ 0 →
+      (sheet_call s r).outcome ≡ accepted vs → (call s r).outcome ≡ accepted vs
+  pub same_buffer :
+      (s t r vs ws : List ℕ) (es fs : List Entry) → Lent s r → Lent t r → AlikeButOthers s t es fs →
+      (call s r).outcome ≡ accepted vs → (call t r).outcome ≡ accepted ws → number_at (call s r).room TOT 0 3 ≡ number_at (call t r).room TOT 0 3
 
 -- ---- 'A huge 'safe' buffer'
 

@@ -1,7 +1,7 @@
 -- The plainest program of each kind of dummy, as what it gives for a sheet and a lent report. proofs/Programs shows that each meets the premise
 -- of its kind, so that the theorems in proofs/Dummies are about programs that there are.
 -- Assumes nothing.
-use Rattle.std.specs.Prelude.{List, [], ◌∷◌, ◌++◌, ℕ, ltb, get_or}
+use Rattle.std.specs.Prelude.{List, [], ◌∷◌, ◌++◌, map, ℕ, ltb, get_or}
 use Rattle.search.specs.Pick.{pick}
 use Rattle.search.specs.Ascending.{ascending}
 use Rattle.refusal.specs.Outcome.Outcome.{accepted}
@@ -19,7 +19,8 @@ use Rattle.judgement.specs.Sheet.{sheet_of}
 use Rattle.judgement.specs.Judgement.{Judgement, judgement}
 use Rattle.judgement.specs.Judgement.Judgement.{turned_away, sound}
 use Rattle.printing.specs.Lent.{Done, untouched, rule14}
-use Rattle.dummies.specs.Dummies.{Call, filled_in}
+use Rattle.judged_text.specs.Judged.{judged_call}
+use Rattle.dummies.specs.Dummies.{Call, filled_in, blanked}
 
 -- turns every sheet away, by rule 12
 abbrev pub turns_away : Call
@@ -77,3 +78,9 @@ after_filling (sound es) r = filled17 es r
 -- the program
 unfoldable pub fills_in : Call
 fills_in s r = after_filling (judgement s) r
+
+-- ---- fills in the others with whatever doesn't depend on their lines
+
+-- a program whose report is of these lines, whatever report; with `report_of` it works out the first block and gives the others zeros
+abbrev pub sees_first : (List Entry → List ℕ) → Call
+sees_first f = judged_call (λ es. f (map blanked es))

@@ -15,7 +15,7 @@ ghost use Rattle.fluctuation.specs.Accepted.{FluctuationDemand};
 ghost use Rattle.shares.specs.Call.{shares_call};
 ghost use Rattle.shares.specs.Accepted.{SharesDemand};
 ghost use Rattle.aggregate.specs.Call.{sheet_call};
-ghost use Rattle.aggregate.specs.Demand.{Demand3};
+ghost use Rattle.aggregate.specs.Demand.{Demand3, PrintedWhole};
 ghost use Rattle.convert.specs.Call.{convert_call, ConvertsBack};
 ghost use Rattle.sheet_check.specs.Call.{check_call, ListsExactly};
 ghost use Rattle.answers.specs.Left.{Leaves};
@@ -116,7 +116,8 @@ pub extern "C" fn tsav_shares(
     answers::leave(shares::shares_call(numbers), shares, place)
 }
 
-// Accepted, `written` holds how many bytes of the lent report are the report, from its start. Where 0 is given, the report meets demand 3.
+// Accepted, `written` holds how many bytes of the lent report are the report, from its start. Where 0 is given, the report meets demand 3, and none
+// of its numbers is cut.
 // Kept: this call and the two below have one shape and the same parameters, since the C interface has them: include/tsav.h names each.
 #[unsafe(no_mangle)]
 pub extern "C" fn tsav_sheet(
@@ -127,7 +128,7 @@ pub extern "C" fn tsav_sheet(
 ) -> u64
     ensures room_after { report.new ≡ (sheet_call sheet.now report.old).room }
     ensures leaves { Leaves (sheet_call sheet.now report.old).outcome result written.old place.old written.new place.new }
-    ensures at_0 { result ≡ 0 → Demand3 sheet.now (accepted written.new) report.new }
+    ensures at_0 { result ≡ 0 → Demand3 sheet.now (accepted written.new) report.new × PrintedWhole sheet.now (accepted written.new) report.new }
 {
     answers::tell(aggregate::sheet_call(sheet, report), written, place)
 }

@@ -11,8 +11,9 @@ use lib.ListN.{length, get_or}
 use lib.IntN.{ℤ, pos, ◌*ℤ◌}
 use lib.Signed.{le_z}
 use Rattle.search.specs.Each.{Each}
+use Rattle.search.specs.Pick.{pick}
 use Rattle.search.specs.Least.{least}
-use Rattle.search.proofs.Picks.{if_eq, if_ne}
+use Rattle.search.proofs.Picks.{if_ne}
 use Rattle.search.proofs.LeastOf.{LeastOf, Rising, least_of}
 use Rattle.search.proofs.Roots.{le_of_squares}
 use Rattle.search.proofs.Tests.{leb_same}
@@ -77,8 +78,8 @@ module _ (b : List ℕ) where
 
 module _ (u l v d : ℕ) where
   pub requirement_none : u ≡ 0 → requirement u l v d ≡ 0
-  unfolding requirement
-  requirement_none e = if_eq _ e
+  unfolding requirement pick
+  requirement_none e = rw e refl
 
   pub requirement_some : 0 < u → requirement u l v d ≡ least (λ k. leb (fine_numerator u l v d) (60 * (fineness * v * (fineness * k))))
   unfolding requirement

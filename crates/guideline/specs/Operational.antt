@@ -2,13 +2,14 @@
 -- eight pairs, the current and the prior volume of classes 1 to 8, one territory after the other. So the pair k, counted from 0 through
 -- the whole list, is of class k mod 8 + 1. The general figures are gross components, guarantee requirement and ceded premiums.
 -- Assumes nothing.
-use Rattle.std.specs.Prelude.{◌≡◌, refl, List, [], ◌∷◌, ℕ, zero, suc, ◌+◌, ◌-◌, ◌*◌, ◌/◌, ◌%◌, ◌≤◌, ◌<◌, leb, length, get_or}
+use Rattle.std.specs.Prelude.{◌≡◌, refl, List, [], ◌∷◌, ℕ, zero, suc, ◌+◌, ◌-◌, ◌*◌, ◌/◌, ◌%◌, ◌≤◌, ◌<◌, leb, length, get_or, pos, ◌-ℤ◌}
 use Rattle.std.proofs.Math.Nat.{mul-sub}
-use Rattle.std.proofs.Common.{mul-le-mul_left, arith}
+use Rattle.std.proofs.Common.{sym, ap, ◌∙◌, mul-le-mul_left, arith}
 use Rattle.std.proofs.Math.Decide.{ℕ_discrete}
 use Rattle.amount.specs.Amount.{limit}
 use Rattle.search.specs.Least.{least}
 use Rattle.guideline.specs.Sizes.{volume_classes, volume_numbers, ten_thousandths}
+use Rattle.guideline.specs.Difference.{larger, cut_larger, less_diff}
 
 -- 'Eight volume classes .. with factors in ten-thousandths' (8.2.1). Direct premiums: individual life, group life, other, annuities
 -- excepted; reinsurance accepted; segregated funds with guarantees; annuities in payment; universal life accounts; other accounts
@@ -70,6 +71,10 @@ growth_exact l h = to (length l / 2)
     to : (n : ℕ) → total (λ k. factor_of k * excess l k) n + 6 * total (λ k. factor_of k * prior l k) n ≡ 5 * total (λ k. factor_of k * current l k) n
     to zero = refl
     to (suc n) = omega (arith, to n, mul-sub (factor_of n) (5 * current l n) (6 * prior l n), mul-le-mul_left (factor_of n) (h n))
+
+-- the excess in ℤ: the larger of 0 and the difference, the one in this file that is cut
+pub excess_larger : (l : List ℕ) (k : ℕ) → pos (excess l k) ≡ larger (pos 0) (pos (5 * current l k) -ℤ pos (6 * prior l k))
+excess_larger l k = cut_larger (5 * current l k) (6 * prior l k) ∙ ap (larger (pos 0)) (sym (less_diff (5 * current l k) (6 * prior l k)))
 
 -- 'General: 575 × gross components + 450 × the segregated fund guarantee requirement + 250 × ceded premiums' (8.2.3), over 10,000
 abbrev pub general_requirement : List ℕ → ℕ

@@ -17,9 +17,9 @@ use Rattle.judgement.proofs.Accepted.{numbered}
 use Rattle.judgement.proofs.Rules.{findings_refusal}
 use Rattle.std.specs.Prelude.{Result}
 use Rattle.refusal.specs.declared.Refusal.{Refusal}
-use Rattle.printing.specs.Lent.{Text, Done, stated, untouched, lent}
+use Rattle.printing.specs.Lent.{Text, Done, TooLong, stated, untouched, lent}
 use Rattle.printing.specs.Lent.Text.{no_text, bytes}
-use Rattle.printing.specs.Printing.{printout, Printed, Shown}
+use Rattle.printing.specs.Printing.{ReadsRefusal, printout, Printed, Shown}
 use Rattle.printing.proofs.Lent as laws
 use Rattle.printing.proofs.Lent.{RoomFor, Numbered, filled}
 use Rattle.judged_text.specs.Judged.{text_of, judged_call}
@@ -36,8 +36,13 @@ module _ (f : List Entry → List ℕ) where
   turned_text (turned_away m q) n p e = cc
   turned_text (sound es) n p e = never (cc)
 
-  right_numbers : (s : List ℕ) → Numbered (text_of f (judgement s))
+  pub right_numbers : (s : List ℕ) → Numbered (text_of f (judgement s))
   right_numbers s n p e = let w = numbered s n p (turned_text (judgement s) n p e) in (w.0, omega (arith, w.1))
+
+  -- the number and the place of a sheet that is turned away are read back off what is printed of it
+  pub refusal_read : (s : List ℕ) (n : ℕ) (p : Place) → judgement s ≡ turned_away n p → ReadsRefusal n p (printout (text_of f (judgement s)))
+  unfolding text_of
+  refusal_read s n p e = laws.refusal_read _ (right_numbers s) n p (ap (text_of f) e)
 
   module _ (s r : List ℕ) where
     -- what holds of each answer holds of the call's: turned away, no room, or the text
@@ -61,6 +66,11 @@ module _ (f : List Entry → List ℕ) where
     pub never_0 : (p : Place) → (judged_call f s r).outcome ≡ refused 0 p → ⊥
     unfolding judged_call
     never_0 = laws.never_0 _ r (right_numbers s)
+
+    -- a sheet refused by 14 is a sound one, whose text is longer than the room
+    pub refused_by_14 : (p : Place) → (judged_call f s r).outcome ≡ refused 14 p → (p ≡ Nowhere) × TooLong (judged_call f s) (text_of f (judgement s)) r
+    unfolding judged_call
+    refused_by_14 = laws.refused_by_14 _ r (right_numbers s)
 
     -- with room for the longest text that it can have, it never answers 14, and what is printed is the judgement's own
     module _ {m : ℕ} (most : (es : List Entry) → judgement s ≡ sound es → length (f es) ≤ m) (room : m ≤ length r) where

@@ -5,3 +5,4 @@ pub mod Available
 pub mod Rules
 pub mod Told
 pub mod Lengths
+pub mod InOrder

@@ -1,3 +1,4 @@
--- Laws of rules 15 and 7, and that the operational call accepts just what they leave.
+-- Laws of rules 15 and 7, that the operational call accepts just what they leave, and cases of their order.
 pub mod Rules
 pub mod Accepted
+pub mod Cases

@@ -6,3 +6,4 @@ pub mod Ascent
 pub mod Lines
 pub mod Printed
 pub mod Marks
+pub mod InOrder

@@ -14,10 +14,13 @@ use Rattle.refusal.specs.declared.Place.{Place}
 use Rattle.refusal.specs.declared.Refusal.{Refusal}
 use Rattle.refusal.specs.declared.Place.TheVariants.{Nowhere}
 use Rattle.guideline.specs.Sizes.{number_columns, FitsColumns}
+use Rattle.field.specs.Field.{leading_digits, decimal}
+use Rattle.field.proofs.Inverse.{read_back}
+use Rattle.report_line.specs.Line.{key, line_in}
 use Rattle.report_line.proofs.ReadBack.{PrintableIn, Printable}
-use Rattle.printing.specs.Lent.{Text, Done, stated, untouched, lent}
+use Rattle.printing.specs.Lent.{Text, Done, TooLong, stated, untouched, lent}
 use Rattle.printing.specs.Lent.Text.{no_text, bytes}
-use Rattle.printing.specs.Printing.{refusal_row, refusal_line, printout, Printed, Shown}
+use Rattle.printing.specs.Printing.{refusal_row, refusal_line, ReadsRefusal, printout, Printed, Shown}
 
 -- a text in front of the room
 abbrev pub filled : List ℕ → List ℕ → Done
@@ -69,6 +72,17 @@ module _ (x : Text) (r : List ℕ) where
 pub refusal_row_fits : (w n : ℕ) (p : Place) → n < 100 → printed p < 10 ^ w → PrintableIn w (refusal_row n p)
 refusal_row_fits w n p h k = record { code = refl; block = omega (arith, h); item = omega (arith, h); number = k }
 
+-- so its number and its place are read back off the line
+pub line_read : (n : ℕ) (p : Place) → Printable (refusal_row n p) → ReadsRefusal n p (refusal_line n p)
+unfolding refusal_line line_in key decimal leading_digits
+line_read n p w =
+    record {
+      code = refl;
+      number = read_back 2 n (omega arith) w.block;
+      item = read_back 2 0 (omega arith) w.item;
+      place = read_back number_columns (printed p) (omega arith) w.number;
+    }
+
 -- every refusal of the input has a rule's number, and its place fits the columns of a line
 abbrev pub Numbered : Text → Type 0
 Numbered x = (n : ℕ) (p : Place) → x ≡ no_text n p → Judging n × FitsColumns (printed p)
@@ -100,9 +114,20 @@ module _ (x : Text) (r : List ℕ) (numbered : Numbered x) where
   unfolding RightNumber
   never_0 p e = (subst RightNumber e call_numbered).0 refl
 
-  -- so the line of a refusal has the columns that its number and its place need
-  pub refusal_fits : (n : ℕ) (p : Place) → x ≡ no_text n p → Printable (refusal_row n p)
-  refusal_fits n p e = let w = numbered n p e in refusal_row_fits number_columns n p w.0.two_columns w.1
+  -- 14 comes only where there is a text, and it is longer than the room
+  pub refused_by_14 : (p : Place) → (lent x r).outcome ≡ refused 14 p → (p ≡ Nowhere) × TooLong (lent x) x r
+  refused_by_14 p =
+      by_answer x r (λ d. d.outcome ≡ refused 14 p → (p ≡ Nowhere) × TooLong (lent x) x r)
+      (λ n q e h. let w : n ≡ 14 = cc in absurd ((numbered n q e).0.not_14 w))
+      (λ t e l h. let w : p ≡ Nowhere = cc in (w, record { text = t; says = e; longer = l; fits = λ q k. sym (lent_filled x q e refl k refl) }))
+      (λ t e h. never (cc))
+
+-- the line of a refusal has the columns that its number and its place need, so both are read back off what is printed
+pub refusal_read : (x : Text) → Numbered x → (n : ℕ) (p : Place) → x ≡ no_text n p → ReadsRefusal n p (printout x)
+unfolding printout
+refusal_read x numbered n p e =
+    let w = numbered n p e in
+    rw e (line_read n p (refusal_row_fits number_columns n p w.0.two_columns w.1))
 
 -- ---- what is printed, with room for the text
 

@@ -3,7 +3,7 @@
 -- last, 'lent report shorter than the report', and then the text: it gives the length written, 'and bytes past it keep their content'. 'A refusal
 -- writes nothing.'
 -- Assumes nothing.
-use Rattle.std.specs.Prelude.{Result, List, [], ◌∷◌, ◌++◌, ℕ, ltb, length, drop}
+use Rattle.std.specs.Prelude.{◌≡◌, Result, List, [], ◌∷◌, ◌++◌, ℕ, ◌≤◌, ◌<◌, ltb, length, drop}
 use Rattle.search.specs.Pick.{pick}
 use Rattle.refusal.specs.Outcome.{Outcome, stated_by}
 use Rattle.refusal.specs.Outcome.Outcome.{accepted, refused}
@@ -41,3 +41,11 @@ rule14 t r =
 unfoldable pub lent : Text → List ℕ → Done
 lent (no_text n p) r = untouched n p r
 lent (bytes t) r = rule14 t r
+
+-- what 14 says of a call on lent room that has x to say, and of the room r: there is a text, it is longer than r, and of any room that has its length
+-- the call leaves it in front and gives that length
+pub record TooLong (call : List ℕ → Done) (x : Text) (r : List ℕ) : Type 0 where
+  pub text : List ℕ
+  pub says : x ≡ bytes text
+  pub longer : length r < length text
+  pub fits : (q : List ℕ) → length text ≤ length q → call q ≡ record { outcome = accepted (length text ∷ []); room = text ++ drop (length text) q }

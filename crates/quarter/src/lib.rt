@@ -2,19 +2,15 @@
 // summary, or what turns the input away.
 #![tactic(auto)]
 
-ghost use Rattle.std.specs.Prelude.{◌≡◌, false, List, [], ℕ, suc, length};
-ghost use Rattle.sheet_length.specs.Measured.{longest_sheet};
-ghost use Rattle.quarter.specs.Steps.{longest_output, After, Begun, BegunIn, Taken, Finished};
+ghost use Rattle.std.specs.Prelude.{◌≡◌, List, [], ℕ, length};
+ghost use Rattle.quarter.specs.Steps.{After, Begun, BegunIn, Taken, Finished};
 
 use quarter_lines::{LINE_BYTES, MOST_SHEETS};
 use refusal::{Place, Refusal, Rule};
-use sheet_length::LONGEST_SHEET;
+use sheet_length::SHEET_ROOM;
 use std::ops::ControlFlow;
 use stream::Held;
 use summary::{SUMMARY_ITEMS, Summary};
-
-// One byte more than the longest sheet, so that a sheet that is too long is seen to be.
-pub const SHEET_ROOM: usize = LONGEST_SHEET + 1;
 
 // A line for each sheet, and the summary.
 pub const OUTPUT_ROOM: usize = LINE_BYTES * (MOST_SHEETS + SUMMARY_ITEMS);
@@ -29,9 +25,9 @@ pub struct Quarter {
     pub summary: Summary,
 }
 
-// Before any byte.
+// Before any byte, in rooms of the lengths that the steps are lent.
 pub fn start() -> Quarter
-    ensures { (room out : List ℕ) → length room ≡ suc longest_sheet → length out ≡ longest_output → After [] room out result }
+    ensures { (room out : List ℕ) → length room ≡ SHEET_ROOM → length out ≡ OUTPUT_ROOM → After [] room out result }
 {
     Quarter {
         held: Some(stream::fresh()),

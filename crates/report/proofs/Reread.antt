@@ -19,6 +19,7 @@ use Rattle.report_line.specs.declared.Row.{Row}
 use Rattle.report_line.specs.Line.{print_rows, equal_bytes, number_at}
 use Rattle.report_line.proofs.ReadBack.{PrintableIn, Printable, row_is, number_among, rows_read}
 use Rattle.report.specs.Rows.{BLK, TOT, row, items_from, block_rows, total_rows}
+use Rattle.report.specs.Rows.{totals as three}
 
 pub items_printable : (w : ℕ) (c : List ℕ) (b i : ℕ) (ns : List ℕ) → length c ≡ 3 → b < 100 → i + length ns ≤ 100 → Each (λ n. n < 10 ^ w) ns
     → Each (PrintableIn w) (items_from i c b ns)
@@ -112,11 +113,15 @@ module _ (exists : ℕ → Bool) (f : ℕ → List ℕ) (sum ro buffer : ℕ) (r
       rows_read rows (row c b i 0) rest all_printable (record { code = h; block = k; item = l; number = omega arith })
       ∙ number_append c b i (lines_to exists f blocks) _ _
 
-  pub buffer_read : number_at (print_rows rows ++ rest) TOT 0 3 ≡ Some buffer
+  -- each total, and each figure of a block that exists, is read whole
+  pub total_read : (i : ℕ) → 1 ≤ i → i ≤ three → number_at (print_rows rows ++ rest) TOT 0 i ≡ Some (get_or (sum ∷ ro ∷ buffer ∷ []) (i - 1) 0)
   unfolding equal_bytes pick row_is
-  buffer_read =
-      reads TOT 0 3 refl (omega arith) (omega arith) ∙ passed exists f TOT 0 3 blocks (λ b p. items_passed TOT 0 3 BLK b (λ j n. refl) 1 (f b)) _
-      ∙ items_found TOT 0 3 refl 1 (sum ∷ ro ∷ buffer ∷ []) _ (omega arith) (omega arith)
+  total_read i l m =
+      reads TOT 0 i refl (omega arith) (omega arith) ∙ passed exists f TOT 0 i blocks (λ b p. items_passed TOT 0 i BLK b (λ j n. refl) 1 (f b)) _
+      ∙ items_found TOT 0 i refl 1 (sum ∷ ro ∷ buffer ∷ []) _ (omega arith) (omega arith)
+
+  pub buffer_read : number_at (print_rows rows ++ rest) TOT 0 3 ≡ Some buffer
+  buffer_read = total_read 3 (omega arith) (omega arith)
 
   pub figure_read : (b i : ℕ) → exists b ≡ true → 1 ≤ b → b ≤ blocks → 1 ≤ i → i ≤ block_figures → number_at (print_rows rows ++ rest) BLK b i ≡ Some (get_or (f b) (i - 1) 0)
   figure_read b i t h k l m =

@@ -6,15 +6,15 @@ use native.Mathlib.Decide.{dec_le}
 use native.Mathlib.Omega.{arith}
 use lib.Arith.{digits_lt}
 use lib.Count.{count_leading_zeros, leading_top, leading_of_zero}
-use lib.Pow.{pow_mono, pow-add}
-use Rattle.root.specs.Steps.{length_in, binary_length, steps}
+use lib.Pow.{pow_pos, pow_mono, pow-add}
+use Rattle.root.specs.Steps.{length_in, binary_length, HasLength, steps}
 
 -- n has k binary digits, the first of them not 0
-record HasLength (n k : ℕ) : Type 0 where
+record Counted (n k : ℕ) : Type 0 where
   no_more : n < 2 ^ k
   no_less : 2 ^ k ≤ max 1 (2 * n)
 
-counted_in : (f n : ℕ) → n ≤ f → HasLength n (length_in f n)
+counted_in : (f n : ℕ) → n ≤ f → Counted n (length_in f n)
 counted_in zero n h = record { no_more = omega arith; no_less = omega arith }
 counted_in (suc f) zero h = record { no_more = omega arith; no_less = omega arith }
 counted_in (suc f) (suc k) h =
@@ -22,9 +22,24 @@ counted_in (suc f) (suc k) h =
     let e = pow-succ' 2 (length_in f (suc k / 2)) in
     record { no_more = omega (arith, e, w.no_more); no_less = omega (arith, e, w.no_less) }
 
-has_length : (n : ℕ) → HasLength n (binary_length n)
+counted : (n : ℕ) → Counted n (binary_length n)
 unfolding binary_length
-has_length n = counted_in n n (le_refl n)
+counted n = counted_in n n (le_refl n)
+
+-- the law of the binary length
+pub has_length : (n : ℕ) → HasLength n (binary_length n)
+has_length n = go (binary_length n) (counted n)
+  where
+    go : (k : ℕ) → Counted n k → HasLength n k
+    go zero w = record { below = w.no_more; at_least = λ p. omega (arith, w.no_more); none = λ e. omega arith }
+    go (suc k) w =
+        let e : suc k - 1 ≡ k = omega arith in
+        let double = pow-succ' 2 k in
+        record {
+          below = w.no_more;
+          at_least = λ p. rw e (omega (arith, double, w.no_less));
+          none = λ z. omega (arith, double, w.no_less, pow_pos k);
+        }
 
 -- 4 ^ m as a power of 2
 pub four : (m : ℕ) → 4 ^ m ≡ 2 ^ (2 * m)
@@ -41,16 +56,20 @@ pub record HasDigits (n k : ℕ) : Type 0 where
 -- half the padded length is the number of digits in base 4
 pub has_digits : (n : ℕ) → HasDigits n (steps n)
 unfolding steps
-has_digits n = go n (binary_length n) (has_length n)
+has_digits n = go (binary_length n) (steps n) (omega arith) (omega arith) (has_length n)
   where
-    go : (n k : ℕ) → HasLength n k → HasDigits n ((k + 1) / 2)
-    go n zero w = record { no_more = omega (arith, w.no_more); no_less = omega arith }
-    go n (suc k) w =
-        let s = (suc k + 1) / 2 in
-        let low : 2 ^ suc k ≤ 2 ^ (2 * s) = pow_mono (omega arith) in
-        let up : 2 ^ (2 * s) ≤ 2 ^ (suc k + 1) = pow_mono (omega arith) in
+    go : (k s : ℕ) → k ≤ 2 * s → 2 * s ≤ k + 1 → HasLength n k → HasDigits n s
+    go zero s even most w =
+        let z : s ≡ 0 = omega arith in
+        record { no_more = rw z (omega (arith, w.below)); no_less = rw z (omega arith) }
+    go (suc k) s even most w =
+        let some : 0 < n = elim (dec_le 1 n) [ yes h ↦ h | no h ↦ absurd (omega (arith, w.none (omega arith))) ] in
+        let e : suc k - 1 ≡ k = omega arith in
+        let first : 2 ^ k ≤ n = rw e at (w.at_least some) in
+        let low : 2 ^ suc k ≤ 2 ^ (2 * s) = pow_mono even in
+        let up : 2 ^ (2 * s) ≤ 2 ^ (suc k + 1) = pow_mono most in
         let f = four s in
-        record { no_more = omega (arith, w.no_more); no_less = omega (arith, w.no_less, pow-add 2 (suc k) 1, pow-succ' 2 k) }
+        record { no_more = omega (arith, w.below); no_less = omega (arith, first, pow-add 2 (suc k) 1, pow-succ' 2 k) }
 
 -- a number below 4 ^ m has no more than m digits
 few : {n k : ℕ} (m : ℕ) → HasDigits n k → n < 4 ^ m → k ≤ m

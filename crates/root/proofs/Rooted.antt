@@ -2,19 +2,19 @@
 use mathlib.Core.Path.{◌≡◌, sym, ap, ◌∙◌}
 use mathlib.Core.Bool.{true, false}
 use Prim.Native.Nat.{ℕ, suc, ◌+◌, ◌-◌, ◌*◌, ◌/◌, ◌%◌, ◌^◌, ◌≤◌, ◌<◌}
-use native.Mathlib.Nat.{pow-succ', div-le_self, div-div-eq-div-mul, div-eq_of_lt, div-one, mod-eq_of_lt, mul_comm, mul-le-mul}
-use native.Mathlib.Decide.{dec_le}
+use native.Mathlib.Nat.{pow-succ', div-le_self, div-div-eq-div-mul, div-eq_of_lt, div-one, mod-eq_of_lt, mul_comm}
 use native.Mathlib.Omega.{arith}
 use lib.Dec.{leb}
 use borrow.Author.Tests.{leb-true, leb-false}
 use Rattle.search.specs.Least.{least}
 use Rattle.search.specs.Pick.{pick}
-use Rattle.search.proofs.LeastOf.{LeastOf, least_of, root_eq}
+use Rattle.search.proofs.LeastOf.{root_eq}
 use Rattle.search.proofs.Picks.{by_test}
 use Rattle.search.proofs.Roots.{lt_of_squares}
-use Rattle.root.specs.Steps.{steps, leading, root_down, After}
+use Rattle.root.specs.Steps.{steps, leading, After}
 use Rattle.root.proofs.Lengths.{has_digits, few_steps}
 use Rattle.root.proofs.Windows.{brought}
+use Rattle.root.proofs.Floors.{floor_root, floor_is}
 
 -- one binary digit t more: the root is 2r + t, and t times the next odd number is taken off what is left with the digits brought down
 pub record Digit (r s d t : ℕ) : Type 0 where
@@ -36,27 +36,6 @@ digit r s d t h k e = rw e (by_test (Digit r s d) (leb (4 * r + 1) (4 * s + d)) 
         let l : 4 * s + d < 4 * r + 1 = leb-false _ _ b in
         record { bit = omega arith; within = omega arith; square = omega arith; small = omega arith }
 
--- ---- the root, rounded down
-
--- the squares of the numbers after each
-next_squares : (m k : ℕ) → m ≤ k → (m + 1) * (m + 1) ≤ (k + 1) * (k + 1)
-next_squares m k h = mul-le-mul {n₁ = m + 1} {n₂ = k + 1} (omega arith) (omega arith)
-
--- of a number below 2 ^ 124 it is the first whose next square is above the number
-down_law : (m : ℕ) → m < 2 ^ 124 → LeastOf (suc m) (λ r. (r + 1) * (r + 1)) (root_down m)
-down_law m h = least_of (suc m) (λ r. (r + 1) * (r + 1)) next_squares (2 ^ 62) (omega arith) (omega arith)
-
--- what is such a number is it
-root_down_is : (m r : ℕ) → m < 2 ^ 124 → r * r ≤ m → m < (r + 1) * (r + 1) → r ≡ root_down m
-root_down_is m r h low up =
-    let l = down_law m h in
-    let x = root_down m in
-    let k : x ≤ r = l.first r (omega arith) in
-    elim (dec_le r x) [
-      | yes p ↦ omega arith
-      | no p ↦ let q : (x + 1) * (x + 1) ≤ r * r = mul-le-mul {n₁ = x + 1} {n₂ = r} (omega arith) (omega arith) in absurd (omega (arith, l.reaches))
-    ]
-
 -- a radicand without a step is 0, and so is its root
 pub root_of_none : (n : ℕ) → steps n ≡ 0 → 0 ≡ least (λ x. leb n (x * x))
 root_of_none n e =
@@ -77,8 +56,7 @@ module _ (n : ℕ) (fits : n < 2 ^ 124) where
     -- what is left of the leading digits is at most twice the root
     pub small : s ≤ 2 * r
     small =
-        let l = down_law (leading n j) (leading_small j) in
-        let k : leading n j < (r + 1) * (r + 1) = rw a.held l.reaches in
+        let k : leading n j < (r + 1) * (r + 1) = rw a.held (floor_root (leading n j) (leading_small j)).next_above in
         omega (arith, a.remains)
 
   -- before the first step nothing is brought down
@@ -88,7 +66,7 @@ module _ (n : ℕ) (fits : n < 2 ^ 124) where
       let k : n < 4 ^ (steps n - 0) = rw whole (has_digits n).no_more in
       let z : n / 4 ^ (steps n - 0) ≡ 0 = div-eq_of_lt k in
       record {
-        held = root_down_is (leading n 0) 0 (leading_small 0) (omega arith) (omega (arith, z));
+        held = floor_is (leading n 0) 0 (leading_small 0) (omega arith) (omega (arith, z));
         remains = omega (arith, z);
         to_come = rw (mod-eq_of_lt k, whole) e;
       }
@@ -111,7 +89,7 @@ module _ (n : ℕ) (fits : n < 2 ^ 124) where
       let z : suc (64 - suc m) ≡ 64 - m = omega arith in
       let k : r' * r' + s' ≡ leading n (j + 1) = omega (arith, one_more m, rw e at a.remains, d.0) in
       record {
-        held = root_down_is (leading n (j + 1)) r' (leading_small (j + 1)) (omega arith) (omega arith);
+        held = floor_is (leading n (j + 1)) r' (leading_small (j + 1)) (omega arith) (omega arith);
         remains = k;
         to_come = rw z at d.1;
       }

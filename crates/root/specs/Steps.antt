@@ -1,7 +1,7 @@
 -- The steps of a root found one binary digit at a time, after document 02, #107: 'after step j the held value is the root, rounded down, of
 -- the leading 2j digits of the radicand, its length padded in front to an even number. The steps equal half that padded length, 0 for
 -- radicand 0'. Assumes nothing.
-use Rattle.std.specs.Prelude.{◌≡◌, ℕ, zero, suc, ◌+◌, ◌-◌, ◌*◌, ◌/◌, ◌%◌, ◌^◌, ◌<◌, ltb}
+use Rattle.std.specs.Prelude.{◌≡◌, ℕ, zero, suc, ◌+◌, ◌-◌, ◌*◌, ◌/◌, ◌%◌, ◌^◌, ◌≤◌, ◌<◌, ltb}
 use Rattle.search.specs.Least.{least}
 
 -- the binary digits of n, of which there are at most `fuel`
@@ -14,6 +14,12 @@ length_in (suc f) (suc k) = suc (length_in f (suc k / 2))
 unfoldable pub binary_length : ℕ → ℕ
 binary_length n = length_in n n
 
+-- k is how many binary digits n has, with no word of how they are counted: `has_length` of proofs/Lengths says it of `binary_length`
+pub record HasLength (n k : ℕ) : Type 0 where
+  pub below : n < 2 ^ k
+  pub at_least : 0 < n → 2 ^ (k - 1) ≤ n
+  pub none : n ≡ 0 → k ≡ 0
+
 -- half of it, 'padded in front to an even number'
 unfoldable pub steps : ℕ → ℕ
 steps n = (binary_length n + 1) / 2
@@ -25,6 +31,12 @@ leading n j = n / 4 ^ (steps n - j)
 -- 'the root, rounded down': the least whole number such that the square of the next one is above m
 abbrev pub root_down : ℕ → ℕ
 root_down m = least (λ r. ltb m ((r + 1) * (r + 1)))
+
+-- r is the greatest whole number whose square is at most m: `floor_root` of proofs/Floors says it of `root_down`, for every m below 2^124
+pub record FloorRoot (m r : ℕ) : Type 0 where
+  pub within : r * r ≤ m
+  pub next_above : m < (r + 1) * (r + 1)
+  pub greatest : (k : ℕ) → k * k ≤ m → k ≤ r
 
 -- 'after step j the held value'
 abbrev pub held_after : (n j : ℕ) → ℕ

@@ -1,11 +1,11 @@
 // The least whole number whose square reaches a number of two words, found one binary digit at a time.
 #![tactic(auto)]
 
-ghost use Rattle.std.specs.Prelude.{◌≡◌, ◌+◌, ◌-◌, ◌*◌, ◌/◌, ◌^◌, ◌<◌, ◌≤◌, leb};
+ghost use Rattle.std.specs.Prelude.{◌≡◌, ℕ, ◌+◌, ◌-◌, ◌*◌, ◌/◌, ◌^◌, ◌<◌, ◌≤◌, leb};
 ghost use Rattle.search.specs.Least.{least};
 ghost use Rattle.search.specs.Pick.{pick};
 ghost use Rattle.wide.specs.Value.{value};
-ghost use Rattle.root.specs.Steps.{steps};
+ghost use Rattle.root.specs.Steps.{steps, After};
 
 use wide::Wide;
 
@@ -38,10 +38,10 @@ pub fn root_and_steps(n: Wide) -> Root
     let mut root = 0u64;
     let mut rest = 0u64;
     for _j in 0..count {
-        let s = root_step(root, rest, top_digits(window));
-        root = s.root;
-        rest = s.rest;
-        window = bring_down(window);
+        let held = step(window, root, rest);
+        window = held.window;
+        root = held.root;
+        rest = held.rest;
     }
     let steps = u64::from(count);
     if rest == 0 {
@@ -54,7 +54,30 @@ pub fn root_and_steps(n: Wide) -> Root
     }
 }
 
-// What is held between two steps: the root so far, and what its square leaves.
+// What is held between two steps: the digits of the radicand that are not yet brought down, the root so far, and what its square leaves.
+#[derive(Clone, Copy)]
+struct Held {
+    window: Wide,
+    root: u64,
+    rest: u64,
+}
+
+// One step, of whatever radicand n: from what is held after step j to what is held after step j + 1.
+fn step(window: Wide, root: u64, rest: u64) -> Held
+    requires { (rest ≤ 2 * root) × (root < 2 ^ 61) }
+    ensures { (n j : ℕ) → n < 2 ^ 124 → j < steps n → After n j (value window) root rest → After n (j + 1) (value result.window) result.root result.rest }
+{
+    let digits = top_digits(window);
+    let moved = bring_down(window);
+    let longer = root_step(root, rest, digits);
+    Held {
+        window: moved,
+        root: longer.root,
+        rest: longer.rest,
+    }
+}
+
+// A root with one binary digit more, and what its square leaves.
 #[derive(Clone, Copy)]
 struct PartialRoot {
     root: u64,

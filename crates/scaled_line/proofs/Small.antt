@@ -60,10 +60,12 @@ pub letters_turned : (d : Scale) (k : Code) → map (other_letter d) (letters_in
 letters_turned Cents k = refl
 letters_turned Thousands k = raise_lower k
 
-abbrev Capital : ℕ → Type 0
+-- from A to Z
+abbrev pub Capital : ℕ → Type 0
 Capital c = (65 ≤ c) × (c ≤ 90)
 
-capitals : (k : Code) → Each Capital (letters_of k)
+-- a code's letters are capitals
+pub capitals : (k : Code) → Each Capital (letters_of k)
 capitals Rsk = omega arith
 capitals Oth = omega arith
 capitals Mor = omega arith
@@ -97,7 +99,8 @@ raise_is b c q h =
       ]
     ]
 
-raised_is : (v w : List ℕ) → Each Capital w → map raise v ≡ w → v ≡ map lower w
+-- what is raised to capitals are their small letters
+pub raised_is : (v w : List ℕ) → Each Capital w → map raise v ≡ w → v ≡ map lower w
 raised_is [] [] p q = refl
 raised_is [] (c ∷ w) p q = let z : 0 ≡ suc (length w) = ap length q in absurd (omega arith)
 raised_is (b ∷ v) [] p q = let z : suc (length (map raise v)) ≡ 0 = ap length q in absurd (omega arith)
@@ -109,7 +112,7 @@ raised_is (b ∷ v) (c ∷ w) p q =
 -- ---- a line
 
 module _ (s : List ℕ) (h : length s ≡ sheet_line_bytes) where
-  long_letters : length (map raise (take 3 s)) ≡ 3
+  pub long_letters : length (map raise (take 3 s)) ≡ 3
   long_letters = length-map (take 3 s) raise ∙ length-take-le 3 s (omega arith)
 
   pub length_raised : length (raised s) ≡ sheet_line_bytes

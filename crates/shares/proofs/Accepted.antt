@@ -15,6 +15,7 @@ use Rattle.search.proofs.Ascents.{list_long}
 use Rattle.search.proofs.Totals.{sum_zero, zero_sum}
 use Rattle.refusal.specs.Outcome.{Outcome}
 use Rattle.refusal.specs.Outcome.Outcome.{accepted, refused}
+use Rattle.refusal.specs.declared.Place.TheVariants.{Nowhere}
 use Rattle.guideline.specs.Sizes.{block_numbers, parts}
 use Rattle.guideline.specs.Block.{K, AcceptedBlock}
 use Rattle.block.specs.Call.{block_call}
@@ -24,7 +25,7 @@ use Rattle.apportion.proofs.Fair.{fair}
 use Rattle.shares.specs.Margins.{k_without, negative, margin}
 use Rattle.shares.specs.Call.{after_block, unless_zero, rule23, shares_call}
 use Rattle.shares.specs.Accepted.{AcceptedShares, AcceptsShares, SharesOf, SharesDemand}
-use Rattle.shares.proofs.Rules.{accepted_call}
+use Rattle.shares.proofs.Rules.{refused_call, accepted_call}
 
 module _ (b : List ℕ) where
   -- what holds of an outcome: accepted, the values are the shares of a block that the rules leave; refused, the number is not 0
@@ -40,7 +41,7 @@ module _ (b : List ℕ) where
         refl,
         record {
           block = a;
-          none_negative = λ p l h. ltb-false (K b) (k_without b p) (none_to (negative b) parts none p l h);
+          none_negative = λ p l h. omega (arith, ltb-false _ _ (none_to (negative b) parts none p l h));
           not_all_zero = λ z. eqb-false _ 0 some (sum_zero (margin b) parts z);
         },
       )
@@ -54,6 +55,15 @@ module _ (b : List ℕ) where
   unfolding shares_call
   rules_followed = after_tests (block_call b) refl
 
+  -- what holds of an outcome past the block's own tests: refused, it is by 23 with no place
+  unfoldable Refused23 : Outcome → Type 0
+  Refused23 (accepted vs) = Unit
+  Refused23 (refused n p) = (n ≡ 23) × (p ≡ Nowhere)
+
+  refused_23 : Refused23 (rule23 b)
+  unfolding Refused23 rule23 unless_zero
+  refused_23 = by_test Refused23 _ _ _ (λ t. (omega arith, refl)) (λ none. by_test Refused23 _ _ _ (λ t. (omega arith, refl)) (λ some. tt))
+
   -- margins that are not all zero have a sum above 0
   not_zero : AcceptedShares b → total (margin b) ≡ 0 → ⊥
   not_zero v z = v.not_all_zero (zero_sum (margin b) parts z)
@@ -65,11 +75,13 @@ module _ (b : List ℕ) where
       sym (accepted_call b _ (sym ((accepts_block b).accepts long v.block))) ∙ if_false _ none ∙ if_ne _ (not_zero v)
 
   pub accepts_shares : AcceptsShares b
-  unfolding RulesFollowed
+  unfolding RulesFollowed Refused23
   accepts_shares =
       record {
         accepts = passes;
         accepted_only = λ vs e. (subst RulesFollowed e rules_followed).1;
+        kept = λ n p e. sym (refused_call b n p (sym e));
+        refused_by = λ n p ws d e. subst Refused23 (accepted_call b ws (sym d) ∙ e) refused_23;
         never_0 = λ p e. subst RulesFollowed e rules_followed refl;
       }
 

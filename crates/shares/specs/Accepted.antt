@@ -4,8 +4,10 @@ use Rattle.std.specs.Prelude.{◌≡◌, List, ℕ, ◌+◌, ◌≤◌, length}
 use Rattle.refusal.specs.Outcome.{Outcome}
 use Rattle.refusal.specs.Outcome.Outcome.{accepted, refused}
 use Rattle.refusal.specs.declared.Place.{Place}
+use Rattle.refusal.specs.declared.Place.TheVariants.{Nowhere}
 use Rattle.guideline.specs.Sizes.{block_numbers, parts}
 use Rattle.guideline.specs.Block.{K, AcceptedBlock}
+use Rattle.block.specs.Call.{block_call}
 use Rattle.apportion.specs.Shares.{value_of_part, shares}
 use Rattle.apportion.specs.Fair.{Fair}
 use Rattle.shares.specs.Margins.{k_without, margin}
@@ -23,6 +25,10 @@ pub record AcceptsShares (b : List ℕ) : Type 0 where
   pub accepts : length b ≡ block_numbers → AcceptedShares b → shares_call b ≡ accepted (shares (K b) (margin b))
   -- and no others are
   pub accepted_only : (vs : List ℕ) → shares_call b ≡ accepted vs → AcceptedShares b
+  -- what the block call refuses is refused as it refuses it
+  pub kept : (n : ℕ) (p : Place) → block_call b ≡ refused n p → shares_call b ≡ refused n p
+  -- what it accepts is refused by 23 alone, 'with no place'
+  pub refused_by : (n : ℕ) (p : Place) (ws : List ℕ) → block_call b ≡ accepted ws → shares_call b ≡ refused n p → (n ≡ 23) × (p ≡ Nowhere)
   -- no refusal has the number 0
   pub never_0 : (p : Place) → shares_call b ≡ refused 0 p → ⊥
 

@@ -8,14 +8,11 @@ ghost use Rattle.std.specs.Prelude.{◌<◌};
 use refusal::Refusal;
 use report::LONGEST_REPORT;
 use report_line::{REPORT_LINE_BYTES, Row};
-use sheet_length::LONGEST_SHEET;
+use sheet_length::SHEET_ROOM;
 use std::io::Read;
 
 // The bytes of a case's header.
 const HEADER: usize = 12;
-
-// A byte more than the longest sheet.
-const SHEET_ROOM: usize = LONGEST_SHEET + 1;
 
 // Room for the longest report and more.
 const REPORT_ROOM: usize = LONGEST_REPORT + 93;

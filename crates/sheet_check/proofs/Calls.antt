@@ -8,9 +8,10 @@ use lib.ListN.{length, drop}
 use lib.Seq.{take_at}
 use Rattle.refusal.specs.Outcome.Outcome.{refused}
 use Rattle.refusal.specs.declared.Place.{Place}
+use Rattle.refusal.specs.declared.Place.TheVariants.{Nowhere}
 use Rattle.sheet_line.specs.declared.Entry.{Entry}
 use Rattle.judgement.specs.Judgement.{judgement, findings}
-use Rattle.judgement.specs.Judgement.Judgement.{sound}
+use Rattle.judgement.specs.Judgement.Judgement.{turned_away, sound}
 use Rattle.judgement.specs.Judgement.Findings.{figures}
 use Rattle.ledger.specs.declared.Ledger.{Ledger}
 use Rattle.judgement.specs.Steps.{LinesOf}
@@ -23,11 +24,12 @@ use Rattle.needs.specs.Needing.{most_listed, longest_listing, needing, line_at}
 use Rattle.needs.proofs.Numbered.{keyed}
 use Rattle.needs.proofs.Gathered.{same_gathered, listing_gathered, longest}
 use Rattle.needs.proofs.Exactly.{listed_exactly}
-use Rattle.printing.specs.Lent.{Done}
+use Rattle.printing.specs.Lent.{Done, TooLong}
+use Rattle.printing.specs.Printing.{ReadsRefusal, printout}
 use Rattle.judged_text.proofs.Judged as judged
 use Rattle.judged_text.proofs.Judged.{by_answer, of_lines}
 use Rattle.unmet.proofs.Held.{same_unmet}
-use Rattle.sheet_check.specs.Call.{check_call, ListsExactly}
+use Rattle.sheet_check.specs.Call.{listing_to, check_call, ListsExactly}
 use Rattle.sheet_check.specs.Walk.{walked_call}
 
 -- ---- the call's answers
@@ -65,3 +67,13 @@ never_longer s es e = longest es (sound_passed s es e).lines (sound_ascending s 
 -- so with room for the longest listing it never answers 14
 pub never_14 : (s r : List ℕ) → longest_listing ≤ length r → (p : Place) → (check_call s r).outcome ≡ refused 14 p → ⊥
 never_14 s r = judged.never_14 listing s r (never_longer s)
+
+-- '14, last, here means room shorter than the listing': a sheet refused by 14 has a listing, longer than the room, and a room of its length takes it
+pub refused_by_14 : (s r : List ℕ) (p : Place) → (check_call s r).outcome ≡ refused 14 p → (p ≡ Nowhere) × TooLong (check_call s) (listing_to (judgement s)) r
+refused_by_14 s r = judged.refused_by_14 listing s r
+
+-- ---- its REF line
+
+-- the number and the place of a refusal fit their columns: both are read back off the line that is printed
+pub refusal_read : (s : List ℕ) (n : ℕ) (p : Place) → judgement s ≡ turned_away n p → ReadsRefusal n p (printout (listing_to (judgement s)))
+refusal_read s = judged.refusal_read listing s

@@ -26,6 +26,9 @@ pub const MOST_LINES: usize = BLOCKS * (RISK_CLASSES + OTHER_CLASSES)
 // The bytes of that many lines.
 pub const LONGEST_SHEET: usize = SHEET_LINE_BYTES * MOST_LINES;
 
+// The room that a sheet is read into: a byte more than the longest sheet, so that a sheet that is too long is seen to be.
+pub const SHEET_ROOM: usize = LONGEST_SHEET + 1;
+
 // Measures a sheet of any bytes: whole lines, and no more of them than there can be, or the rule that turns it away. One that rule 2 turns away
 // is told its first whole line with a broken layout, if there is one.
 #[tactic(auto, unfolding(crate::specs::Measured::measured, crate::specs::Measured::rule2, crate::specs::Measured::layout_first, search::specs::Pick::pick))]

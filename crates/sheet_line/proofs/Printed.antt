@@ -105,7 +105,8 @@ module _ (s : List ℕ) (h : length s ≡ sheet_line_bytes) where
       let z : get_or s 2 0 ≡ get_or w 2 0 = eqb-true _ _ b.1 in
       ap (columns 1 3) (is_values 0 40 s h) ∙ (λ i. x i ∷ y i ∷ z i ∷ []) ∙ sym (is_values 0 3 w l)
 
-  code_letters : (ks : List Code) {k : Code} → code_among ks s ≡ Some k → columns 1 3 s ≡ letters_of k
+  -- the columns that are read as a code are its letters
+  pub code_letters : (ks : List Code) {k : Code} → code_among ks s ≡ Some k → columns 1 3 s ≡ letters_of k
   unfolding code_among
   code_letters [] = λ q. never (cc)
   code_letters (j ∷ ks) {k} =

@@ -1,11 +1,12 @@
-// Standard input and output, for every program: all of the input, or some bytes of it, read into lent room; the first bytes of a text written; and an
-// input answered, from its first byte read to the last byte written.
+// Standard input and output, for every program: all of the input, or some bytes of it, read into lent room; the first bytes of a text written; an
+// input answered, from its first byte read to the last byte written; and what kept it from its answer told.
 #![tactic(auto)]
 
 ghost use Rattle.std.specs.Prelude.{◌≤◌, length, take, OnOk, IfErr, ◌≡◌};
 ghost use Rattle.std.specs.Io.KnownBytes.{Appends};
 ghost use Rattle.stdio.specs.Answered.{Answered};
 ghost use Rattle.stdio.specs.Read.{ReadInto, TakesAll, TakesSome};
+ghost use Rattle.stdio.specs.Told.{told};
 
 use std::io::{Read, Write};
 
@@ -14,6 +15,18 @@ use std::io::{Read, Write};
 pub enum Failure {
     Unread,
     Unwritten,
+}
+
+impl Failure {
+    // Of a program's two sentences, the one that tells what failed.
+    pub fn told<'a>(self, unread: &'a str, unwritten: &'a str) -> &'a str
+        ensures { result.now ≡ told self unread.now unwritten.now }
+    {
+        match self {
+            Failure::Unread => unread,
+            Failure::Unwritten => unwritten,
+        }
+    }
 }
 
 // Reads the input into lent room, has the call answer what was read, and writes its text. The room wants a byte more than the longest input that

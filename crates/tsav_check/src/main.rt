@@ -9,22 +9,19 @@ ghost use Rattle.sheet_check.specs.Call.{listing_to};
 ghost use Rattle.stdio.specs.Answered.{Prints};
 
 use needs::LONGEST_LISTING;
-use sheet_length::LONGEST_SHEET;
+use sheet_length::SHEET_ROOM;
 use std::io;
 use std::io::{Read, Write};
 use stdio::Failure;
 
-// One byte more than the longest sheet, so that a sheet that is too long is seen to be.
-const SHEET_ROOM: usize = LONGEST_SHEET + 1;
-
 // Has the sheet answered, or says what kept it from its answer.
-// Kept: in each program, as two sentences differ. A shared function would be public and could promise nothing, as `eprintln` has no contract.
+// Kept: in each program, as the two sentences differ; which of them is told is `Failure::told`'s. No contract speaks of the system's streams.
 fn main(rt: HostRuntime) {
     if let Err(failure) = answer(&mut rt.stdin(), &mut io::writer(&rt)) {
-        let _ = rt.eprintln(match failure {
-            Failure::Unread => "tsav-check: the sheet cannot be read",
-            Failure::Unwritten => "tsav-check: the listing cannot be written",
-        });
+        let _ = rt.eprintln(failure.told(
+            "tsav-check: the sheet cannot be read",
+            "tsav-check: the listing cannot be written",
+        ));
     }
 }
 

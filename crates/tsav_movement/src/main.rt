@@ -17,13 +17,13 @@ use stdio::Failure;
 const INPUT_ROOM: usize = INPUT_BYTES + 1;
 
 // Has the input answered, or says what kept it from its answer.
-// Kept: in each program, as two sentences differ. A shared function would be public and could promise nothing, as `eprintln` has no contract.
+// Kept: in each program, as the two sentences differ; which of them is told is `Failure::told`'s. No contract speaks of the system's streams.
 fn main(rt: HostRuntime) {
     if let Err(failure) = answer(&mut rt.stdin(), &mut io::writer(&rt)) {
-        let _ = rt.eprintln(match failure {
-            Failure::Unread => "tsav-movement: the input cannot be read",
-            Failure::Unwritten => "tsav-movement: the movements cannot be written",
-        });
+        let _ = rt.eprintln(failure.told(
+            "tsav-movement: the input cannot be read",
+            "tsav-movement: the movements cannot be written",
+        ));
     }
 }
 

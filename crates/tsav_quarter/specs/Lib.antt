@@ -1,2 +1,3 @@
--- What is known once an input was taken.
+-- What is known once an input was taken, and of the lines that are written.
 pub mod Input
+pub mod Output

@@ -2,11 +2,11 @@
 // write that fails is said on standard error; an input that could not be read to its end gets no line.
 #![tactic(auto)]
 
-ghost use Rattle.quarter_lines.specs.Printout.{quarter_text};
-ghost use Rattle.stdio.specs.Answered.{Prints};
 ghost use Rattle.tsav_quarter.specs.Input.{TakenAll};
+ghost use Rattle.tsav_quarter.specs.Output.{PrintsQuarter};
 
-use quarter::{OUTPUT_ROOM, Quarter, SHEET_ROOM};
+use quarter::{OUTPUT_ROOM, Quarter};
+use sheet_length::SHEET_ROOM;
 use std::io;
 use std::io::{Read, Write};
 use stdio::Failure;
@@ -15,19 +15,19 @@ use stdio::Failure;
 const CHUNK: usize = 4096;
 
 // Has the sheets answered, or says what kept them from their answer.
-// Kept: in each program, as two sentences differ. A shared function would be public and could promise nothing, as `eprintln` has no contract.
+// Kept: in each program, as the two sentences differ; which of them is told is `Failure::told`'s. No contract speaks of the system's streams.
 fn main(rt: HostRuntime) {
     if let Err(failure) = answer(&mut rt.stdin(), &mut io::writer(&rt)) {
-        let _ = rt.eprintln(match failure {
-            Failure::Unread => "tsav-quarter: the sheets cannot be read",
-            Failure::Unwritten => "tsav-quarter: the lines cannot be written",
-        });
+        let _ = rt.eprintln(failure.told(
+            "tsav-quarter: the sheets cannot be read",
+            "tsav-quarter: the lines cannot be written",
+        ));
     }
 }
 
-// Of an input of any bytes and any length, its lines.
+// Of an input of any bytes and any length, its lines, whose summary says what it has to.
 fn answer<R: Read, W: Write>(input: &mut R, output: &mut W) -> Result<(), Failure>
-    ensures { Prints quarter_text (R.remaining input.old) (W.contents output.old) (W.contents output.new) result }
+    ensures { PrintsQuarter (R.remaining input.old) (W.contents output.old) (W.contents output.new) result }
 {
     let mut room = [0u8; SHEET_ROOM];
     let mut out = [0u8; OUTPUT_ROOM];
@@ -50,7 +50,8 @@ fn take_input<R: Read>(
     for _ in 0..u64::MAX {
         let n = stdio::read_some(input, &mut chunk)?;
         q = quarter::take_chunk(room, out, q, &chunk[..n]);
-        if n == 0 || q.held.is_none() {
+        let ended = n == 0;
+        if ended || q.held.is_none() {
             return Ok(q);
         }
     }

@@ -24,7 +24,7 @@ length_for-length-requires c = few _ [] _ _ _ _ _ c.in_ok-t.ensures.findings
 
 pub returns-then-report-length : goal.returns-then-report-length
 returns-then-report-length c =
-    promised _ _ _ (too_short _ _ _ _ _ _ _ c.in_ok-t.ensures.findings c.length_for-length.ensures c.if-report-length.true)
+    promised _ _ _ (too_short _ _ _ _ _ _ _ c.in_ok-t.ensures.findings c.length_for-length.ensures (omega (arith, c.if-report-length.true)))
 
 -- the rows of the blocks that exist are as many as these
 taken : (c : Else-report-length) → length (take c.in_ok-t.t.count c.judge.new.rows) ≡ c.in_ok-t.t.count

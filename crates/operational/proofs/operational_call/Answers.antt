@@ -3,6 +3,7 @@
 use mathlib.Core.Path.{◌≡◌, sym, ap, ◌∙◌}
 use mathlib.Core.List.{[], ◌∷◌}
 use Prim.Native.Nat.{ℕ}
+use native.Mathlib.Omega.{arith}
 use Rattle.search.proofs.Picks.{if_lt, if_ge, if_ne}
 use Rattle.refusal.specs.Outcome.Outcome.{accepted}
 use Rattle.operational.specs.Call.{rule7, operational_call}
@@ -14,7 +15,7 @@ use Rattle.operational.proofs.operational_call.Goals as goal
 after_15 : (c : Else-n-ne0) →
     let a = c.args in
     operational_call a.volumes.now a.general.now ≡ rule7 a.volumes.now a.general.now
-after_15 c = passed_15 _ _ c.if-n-gt-VOLUME_NUMBERS.false c.if-n-ne0.false
+after_15 c = passed_15 _ _ (omega (arith, c.if-n-gt-VOLUME_NUMBERS.false)) (omega (arith, c.if-n-ne0.false))
 
 pub returns-then-n-gt-VOLUME_NUMBERS : goal.returns-then-n-gt-VOLUME_NUMBERS
 unfolding operational_call

@@ -19,7 +19,7 @@ loop-at-init c = at_first c.in-Some.is c.args.chunk.now c.requires
 
 pub returns-then-sheets-eq-MOST_SHEETS : goal.returns-then-sheets-eq-MOST_SHEETS
 returns-then-sheets-eq-MOST_SHEETS c =
-    of_held c.in-Some.is (taken_many c.loop-at.invariant c.if-sheets-eq-MOST_SHEETS.true c.loop-at-test.true)
+    of_held c.in-Some.is (taken_many c.loop-at.invariant (omega (arith, c.if-sheets-eq-MOST_SHEETS.true)) c.loop-at-test.true)
 
 pub feed-requires-clause-within : goal.feed-requires-clause-within
 feed-requires-clause-within c = held_within c.loop-at.invariant

@@ -8,7 +8,7 @@ use Rattle.quarter.specs.declared.Quarter.{Quarter}
 use Rattle.quarter.specs.Steps.{After}
 use Rattle.quarter.proofs.Taking.{taken_over}
 use Rattle.tsav_quarter.specs.Input.{TakenAll}
-use Rattle.tsav_quarter.proofs.take_input.Goals.{then-n-eq0-via-then-n-eq0, then-n-eq0-via-else-n-eq0+then-is_none}
+use Rattle.tsav_quarter.proofs.take_input.Goals.{then-ended-via-then-ended, then-ended-via-else-ended+then-is_none}
 use Rattle.tsav_quarter.proofs.take_input.Goals as goal
 
 -- nothing is held where the test says so
@@ -41,14 +41,14 @@ loop-preserved g c =
       chunk_long = search rules;
     }
 
-pub returns-then-n-eq0 : goal.returns-then-n-eq0
-returns-then-n-eq0 g c =
+pub returns-then-ended : goal.returns-then-ended
+returns-then-ended g c =
     let (s, took, known) = c.loop.invariant.begun in
     let more = Consumes-trans _ _ _ _ _ took c.in_ok-n.ensures.taken.0 in
     let after = c.take_chunk-q.ensures.after s known in
-    elim c.then-n-eq0.branch [
-      | then-n-eq0-via-then-n-eq0 w ↦
+    elim c.then-ended.branch [
+      | then-ended-via-then-ended w ↦
           all_taken _ _ _ _ _ _ more after
-          (c.in_ok-n.ensures.taken.1 w.if-n-eq0.true (omega (arith, c.in_ok-n.ensures.within.1, c.loop.invariant.chunk_long)))
-      | then-n-eq0-via-else-n-eq0+then-is_none w ↦ too_many _ _ _ _ _ _ more after w.if-is_none.ensures
+          (c.in_ok-n.ensures.taken.1 (omega (arith, w.if-ended.true)) (omega (arith, c.in_ok-n.ensures.within.1, c.loop.invariant.chunk_long)))
+      | then-ended-via-else-ended+then-is_none w ↦ too_many _ _ _ _ _ _ more after w.if-is_none.ensures
     ]
