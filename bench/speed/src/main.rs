@@ -1,12 +1,12 @@
-//! The library's calls, through the Rust wrapper, beside those of a good u128 program (peer.rs) with three roots, on figures
-//! that change (figures.rs). Its time and the ratio are those with one binary digit a step, the plain way; the ratios to it
-//! with the same root without jumps, as ours goes, and with Newton's stand beside.
+//! The library's calls, through the Rust wrapper, beside those of the best u128 program of the same steps that we can write
+//! (peer.rs), on figures that change (figures.rs). Its root takes one binary digit a step without a jump, in two ways; each row's
+//! ratio is to the quicker of the two. A root with a jump on each digit and Newton's are there for information.
 //!
 //! A conversion takes no root, so that there are two sides alone.
 //!
-//! A sample is one pass over all the calls of a kind. Samples of the four sides take turns, and so do the kinds and
-//! the side that is first, so that whatever else the machine does falls on all of them; the shortest of each is printed. The
-//! answers are compared first.
+//! A sample is one pass over all the calls of a kind. Samples of the sides take turns, and so do the kinds and the side that is
+//! first, so that whatever else the machine does falls on all of them. The median of each side is printed and what the ratios are
+//! of; beside it stand the shortest and the ninth decile. The answers are compared first.
 //!
 //! All are treated alike: the same sheets, and a lent report of the same length that is cleared before no call, of
 //! any side. What a call itself clears is part of its time.
@@ -15,7 +15,7 @@ mod figures;
 mod peer;
 
 use figures::{lines_with_needs, lines_without_bought, small_lines, Draws, Line, Size};
-use peer::{root_by_digits, root_by_newton, root_without_jumps, Root};
+use peer::{Jumping, Newton, Picking, Shifting};
 use reference::{all_lines, BLOCK_NUMBERS, BLOCK_VALUES};
 use std::hint::black_box;
 use std::time::Instant;
@@ -24,9 +24,10 @@ use tsav::{LONGEST_LISTING, LONGEST_REPORT, LONGEST_SHEET, MOST_BLOCKS};
 /// Samples of each side.
 const SAMPLES: usize = 400;
 
-/// Ours, and the peer with each of its roots.
-const SIDES: usize = 1 + ROOTS.len();
-const ROOTS: [Root; 3] = [root_by_digits, root_without_jumps, root_by_newton];
+/// Ours, and the peer with each of its roots: the two that a ratio is to, and the two for information.
+const SIDES: usize = 5;
+const PEERS: [&str; SIDES - 1] = ["digits picked", "window shifted", "jumps", "Newton's"];
+const BESIDE: usize = 2;
 
 /// How many there are of each kind: blocks, shares calls, fluctuation calls, full sheets, small sheets, and sheets for each line
 /// of the table.
@@ -76,19 +77,48 @@ fn main() {
             kind.sample(round);
         }
     }
+    println!("{}\n", machine());
     for (name, kind) in &named {
-        let [ours, digits, no_jumps, newton] = kind.shortest();
-        let ratios = [digits, no_jumps, newton].map(|peer| format!("{:.3}", ours / peer));
-        print!("{name}: ours {ours:.3} us, u128 {digits:.3} us, ratio {}", ratios[0]);
-        if kind.sides == SIDES {
-            print!("; to a root without jumps {}, to Newton's {}", ratios[1], ratios[2]);
+        let times = kind.times();
+        let ours = times[0].median;
+        print!("{name}: ours {}, {} {}", times[0], kind.peer(0), times[1]);
+        for (peer, time) in times.iter().enumerate().skip(2).take(BESIDE - 1) {
+            print!(", {} {time}", kind.peer(peer - 1));
+        }
+        print!("; ratio to the better {:.3}", ours / kind.better());
+        for (peer, time) in times.iter().enumerate().skip(1 + BESIDE) {
+            print!("; {} {:.3}", kind.peer(peer - 1), ours / time.median);
         }
         println!();
     }
     println!("\nblocks  lines  ours us  u128 us  ratio");
     for (blocks, kind) in TABLE.iter().zip(&table) {
-        let [ours, digits, ..] = kind.shortest();
-        println!("{blocks:>6} {:>6} {ours:>8.2} {digits:>8.2} {:>6.3}", kind.lines, ours / digits);
+        let (ours, better) = (kind.times()[0].median, kind.better());
+        println!("{blocks:>6} {:>6} {ours:>8.2} {better:>8.2} {:>6.3}", kind.lines, ours / better);
+    }
+}
+
+/// What it ran on, as the system names it.
+fn machine() -> String {
+    let told = std::fs::read_to_string("/proc/cpuinfo").unwrap_or_default();
+    let model = told
+        .lines()
+        .find_map(|line| line.strip_prefix("model name")?.split_once(": "))
+        .map_or("unknown", |(_, name)| name);
+    let processors = std::thread::available_parallelism().map_or(0, usize::from);
+    format!("processor: {model}, {processors} of them")
+}
+
+/// The samples of a side, put together: microseconds of one call.
+struct Time {
+    median: f64,
+    shortest: f64,
+    ninth_decile: f64,
+}
+
+impl std::fmt::Display for Time {
+    fn fmt(&self, to: &mut std::fmt::Formatter) -> std::fmt::Result {
+        write!(to, "{:.3} us ({:.3} to {:.3})", self.median, self.shortest, self.ninth_decile)
     }
 }
 
@@ -101,13 +131,13 @@ struct Kind {
     lines: usize,
     /// How many of the sides there are.
     sides: usize,
-    /// The shortest pass of each side, in microseconds.
-    best: [f64; SIDES],
+    /// The passes of each side, in microseconds.
+    samples: [Vec<f64>; SIDES],
 }
 
 impl Kind {
     fn new(calls: usize, lines: usize, pass: impl FnMut(usize) + 'static) -> Kind {
-        Kind { pass: Box::new(pass), calls, lines, sides: SIDES, best: [f64::INFINITY; SIDES] }
+        Kind { pass: Box::new(pass), calls, lines, sides: SIDES, samples: Default::default() }
     }
 
     /// Ours and one other side, without a root.
@@ -121,14 +151,58 @@ impl Kind {
             let side = (round + turn) % self.sides;
             let start = Instant::now();
             (self.pass)(side);
-            self.best[side] = self.best[side].min(start.elapsed().as_secs_f64() * 1e6);
+            self.samples[side].push(start.elapsed().as_secs_f64() * 1e6);
         }
     }
 
-    /// The shortest time of a call of each side.
-    fn shortest(&self) -> [f64; SIDES] {
-        self.best.map(|pass| pass / self.calls as f64)
+    /// The time of a call of each side.
+    fn times(&self) -> Vec<Time> {
+        let of_side = |samples: &Vec<f64>| {
+            let mut passes = samples.clone();
+            passes.sort_by(f64::total_cmp);
+            let at = |part: usize| passes[(passes.len() - 1) * part / 10] / self.calls as f64;
+            Time { median: at(5), shortest: at(0), ninth_decile: at(9) }
+        };
+        self.samples[..self.sides].iter().map(of_side).collect()
     }
+
+    /// The median of the better of the peers that a ratio is to.
+    fn better(&self) -> f64 {
+        self.times()[1..].iter().take(BESIDE).map(|time| time.median).fold(f64::INFINITY, f64::min)
+    }
+
+    /// What a peer is called.
+    fn peer(&self, number: usize) -> &'static str {
+        if self.sides == SIDES {
+            PEERS[number]
+        } else {
+            "u128"
+        }
+    }
+}
+
+/// An expression over a root, which is that of a peer's side.
+macro_rules! with_root {
+    ($side:expr, $root:ident => $pass:expr) => {
+        match $side {
+            1 => {
+                type $root = Picking;
+                $pass
+            }
+            2 => {
+                type $root = Shifting;
+                $pass
+            }
+            3 => {
+                type $root = Jumping;
+                $pass
+            }
+            _ => {
+                type $root = Newton;
+                $pass
+            }
+        }
+    };
 }
 
 fn sheets(draws: &mut Draws, count: usize, lines: &[Line], size: Size) -> Kind {
@@ -136,32 +210,28 @@ fn sheets(draws: &mut Draws, count: usize, lines: &[Line], size: Size) -> Kind {
     let (mut one, mut two) = ([0; LONGEST_REPORT], [0; LONGEST_REPORT]);
     for sheet in &sheets {
         let ours = tsav::sheet(sheet, &mut one).expect("the sheet is accepted");
-        for root in ROOTS {
-            assert_eq!(peer::sheet(sheet, &mut two, root), Ok(ours));
+        for side in 1..SIDES {
+            with_root!(side, R => assert_eq!(peer::sheet::<R>(sheet, &mut two), Ok(ours)));
             assert_eq!(one[..ours], two[..ours], "the same report");
         }
     }
     let mut report = [0; LONGEST_REPORT];
     Kind::new(count, lines.len(), move |side| match side {
         0 => each(&sheets, |sheet| tsav::sheet(sheet, black_box(&mut report)).ok()),
-        1 => each(&sheets, |sheet| peer::sheet(sheet, black_box(&mut report), root_by_digits).ok()),
-        2 => each(&sheets, |sheet| peer::sheet(sheet, black_box(&mut report), root_without_jumps).ok()),
-        _ => each(&sheets, |sheet| peer::sheet(sheet, black_box(&mut report), root_by_newton).ok()),
+        _ => with_root!(side, R => each(&sheets, |sheet| peer::sheet::<R>(sheet, black_box(&mut report)).ok())),
     })
 }
 
 fn blocks(draws: &mut Draws, size: Size) -> Kind {
     let blocks: Vec<[u64; BLOCK_NUMBERS]> = (0..BLOCKS).map(|_| draws.block(size)).collect();
     for numbers in &blocks {
-        for root in ROOTS {
-            assert_eq!(peer::block(numbers, root), Ok(ours(numbers)), "the same figures");
+        for side in 1..SIDES {
+            with_root!(side, R => assert_eq!(peer::block::<R>(numbers), Ok(ours(numbers)), "the same figures"));
         }
     }
     Kind::new(BLOCKS, 0, move |side| match side {
         0 => each(&blocks, |numbers| tsav::block(numbers).ok()),
-        1 => each(&blocks, |numbers| peer::block(numbers, root_by_digits).ok()),
-        2 => each(&blocks, |numbers| peer::block(numbers, root_without_jumps).ok()),
-        _ => each(&blocks, |numbers| peer::block(numbers, root_by_newton).ok()),
+        _ => with_root!(side, R => each(&blocks, |numbers| peer::block::<R>(numbers).ok())),
     })
 }
 
@@ -171,15 +241,13 @@ fn shares(draws: &mut Draws, size: Size) -> Kind {
     let blocks: Vec<[u64; BLOCK_NUMBERS]> = drawn.take(SHARES).collect();
     for numbers in &blocks {
         let ours = tsav::shares(numbers).expect("the block has shares");
-        for root in ROOTS {
-            assert_eq!(peer::shares(numbers, root), Ok(ours), "the same shares");
+        for side in 1..SIDES {
+            with_root!(side, R => assert_eq!(peer::shares::<R>(numbers), Ok(ours), "the same shares"));
         }
     }
     Kind::new(SHARES, 0, move |side| match side {
         0 => each(&blocks, |numbers| tsav::shares(numbers).ok()),
-        1 => each(&blocks, |numbers| peer::shares(numbers, root_by_digits).ok()),
-        2 => each(&blocks, |numbers| peer::shares(numbers, root_without_jumps).ok()),
-        _ => each(&blocks, |numbers| peer::shares(numbers, root_by_newton).ok()),
+        _ => with_root!(side, R => each(&blocks, |numbers| peer::shares::<R>(numbers).ok())),
     })
 }
 
@@ -214,17 +282,15 @@ fn checks(draws: &mut Draws, lines: &[Line]) -> Kind {
     let (mut one, mut two) = ([0; LONGEST_LISTING], [0; LONGEST_LISTING]);
     for sheet in &sheets {
         let ours = tsav::check(sheet, &mut one).expect("the sheet is accepted");
-        for root in ROOTS {
-            assert_eq!(peer::check(sheet, &mut two, root), Ok(ours));
+        for side in 1..SIDES {
+            with_root!(side, R => assert_eq!(peer::check::<R>(sheet, &mut two), Ok(ours)));
             assert_eq!(one[..ours], two[..ours], "the same listing");
         }
     }
     let mut listing = [0; LONGEST_LISTING];
     Kind::new(FULL_SHEETS, lines.len(), move |side| match side {
         0 => each(&sheets, |sheet| tsav::check(sheet, black_box(&mut listing)).ok()),
-        1 => each(&sheets, |sheet| peer::check(sheet, black_box(&mut listing), root_by_digits).ok()),
-        2 => each(&sheets, |sheet| peer::check(sheet, black_box(&mut listing), root_without_jumps).ok()),
-        _ => each(&sheets, |sheet| peer::check(sheet, black_box(&mut listing), root_by_newton).ok()),
+        _ => with_root!(side, R => each(&sheets, |sheet| peer::check::<R>(sheet, black_box(&mut listing)).ok())),
     })
 }
 
@@ -232,16 +298,15 @@ fn fluctuations(draws: &mut Draws, size: Size) -> Kind {
     let calls: Vec<[u64; 3]> = (0..FLUCTUATIONS).map(|_| draws.fluctuation(size)).collect();
     for &[row, requirement, face] in &calls {
         let ours = tsav::fluctuation(row, requirement, face).expect("the call is accepted");
-        for root in ROOTS {
-            assert_eq!(peer::fluctuation(row, requirement, face, root), Ok(ours), "the same result");
+        for side in 1..SIDES {
+            with_root!(side, R => assert_eq!(peer::fluctuation::<R>(row, requirement, face), Ok(ours), "the same result"));
         }
     }
-    let peers = |&[row, requirement, face]: &[u64; 3], root: Root| peer::fluctuation(row, requirement, face, root).ok();
     Kind::new(FLUCTUATIONS, 0, move |side| match side {
         0 => each(&calls, |&[row, requirement, face]| tsav::fluctuation(row, requirement, face).ok()),
-        1 => each(&calls, |call| peers(call, root_by_digits)),
-        2 => each(&calls, |call| peers(call, root_without_jumps)),
-        _ => each(&calls, |call| peers(call, root_by_newton)),
+        _ => {
+            with_root!(side, R => each(&calls, |&[row, requirement, face]| peer::fluctuation::<R>(row, requirement, face).ok()))
+        }
     })
 }
 

@@ -2,9 +2,13 @@
 //! with u128: no allocation, every figure worked out once, and everything tested that the papers have tested. It is here for its
 //! speed; tests/reference, written to be plain, is the independent calculation.
 //!
-//! The root is left to the caller, and there are three: one binary digit a step with a jump on it, as it is mostly written;
-//! the same without a jump and in words, as ours goes, but that ours shifts the radicand through two words and this one picks
-//! its digits; and Newton's. The steps of #107 are those of the radicand's length, whichever root is taken.
+//! An amount is read by words, whose leading zeros tell where its spaces end; a converted line moves its columns and formats
+//! nothing; a number of two words is divided by one machine instruction where the quotient fits a word.
+//!
+//! The root is the caller's, and there are four. Two take one binary digit a step without a jump, as the papers ask: one picks
+//! the digits of the radicand, the other shifts it through two words, as ours does. The other two are there for information:
+//! a jump on each digit, as it is mostly written, and Newton's. The steps of #107 are those of the radicand's length, whichever
+//! root is taken.
 
 use reference::{
     Refusal, ADJUSTABLE_PRODUCTS, BLOCK_NUMBERS, BLOCK_VALUES, FIGURES, GENERAL_CLASSES, GENERAL_NUMBERS,
@@ -13,54 +17,118 @@ use reference::{
     THOUSAND_DOLLARS, VOLUME_CLASSES,
 };
 
-/// The least whole number whose square is at least the radicand.
-pub type Root = fn(u128) -> u64;
+/// The least whole number whose square is at least the radicand, below 2^124.
+pub trait Root {
+    fn of(radicand: u128) -> u64;
+}
 
-/// The root one binary digit a step, the plain way: a jump decides each digit.
-pub fn root_by_digits(radicand: u128) -> u64 {
-    let (mut root, mut rest) = (0_u128, radicand);
-    let mut bit = 1_u128 << ((127 - (radicand | 1).leading_zeros()) & !1);
-    while bit != 0 {
-        let odd = root + bit;
-        root >>= 1;
-        if odd <= rest {
-            rest -= odd;
-            root += bit;
+/// One binary digit a step, without a jump: the digit is a number to reckon with. Two digits of the radicand are brought down in
+/// each step, so that the root and the rest stay within a word. They are picked out of the radicand, which stays as it is.
+pub struct Picking;
+
+impl Root for Picking {
+    #[inline]
+    fn of(radicand: u128) -> u64 {
+        let (mut root, mut rest) = (0_u64, 0_u64);
+        for at in (0..(129 - radicand.leading_zeros()) / 2).rev() {
+            let word = if at < 32 { radicand as u64 } else { (radicand >> 64) as u64 };
+            (root, rest) = step(root, rest, (word >> (2 * at % 64)) % 4);
         }
-        bit >>= 2;
+        root + u64::from(rest != 0)
     }
-    root as u64 + u64::from(rest != 0)
 }
 
-/// The root one binary digit a step, without a jump: the digit is a number to reckon with. Two digits of the radicand are
-/// brought down in each step, so that the root and the rest stay within a word where the radicand is below 2^124.
-pub fn root_without_jumps(radicand: u128) -> u64 {
-    let (mut root, mut rest) = (0_u64, 0_u64);
-    for at in (0..(129 - radicand.leading_zeros()) / 2).rev() {
-        let word = if at < 32 { radicand as u64 } else { (radicand >> 64) as u64 };
-        let next = 4 * rest + (word >> (2 * at % 64)) % 4;
-        let odd = 4 * root + 1;
-        let digit = u64::from(odd <= next);
-        root = 2 * root + digit;
-        rest = next - digit * odd;
+/// The same, but that the radicand moves up through two words, and the two digits at its top are brought down.
+pub struct Shifting;
+
+impl Root for Shifting {
+    #[inline]
+    fn of(radicand: u128) -> u64 {
+        let steps = (129 - radicand.leading_zeros()) / 2;
+        if steps == 0 {
+            return 0;
+        }
+        // The top is two digits below the word's, so that a shift is two of a word each and none of two words.
+        let window = radicand << (126 - 2 * steps);
+        let (mut high, mut low) = ((window >> 64) as u64, window as u64);
+        let (mut root, mut rest) = (0, 0);
+        for _ in 0..steps {
+            (root, rest) = step(root, rest, high >> 60);
+            high = ((high % (1 << 60)) << 2) + (low >> 62);
+            low <<= 2;
+        }
+        root + u64::from(rest != 0)
     }
-    root + u64::from(rest != 0)
 }
 
-/// The root by Newton's way: from the machine's square root of the rounded number, one step and a correction.
-pub fn root_by_newton(radicand: u128) -> u64 {
-    if radicand == 0 {
-        return 0;
+/// The next digit of a root, and what its square leaves.
+#[inline(always)]
+fn step(root: u64, rest: u64, digits: u64) -> (u64, u64) {
+    let next = 4 * rest + digits;
+    let odd = 4 * root + 1;
+    let digit = u64::from(odd <= next);
+    (2 * root + digit, next - digit * odd)
+}
+
+/// One binary digit a step, the plain way: a jump decides each digit.
+pub struct Jumping;
+
+impl Root for Jumping {
+    #[inline]
+    fn of(radicand: u128) -> u64 {
+        let (mut root, mut rest) = (0_u128, radicand);
+        let mut bit = 1_u128 << ((127 - (radicand | 1).leading_zeros()) & !1);
+        while bit != 0 {
+            let odd = root + bit;
+            root >>= 1;
+            if odd <= rest {
+                rest -= odd;
+                root += bit;
+            }
+            bit >>= 2;
+        }
+        root as u64 + u64::from(rest != 0)
     }
-    let guess = (radicand as f64).sqrt() as u128;
-    let mut root = (guess + radicand / guess) / 2;
-    while root * root > radicand {
-        root -= 1;
+}
+
+/// By Newton's way: from the machine's square root of the rounded number, one step and a correction.
+pub struct Newton;
+
+impl Root for Newton {
+    #[inline]
+    fn of(radicand: u128) -> u64 {
+        if radicand == 0 {
+            return 0;
+        }
+        let guess = (radicand as f64).sqrt() as u128;
+        let mut root = (guess + radicand / guess) / 2;
+        while root * root > radicand {
+            root -= 1;
+        }
+        while root * root < radicand {
+            root += 1;
+        }
+        root as u64
     }
-    while root * root < radicand {
-        root += 1;
+}
+
+/// Quotient and rest of a number of two words by a word that is above the upper one, so that the quotient fits a word.
+#[inline(always)]
+fn divide(number: u128, by: u64) -> (u64, u64) {
+    let (upper, lower) = ((number >> 64) as u64, number as u64);
+    debug_assert!(upper < by, "the quotient fits a word");
+    let (quotient, rest);
+    // SAFETY: the instruction reads and writes these three registers alone, and the quotient fits.
+    unsafe {
+        std::arch::asm!(
+            "div {by}",
+            by = in(reg) by,
+            inlateout("rax") lower => quotient,
+            inlateout("rdx") upper => rest,
+            options(pure, nomem, nostack),
+        );
     }
-    root as u64
+    (quotient, rest)
 }
 
 /// The correlation factors, in quarters, above the diagonal twice: they are symmetric.
@@ -75,9 +143,9 @@ const FACTORS: [[i128; RISKS]; RISKS] = [
 ];
 
 /// The block call: the figures, and the steps of the two roots.
-pub fn block(b: &[u64; BLOCK_NUMBERS], root: Root) -> Result<[u64; BLOCK_VALUES], Refusal> {
+pub fn block<R: Root>(b: &[u64; BLOCK_NUMBERS]) -> Result<[u64; BLOCK_VALUES], Refusal> {
     test_block(b)?;
-    let ([i, d, u, lt, k], radicands) = figures(b, root);
+    let ([i, d, u, lt, k], radicands) = figures::<R>(b);
     let [steps_i, steps_d] = radicands.map(|radicand| u64::from(129 - radicand.leading_zeros()) / 2);
     Ok([i, d, u, lt, k, steps_i, steps_d])
 }
@@ -97,9 +165,9 @@ fn test_block(b: &[u64; BLOCK_NUMBERS]) -> Result<(), Refusal> {
 }
 
 /// The shares call: eleven blocks, the whole one and each without a part.
-pub fn shares(b: &[u64; BLOCK_NUMBERS], root: Root) -> Result<[u64; PARTS], Refusal> {
+pub fn shares<R: Root>(b: &[u64; BLOCK_NUMBERS]) -> Result<[u64; PARTS], Refusal> {
     test_block(b)?;
-    let k_of = |b: &[u64; BLOCK_NUMBERS]| figures(b, root).0[4];
+    let k_of = |b: &[u64; BLOCK_NUMBERS]| figures::<R>(b).0[4];
     let k = k_of(b);
     let mut margins = [0; PARTS];
     for (part, margin) in margins.iter_mut().enumerate() {
@@ -118,7 +186,7 @@ pub fn shares(b: &[u64; BLOCK_NUMBERS], root: Root) -> Result<[u64; PARTS], Refu
     let (mut shares, mut remainders, mut left_over) = ([0; PARTS], [0; PARTS], k);
     for part in 0..PARTS {
         let product = u128::from(k) * u128::from(margins[part]);
-        (shares[part], remainders[part]) = ((product / u128::from(sum)) as u64, (product % u128::from(sum)) as u64);
+        (shares[part], remainders[part]) = divide(product, sum);
         left_over -= shares[part];
     }
     // A part gets a cent where fewer come before it than there are cents.
@@ -132,7 +200,7 @@ pub fn shares(b: &[u64; BLOCK_NUMBERS], root: Root) -> Result<[u64; PARTS], Refu
 }
 
 /// I, D, U, LT and K of a block that rules 7, 8 and 9 let pass, and the radicands of I and D.
-fn figures(b: &[u64; BLOCK_NUMBERS], root: Root) -> ([u64; FIGURES], [u128; 2]) {
+fn figures<R: Root>(b: &[u64; BLOCK_NUMBERS]) -> ([u64; FIGURES], [u128; 2]) {
     let [pc, credit, market] = [b[14], b[15], b[16]];
     let (mut u, mut lt, mut largest) = (pc + credit + market, 0, 0);
     let mut y = [0; RISKS];
@@ -150,34 +218,35 @@ fn figures(b: &[u64; BLOCK_NUMBERS], root: Root) -> ([u64; FIGURES], [u128; 2]) 
     }
     // 10,000 × Q, of the sum in quarters: I and D are in hundredths of the half cent.
     let radicand_of_i = 2_500 * sum as u128;
-    let i = root(radicand_of_i).max(100 * largest) + 200 * pc;
+    let i = R::of(radicand_of_i).max(100 * largest) + 200 * pc;
     let (a, wide_i) = (u128::from(200 * (credit + market)), u128::from(i));
     let radicand_of_d = a * a + a * wide_i + wide_i * wide_i;
-    let d = root(radicand_of_d);
-    let k = requirement(u.into(), lt.into(), d.into());
+    let d = R::of(radicand_of_d);
+    let k = requirement(u, lt, d);
     ([i.div_ceil(100), d.div_ceil(100), u, lt, k], [radicand_of_i, radicand_of_d])
 }
 
 /// K, at D in hundredths of the half cent.
-fn requirement(u: u128, lt: u128, d: u128) -> u64 {
+fn requirement(u: u64, lt: u64, d: u64) -> u64 {
     if u == 0 {
         return 0;
     }
-    // V in hundredths too, so that what is over 60 × V has ten-thousandths.
+    // With D and V in hundredths, M is 7V² − 31DV + 30D² = (3D − V) × (10D − 7V), where 3D is at least V. Over 60 × V and in tenths
+    // it is that over 6,000 × V, a word, and what is rounded up to tenths first is rounded no further.
     let v = 2 * u - lt;
-    let fine_v = 100 * v;
-    let m = (7 * fine_v * fine_v + 30 * d * d).saturating_sub(31 * d * fine_v);
-    (10_000 * (48 * u + 6 * lt) * v + m).div_ceil(600_000 * v) as u64
+    let m = u128::from(3 * d - 100 * v) * u128::from(d.saturating_sub(70 * v));
+    let (tenths, rest) = divide(m, 6_000 * v);
+    (8 * u + lt + tenths + u64::from(rest != 0)).div_ceil(10)
 }
 
 /// The credit of survival and death business: S + T less the root of S² + T² − 1.5 × S × T.
-fn credit([s, t]: [u64; 2], root: Root) -> u64 {
+fn credit<R: Root>([s, t]: [u64; 2]) -> u64 {
     let (difference, product) = (u128::from(s.abs_diff(t)), u128::from(s) * u128::from(t));
-    s + t - root(difference * difference + product.div_ceil(2))
+    s + t - R::of(difference * difference + product.div_ceil(2))
 }
 
 /// The fluctuation call.
-pub fn fluctuation(row: u64, requirement: u64, face: u64, root: Root) -> Result<u64, Refusal> {
+pub fn fluctuation<R: Root>(row: u64, requirement: u64, face: u64) -> Result<u64, Refusal> {
     // The first number in twentieths, the second, and the threshold and the base in cents.
     let (first, second, threshold, base) = match row {
         1 => (18, 648, 4_200_000_000, requirement),
@@ -197,13 +266,14 @@ pub fn fluctuation(row: u64, requirement: u64, face: u64, root: Root) -> Result<
     }
     let radicand = if row == 7 {
         // 40,000 × (B × second)² over the base, rounded up; it is divided before it is multiplied, so that 128 bits hold it.
-        let (product, wide_base) = (u128::from(requirement * second), u128::from(base));
-        let (quotient, rest) = (product * product / wide_base, (product * product % wide_base) as u64);
-        40_000 * quotient + u128::from((40_000 * rest).div_ceil(base))
+        let square = u128::from(requirement * second) * u128::from(requirement * second);
+        let (upper, lower) = ((square >> 64) as u64, square as u64);
+        let (quotient, rest) = divide((u128::from(upper % base) << 64) + u128::from(lower), base);
+        40_000 * ((u128::from(upper / base) << 64) + u128::from(quotient)) + u128::from((40_000 * rest).div_ceil(base))
     } else {
         40_000 * u128::from(second * second) * u128::from(requirement)
     };
-    Ok((first * requirement + root(radicand)).div_ceil(20))
+    Ok((first * requirement + R::of(radicand)).div_ceil(20))
 }
 
 /// The factors of the volume classes and of the general figures, in ten-thousandths.
@@ -263,7 +333,7 @@ fn measure(bytes: &[u8]) -> Result<(), Refusal> {
 pub fn convert(bytes: &[u8], converted: &mut [u8]) -> Result<usize, Refusal> {
     measure(bytes)?;
     let small = bytes.get(..3).is_some_and(|code| code.iter().all(u8::is_ascii_lowercase));
-    let (mut room, mut before) = ([b' '; LONGEST_SHEET], Before { seen: [0; MOST_BLOCKS + 1], last: 0 });
+    let (mut room, mut before) = ([0; LONGEST_SHEET], Before { seen: [0; MOST_BLOCKS + 1], last: 0 });
     for (at, (line, out)) in bytes.chunks_exact(LINE_BYTES).zip(room.chunks_exact_mut(LINE_BYTES)).enumerate() {
         if let Err(number) = convert_line(line.try_into().unwrap(), out, small, &mut before) {
             return Err(Refusal::at_line(number, at + 1));
@@ -276,46 +346,63 @@ pub fn convert(bytes: &[u8], converted: &mut [u8]) -> Result<usize, Refusal> {
     Ok(bytes.len())
 }
 
-/// One line, into a stretch of spaces.
+/// One line, into a stretch of its length.
 fn convert_line(line: &[u8; LINE_BYTES], out: &mut [u8], small: bool, before: &mut Before) -> Result<(), u8> {
     let numbers = fields(line).ok_or(3)?;
     let code = [line[0], line[1], line[2]];
     let exchanged = code.map(|letter| letter ^ 0x20);
     before.admit(if small { &exchanged } else { &code }, numbers)?;
-    let [block, class, first, second] = numbers;
-    let scaled = |amount: u64| {
-        if line[0] | 0x20 == b'g' && class == 4 {
-            Ok(amount)
-        } else if small {
-            (amount <= LARGEST_AMOUNT / THOUSAND_DOLLARS).then(|| amount * THOUSAND_DOLLARS).ok_or(21)
-        } else {
-            (amount % THOUSAND_DOLLARS == 0).then(|| amount / THOUSAND_DOLLARS).ok_or(20)
-        }
-    };
-    let (first, second) = (scaled(first)?, scaled(second)?);
+    let [_, class, first, second] = numbers;
+    out.copy_from_slice(line);
     out[..3].copy_from_slice(&exchanged);
-    write_number(&mut out[4..6], block);
-    write_number(&mut out[7..9], class);
-    write_number(&mut out[10..24], first);
-    write_number(&mut out[25..39], second);
-    out[39] = b'\n';
+    if line[0] | 0x20 == b'g' && class == 4 {
+        return Ok(());
+    }
+    for (from, amount) in [(10, first), (25, second)] {
+        if small && amount > LARGEST_AMOUNT / THOUSAND_DOLLARS {
+            return Err(21);
+        }
+        if !small && amount % THOUSAND_DOLLARS != 0 {
+            return Err(20);
+        }
+        if amount != 0 {
+            let (from, to) = (&line[from..from + AMOUNT], &mut out[from..from + AMOUNT]);
+            move_columns(from.try_into().unwrap(), to.try_into().unwrap(), small);
+        }
+    }
     Ok(())
 }
 
+/// The columns of an amount, and the columns of its five zeros that a thousand dollars have in cents.
+const AMOUNT: usize = 14;
+const ZEROS: usize = 5;
+
+/// An amount of thousands of dollars in cents, or one in cents in thousands: its columns with five zeros more or less.
+#[inline(always)]
+fn move_columns(from: &[u8; AMOUNT], to: &mut [u8; AMOUNT], small: bool) {
+    if small {
+        to[..AMOUNT - ZEROS].copy_from_slice(&from[ZEROS..]);
+        to[AMOUNT - ZEROS..].fill(b'0');
+    } else {
+        to[ZEROS..].copy_from_slice(&from[..AMOUNT - ZEROS]);
+        to[..ZEROS].fill(b' ');
+    }
+}
+
 /// The sheet call.
-pub fn sheet(bytes: &[u8], report: &mut [u8], root: Root) -> Result<usize, Refusal> {
+pub fn sheet<R: Root>(bytes: &[u8], report: &mut [u8]) -> Result<usize, Refusal> {
     let mut sheet = EMPTY;
     sheet.read(bytes)?;
-    sheet.report(report, root)
+    sheet.report::<R>(report)
 }
 
 /// The check call. The lines are listed before the credits are taken off, into a room of its own.
-pub fn check(bytes: &[u8], listing: &mut [u8], root: Root) -> Result<usize, Refusal> {
+pub fn check<R: Root>(bytes: &[u8], listing: &mut [u8]) -> Result<usize, Refusal> {
     let mut sheet = EMPTY;
     sheet.read(bytes)?;
     let (mut room, mut rows) = ([b' '; LONGEST_LISTING], NO_ROWS);
     let length = sheet.list(bytes, &mut room);
-    sheet.judge(&mut rows, root)?;
+    sheet.judge::<R>(&mut rows)?;
     if listing.len() < length {
         return Err(Refusal::nowhere(14));
     }
@@ -429,10 +516,10 @@ impl Sheet {
     }
 
     /// Rule 16: IR(1) and LT(1) of each block that has S and T become those after the credit.
-    fn take_credits(&mut self, root: Root) -> Result<(), Refusal> {
+    fn take_credits<R: Root>(&mut self) -> Result<(), Refusal> {
         for ((numbers, &sums), seen) in self.blocks.iter_mut().zip(&self.sums).zip(self.before.seen) {
             if seen & (1 << SUMS_FROM) != 0 {
-                let credit = credit(sums, root);
+                let credit = credit::<R>(sums);
                 if numbers[1] < credit {
                     return Err(Refusal::nowhere(16));
                 }
@@ -478,9 +565,9 @@ impl Sheet {
     }
 
     /// Rule 14, and the report.
-    fn report(&mut self, report: &mut [u8], root: Root) -> Result<usize, Refusal> {
+    fn report<R: Root>(&mut self, report: &mut [u8]) -> Result<usize, Refusal> {
         let mut rows = NO_ROWS;
-        let (blocks, totals) = self.judge(&mut rows, root)?;
+        let (blocks, totals) = self.judge::<R>(&mut rows)?;
         let length = REPORT_LINE_BYTES * (FIGURES * blocks + 3);
         if report.len() < length {
             return Err(Refusal::nowhere(14));
@@ -494,16 +581,16 @@ impl Sheet {
     }
 
     /// Rules 12, 16, 17 and 13: how many blocks exist, their rows, and the totals.
-    fn judge(&mut self, rows: &mut Rows, root: Root) -> Result<(usize, [u64; 3]), Refusal> {
+    fn judge<R: Root>(&mut self, rows: &mut Rows) -> Result<(usize, [u64; 3]), Refusal> {
         let [_, guarantee, _, scalar, credits] = self.general;
         if scalar == 0 {
             return Err(Refusal::nowhere(12));
         }
-        self.take_credits(root)?;
+        self.take_credits::<R>()?;
         let (mut blocks, mut sum, mut dividends) = (0, 0, 0);
         for (number, (numbers, seen)) in self.blocks.iter().zip(self.before.seen).enumerate() {
             if seen & EXISTS != 0 {
-                rows[blocks] = (number as u64 + 1, figures(numbers, root).0);
+                rows[blocks] = (number as u64 + 1, figures::<R>(numbers).0);
                 let k = rows[blocks].1[4];
                 if k < self.dividends[number] {
                     return Err(Refusal::nowhere(17));
@@ -541,28 +628,52 @@ fn fields(line: &[u8; LINE_BYTES]) -> Option<[u64; 4]> {
     if line[3] != b' ' || line[6] != b' ' || line[9] != b' ' || line[24] != b' ' || line[39] != b'\n' {
         return None;
     }
-    Some([number(&line[4..6])?, number(&line[7..9])?, number(&line[10..24])?, number(&line[25..39])?])
+    let (first, second) = (line[10..24].try_into().unwrap(), line[25..39].try_into().unwrap());
+    Some([pair(line[4], line[5])?, pair(line[7], line[8])?, amount(first)?, amount(second)?])
 }
 
-/// A number: decimal, right-justified, spaces before, at least one digit, no leading zero except 0 itself.
-fn number(field: &[u8]) -> Option<u64> {
-    let mut at = 0;
-    while at < field.len() && field[at] == b' ' {
-        at += 1;
+/// A number of two columns: right-justified, no leading zero except 0 itself.
+#[inline(always)]
+fn pair(tens: u8, ones: u8) -> Option<u64> {
+    let (x, y) = (tens.wrapping_sub(b'0'), ones.wrapping_sub(b'0'));
+    match (x, y) {
+        (_, 0..=9) if tens == b' ' => Some(y.into()),
+        (1..=9, 0..=9) => Some((10 * x + y).into()),
+        _ => None,
     }
-    let digits = &field[at..];
-    if digits.is_empty() || (digits.len() > 1 && digits[0] == b'0') {
+}
+
+/// A number of an amount's columns: decimal, right-justified, spaces before, at least one digit, no leading zero except 0 itself.
+/// All columns are tested at once, as words: of a space 0 is left, and of a digit its number.
+#[inline(always)]
+fn amount(field: &[u8; AMOUNT]) -> Option<u64> {
+    const SPACES: u128 = 0x2020_2020_2020_2020_2020_2020_2020;
+    const DIGITS: u128 = 0x1010_1010_1010_1010_1010_1010_1010;
+    const TOPS: u64 = 0x8080_8080_8080_8080;
+    // What takes a byte above 9 to its top bit.
+    const TO_TOP: u64 = 0x7676_7676_7676_7676;
+    let upper = u64::from_be_bytes(field[..8].try_into().unwrap());
+    let lower = u64::from_be_bytes(field[6..].try_into().unwrap()) & 0xffff_ffff_ffff;
+    let marked = ((u128::from(upper) << 48) + u128::from(lower)) ^ SPACES;
+    if marked == 0 {
         return None;
     }
-    let mut value = 0;
-    for &byte in digits {
-        let digit = byte.wrapping_sub(b'0');
-        if digit > 9 {
-            return None;
-        }
-        value = 10 * value + u64::from(digit);
+    let spaces = (marked.leading_zeros() - 16) & !7;
+    let values = marked ^ (DIGITS >> spaces);
+    if spaces < 104 && values >> (104 - spaces) == 0 {
+        return None;
     }
-    Some(value)
+    let (eight_values, six) = ((values >> 48) as u64, values as u64 & 0xffff_ffff_ffff);
+    let outside = eight_values | eight_values.wrapping_add(TO_TOP) | six | six.wrapping_add(TO_TOP);
+    (outside & TOPS == 0).then(|| joined(eight_values) * 1_000_000 + joined(six))
+}
+
+/// The number of eight digits, a byte each, the first in the top byte.
+#[inline(always)]
+fn joined(digits: u64) -> u64 {
+    let pairs = (digits & 0x00ff_00ff_00ff_00ff) + ((digits >> 8) & 0x00ff_00ff_00ff_00ff) * 10;
+    let fours = (pairs & 0x0000_ffff_0000_ffff) + ((pairs >> 16) & 0x0000_ffff_0000_ffff) * 100;
+    (fours & 0xffff_ffff) + (fours >> 32) * 10_000
 }
 
 /// A line for each figure, the items counted from 1.
@@ -577,14 +688,30 @@ fn write_items(lines: &mut [u8], code: &[u8; 3], block: u64, figures: &[u64]) {
     }
 }
 
-/// A number at the end of a field of spaces.
+/// Two digits of each number below 100.
+const PAIRS: [[u8; 2]; 100] = {
+    let mut pairs = [[0; 2]; 100];
+    let mut n = 0;
+    while n < 100 {
+        pairs[n] = [b'0' + (n / 10) as u8, b'0' + (n % 10) as u8];
+        n += 1;
+    }
+    pairs
+};
+
+/// A number at the end of a field of spaces, two digits at a time.
+#[inline(always)]
 fn write_number(field: &mut [u8], mut number: u64) {
-    for byte in field.iter_mut().rev() {
-        *byte = b'0' + (number % 10) as u8;
-        number /= 10;
-        if number == 0 {
-            break;
-        }
+    let mut at = field.len();
+    while number >= 100 {
+        field[at - 2..at].copy_from_slice(&PAIRS[(number % 100) as usize]);
+        number /= 100;
+        at -= 2;
+    }
+    if number >= 10 {
+        field[at - 2..at].copy_from_slice(&PAIRS[number as usize]);
+    } else {
+        field[at - 1] = b'0' + number as u8;
     }
 }
 
@@ -599,28 +726,63 @@ mod tests {
     #[test]
     fn it_answers_as_the_reference_does() {
         for index in 0..CASES {
-            let (lines, room) = generate::case(1, index);
-            let numbers = generate::block_numbers(1, index);
-            let [row, requirement, face] = generate::fluctuation_numbers(1, index);
-            let result = reference::fluctuation_call(row, requirement, face);
-            let parts = generate::shares_numbers(1, index);
-            let divided = reference::shares_call(&parts);
+            let case = Case::of(index);
+            answers::<Picking>(&case);
+            answers::<Shifting>(&case);
+            answers::<Jumping>(&case);
+            answers::<Newton>(&case);
             let (given, lent) = generate::convert_case(1, index);
             let (mut one, mut two) = (vec![0; lent], vec![0; lent]);
             assert_eq!(convert(&given, &mut one), reference::convert_call(&given, &mut two), "conversion {index}");
-            assert_eq!(one, two, "converted sheet {index}");
+            assert!(one == two, "converted sheet {index}");
+        }
+    }
+
+    /// What is given to the calls that take a root, and what they answer.
+    struct Case {
+        index: u64,
+        sheet: (Vec<u8>, Result<usize, Refusal>, Vec<u8>),
+        block: ([u64; BLOCK_NUMBERS], Result<[u64; BLOCK_VALUES], Refusal>),
+        fluctuation: ([u64; 3], Result<u64, Refusal>),
+        shares: ([u64; BLOCK_NUMBERS], Result<[u64; PARTS], Refusal>),
+        check: (Vec<u8>, Result<usize, Refusal>, Vec<u8>),
+    }
+
+    impl Case {
+        fn of(index: u64) -> Case {
+            let (lines, room) = generate::case(1, index);
+            let mut report = vec![0; room];
+            let given = reference::sheet_call(&lines, &mut report);
+            let numbers = generate::block_numbers(1, index);
+            let [row, requirement, face] = generate::fluctuation_numbers(1, index);
+            let parts = generate::shares_numbers(1, index);
             let (checked, lent) = generate::check_case(1, index);
-            for root in [root_by_digits, root_without_jumps, root_by_newton] {
-                let (mut one, mut two) = (vec![0; room], vec![0; room]);
-                assert_eq!(sheet(&lines, &mut one, root), reference::sheet_call(&lines, &mut two), "sheet {index}");
-                assert_eq!(one, two, "report {index}");
-                assert_eq!(block(&numbers, root), reference::block_call(&numbers), "block {index}");
-                assert_eq!(fluctuation(row, requirement, face, root), result, "fluctuation {index}");
-                assert_eq!(shares(&parts, root), divided, "shares {index}");
-                let (mut one, mut two) = (vec![0; lent], vec![0; lent]);
-                assert_eq!(check(&checked, &mut one, root), reference::check_call(&checked, &mut two), "check {index}");
-                assert_eq!(one, two, "listing {index}");
+            let mut listing = vec![0; lent];
+            let listed = reference::check_call(&checked, &mut listing);
+            Case {
+                index,
+                sheet: (lines, given, report),
+                block: (numbers, reference::block_call(&numbers)),
+                fluctuation: ([row, requirement, face], reference::fluctuation_call(row, requirement, face)),
+                shares: (parts, reference::shares_call(&parts)),
+                check: (checked, listed, listing),
             }
         }
+    }
+
+    fn answers<R: Root>(case: &Case) {
+        let index = case.index;
+        let (lines, given, wanted) = &case.sheet;
+        let mut report = vec![0; wanted.len()];
+        assert_eq!(sheet::<R>(lines, &mut report), *given, "sheet {index}");
+        assert!(report == *wanted, "report {index}");
+        assert_eq!(block::<R>(&case.block.0), case.block.1, "block {index}");
+        let [row, requirement, face] = case.fluctuation.0;
+        assert_eq!(fluctuation::<R>(row, requirement, face), case.fluctuation.1, "fluctuation {index}");
+        assert_eq!(shares::<R>(&case.shares.0), case.shares.1, "shares {index}");
+        let (checked, listed, wanted) = &case.check;
+        let mut listing = vec![0; wanted.len()];
+        assert_eq!(check::<R>(checked, &mut listing), *listed, "check {index}");
+        assert!(listing == *wanted, "listing {index}");
     }
 }
