@@ -145,10 +145,11 @@ impl Kind {
         Kind { sides: 2, ..Kind::new(calls, lines, pass) }
     }
 
-    /// A pass of each side, another one first in each round.
+    /// A pass of each side, another one first in each round, and now one way round, now the other.
     fn sample(&mut self, round: usize) {
         for turn in 0..self.sides {
-            let side = (round + turn) % self.sides;
+            let forwards = round / self.sides % 2 == 0;
+            let side = (round + if forwards { turn } else { self.sides - turn }) % self.sides;
             let start = Instant::now();
             (self.pass)(side);
             self.samples[side].push(start.elapsed().as_secs_f64() * 1e6);

@@ -538,8 +538,9 @@ impl Sheet {
             if !matches!(line[0], b'M' | b'V' | b'A' | b'C') {
                 continue;
             }
-            let Some([block, class, first, second]) = fields(line.try_into().unwrap()) else { continue };
-            if first == 0 && second == 0 {
+            let (Some(block), Some(class)) = (pair(line[4], line[5]), pair(line[7], line[8])) else { continue };
+            // The lines keep the layout, so that an amount is 0 where its last columns are a space and a 0.
+            if line[22..24] == *b" 0" && line[37..39] == *b" 0" {
                 continue;
             }
             let (at, volume) = (block.wrapping_sub(1) as usize, class as usize - 1);

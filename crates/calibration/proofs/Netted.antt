@@ -283,7 +283,7 @@ module _ (j k : ℕ) (j_within : j < volume_pairs) (k_within : k < volume_pairs)
         rounded_less _ _ (10 * factor_of j) (omega (arith, factor_most j)) (omega (arith, volume_is 0, grown_is 0))
         (omega (arith, volume_is 0, grown_is 0, factor_some j)) (omega (arith, volume_is 50000, grown_is 50000, factor_some j, factor_some k))
 
--- where two pairs have one group, a program that nets within groups nets them against each other
+-- where two pairs have one group, numbered below 256, a program that nets within groups nets them against each other
 pub netted_met :
     (group : ℕ → ℕ) (j k : ℕ) → j < volume_pairs → k < volume_pairs → ¬ j ≡ k → group j ≡ group k → group j < volume_numbers →
     GrowthNetted (λ l g. put_in_place (operational_call l g) (netted_in group l g))

@@ -1,4 +1,5 @@
--- No program that has one of these miscalibrations meets the call's contract. Each is refuted at an input that the call accepts, where the
+-- No program that halves LT in whole cents, adds PC to a risk's y, leaves it out at the floor, rounds each class up or takes 120 % in whole cents meets
+-- the call's contract (roots: Nearest; netting: Netted). Each is refuted at an input that the call accepts, where the
 -- computed figures differ, or at two: V with LT's half too low at one and with it too high at another; and of 120 % in whole cents, where three cents
 -- of prior volume are 3.6, three classes show a rounding down to 3 and one class shows a rounding up to 4.
 -- Assumes nothing.

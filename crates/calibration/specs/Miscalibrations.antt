@@ -1,4 +1,5 @@
--- Document 01, 'Miscalibrations to exclude'. Each is the figure that a program with it would give, and what is then true of its call: where
+-- Document 01, 'Miscalibrations to exclude', and two more of chapter 8: each class rounded up, 120 % in whole cents. All are of the block call and the
+-- operational call. Each is the figure that a program with it would give, and what is then true of its call: where
 -- the call accepts, its figure is that one. Netting is what is true of two of its figures. Nothing is asked of what the call refuses, nor of
 -- lists of a length that no caller can hand it.
 -- Assumes nothing.
@@ -167,7 +168,8 @@ pub record GrowthNetted (call : List ℕ → List ℕ → Outcome) : Type 0 wher
   pub after : call m g ≡ accepted ws
   pub less : get_or ws 0 0 < get_or vs 0 0
 
--- RO with growth netted within groups: group c, from 0 on, has the pairs that `group` gives it
+-- RO with growth netted within groups: group c, from 0 to 255, has the pairs that `group` gives it; of a pair that it gives a higher one no growth
+-- is charged
 unfoldable pub netted_in : (ℕ → ℕ) → List ℕ → List ℕ → ℕ
 netted_in group l g =
     let n = length l / 2 in

@@ -23,7 +23,7 @@ pub record AcceptedShares (b : List ℕ) : Type 0 where
 pub record AcceptsShares (b : List ℕ) : Type 0 where
   -- 17 numbers that the rules leave are accepted, with their shares
   pub accepts : length b ≡ block_numbers → AcceptedShares b → shares_call b ≡ accepted (shares (K b) (margin b))
-  -- and no others are
+  -- and of 17 numbers no others are
   pub accepted_only : (vs : List ℕ) → shares_call b ≡ accepted vs → AcceptedShares b
   -- what the block call refuses is refused as it refuses it
   pub kept : (n : ℕ) (p : Place) → block_call b ≡ refused n p → shares_call b ≡ refused n p

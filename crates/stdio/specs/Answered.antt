@@ -28,7 +28,7 @@ module _ {F : Type 0} (g : Once F (Bor (List ℕ) × Unit {0}) (Bor (List ℕ)))
   Answered (Err Unwritten) = (s : List ℕ) × Whole room left rest s
 
 -- What a program promises that prints the text of its input, by what it tells: of an input whose bytes are known, however many, the output grew by its
--- text; of any other, by the text of some bytes. Where a read failed, nothing was written.
+-- text; of any other, by the text of some bytes. Where a read failed, nothing was written. Both say nothing of an output whose bytes aren't known.
 abbrev pub Prints : (List ℕ → List ℕ) → Option (List ℕ) → Option (List ℕ) → Option (List ℕ) → Result (Unit {0}) Failure → Type 0
 Prints text (Some s) before after (Ok _) = Appends before after (text s)
 Prints text None before after (Ok _) = (s : List ℕ) × Appends before after (text s)

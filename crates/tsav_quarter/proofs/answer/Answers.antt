@@ -23,8 +23,8 @@ summarized s room out out' q n before after taken finished written =
       demand = subst (λ (v : List ℕ). QuarterDemand s v) t (finished.demand s room taken);
     }
 
-prints : (left before after : Option (List ℕ)) (r : Result (Unit {0}) Failure) (room out out' : List ℕ) (q : Quarter) (n : ℕ) → TakenAll left room out (Ok q)
-    → Finished out q n out' → OnOk r (Appends before after (take n out')) → IfErr r (λ e. e ≡ Unwritten) → PrintsQuarter left before after r
+prints : (left before after : Option (List ℕ)) (r : Result (Unit {0}) Failure) (room out out' : List ℕ) (q : Quarter) (n : ℕ)
+    → TakenAll left room out (Ok q) → Finished out q n out' → OnOk r (Appends before after (take n out')) → IfErr r (λ e. e ≡ Unwritten) → PrintsQuarter left before after r
 prints (Some s) before after (Ok u) room out out' q n taken finished written u' = summarized s room out out' q n before after taken finished written
 prints None before after (Ok u) room out out' q n taken finished written u' =
     (taken.0, summarized (taken.0) room out out' q n before after (taken.1) finished written)
