@@ -1,12 +1,16 @@
 //! The library's calls, through the Rust wrapper, beside those of the best u128 program of the same steps that we can write
-//! (peer.rs), on figures that change (figures.rs). Its root takes one binary digit a step without a jump, in two ways; each row's
-//! ratio is to the quicker of the two. A root with a jump on each digit and Newton's are there for information.
+//! (peer.rs), on figures that change (figures.rs). Its root takes one binary digit a step without a jump, in three ways; each row's
+//! ratio is to the quickest of them. A root with a jump on each digit and Newton's are there for information.
 //!
 //! A conversion takes no root, so that there are two sides alone.
 //!
 //! A sample is one pass over all the calls of a kind. Samples of the sides take turns, and so do the kinds and the side that is
-//! first, so that whatever else the machine does falls on all of them. The median of each side is printed and what the ratios are
-//! of; beside it stand the shortest and the ninth decile. The answers are compared first.
+//! first, so that whatever else the machine does falls on all of them. The answers are compared first.
+//!
+//! Where code stands in a cache line is worth up to a fifth of its time, of ours and of the peer's. So bench/run builds the
+//! program at four places, each 16 bytes further: `speed --place` measures at one and prints a line for each kind, and
+//! `speed FILE..` puts these together. A side's time is the mean of its medians at the places, which the ratios are of; beside it
+//! stand the least and the largest of these medians.
 //!
 //! All are treated alike: the same sheets, and a lent report of the same length that is cleared before no call, of
 //! any side. What a call itself clears is part of its time.
@@ -15,19 +19,40 @@ mod figures;
 mod peer;
 
 use figures::{lines_with_needs, lines_without_bought, small_lines, Draws, Line, Size};
-use peer::{Jumping, Newton, Picking, Shifting};
+use peer::{Jumping, Newton, Odd, Picking, Shifting};
 use reference::{all_lines, BLOCK_NUMBERS, BLOCK_VALUES};
 use std::hint::black_box;
 use std::time::Instant;
 use tsav::{LONGEST_LISTING, LONGEST_REPORT, LONGEST_SHEET, MOST_BLOCKS};
 
-/// Samples of each side.
-const SAMPLES: usize = 400;
+// The code behind this is moved by PLACE bytes, which bench/run sets. The name keeps the linker from leaving them out.
+std::arch::global_asm!(".text", ".p2align 6", ".globl bytes_before", "bytes_before: .skip {}", const PLACE);
 
-/// Ours, and the peer with each of its roots: the two that a ratio is to, and the two for information.
-const SIDES: usize = 5;
-const PEERS: [&str; SIDES - 1] = ["digits picked", "window shifted", "jumps", "Newton's"];
-const BESIDE: usize = 2;
+extern "C" {
+    static bytes_before: u8;
+}
+
+const PLACE: usize = match option_env!("PLACE") {
+    Some(digits) => number_of(digits.as_bytes()),
+    None => 0,
+};
+
+const fn number_of(digits: &[u8]) -> usize {
+    let (mut number, mut at) = (0, 0);
+    while at < digits.len() {
+        number = 10 * number + (digits[at] - b'0') as usize;
+        at += 1;
+    }
+    number
+}
+
+/// Samples of each side, at each place.
+const SAMPLES: usize = 100;
+
+/// Ours, and the peer with each of its roots: the three that a ratio is to, and the two for information.
+const SIDES: usize = 6;
+const PEERS: [&str; SIDES - 1] = ["digits picked", "window shifted", "odd number held", "jumps", "Newton's"];
+const BESIDE: usize = 3;
 
 /// How many there are of each kind: blocks, shares calls, fluctuation calls, full sheets, small sheets, and sheets for each line
 /// of the table.
@@ -44,6 +69,18 @@ const TABLE: [usize; 7] = [0, 1, 2, 4, 8, 16, MOST_BLOCKS];
 const SIZES: [(&str, Size); 2] = [("", Size::Middling), (", near the limit", Size::NearTheLimit)];
 
 fn main() {
+    let arguments: Vec<String> = std::env::args().skip(1).collect();
+    if arguments == ["--place"] {
+        measure();
+    } else {
+        assert!(!arguments.is_empty(), "bench/run gives the files");
+        print(&places(&arguments));
+    }
+}
+
+/// Measures all kinds at this place, and prints a line for each: its name, how many lines its sheet has, and each side's median.
+fn measure() {
+    black_box(&raw const bytes_before);
     let mut draws = Draws::new();
     let mut named = Vec::new();
     for (size_name, size) in SIZES {
@@ -77,24 +114,80 @@ fn main() {
             kind.sample(round);
         }
     }
-    println!("{}\n", machine());
-    for (name, kind) in &named {
-        let times = kind.times();
-        let ours = times[0].median;
-        print!("{name}: ours {}, {} {}", times[0], kind.peer(0), times[1]);
-        for (peer, time) in times.iter().enumerate().skip(2).take(BESIDE - 1) {
-            print!(", {} {time}", kind.peer(peer - 1));
+    let tabled = TABLE.iter().zip(table).map(|(blocks, kind)| (format!("{blocks} blocks"), kind));
+    for (name, kind) in named.into_iter().chain(tabled) {
+        let medians: Vec<String> = kind.medians().iter().map(|median| format!("{median:.6}")).collect();
+        println!("{name}\t{}\t{}", kind.lines, medians.join("\t"));
+    }
+}
+
+/// A kind at the places: its name, the lines of its sheet, and each side's medians.
+struct Row {
+    name: String,
+    lines: usize,
+    sides: Vec<Time>,
+}
+
+/// What was measured at each of the places, put together.
+fn places(files: &[String]) -> Vec<Row> {
+    let mut rows: Vec<Row> = Vec::new();
+    for file in files {
+        let text = std::fs::read_to_string(file).expect("a file of a place");
+        for (at, line) in text.lines().enumerate() {
+            let mut columns = line.split('\t');
+            let name = columns.next().expect("a name").to_string();
+            let lines = columns.next().expect("a number of lines").parse().expect("a number");
+            if rows.len() == at {
+                rows.push(Row { name: name.clone(), lines, sides: Vec::new() });
+            }
+            assert_eq!(rows[at].name, name, "the places have the same kinds");
+            for (side, column) in columns.enumerate() {
+                if rows[at].sides.len() == side {
+                    rows[at].sides.push(Time::default());
+                }
+                rows[at].sides[side].medians.push(column.parse().expect("a time"));
+            }
         }
-        print!("; ratio to the better {:.3}", ours / kind.better());
-        for (peer, time) in times.iter().enumerate().skip(1 + BESIDE) {
-            print!("; {} {:.3}", kind.peer(peer - 1), ours / time.median);
+    }
+    rows
+}
+
+/// Prints the rows, the named ones and the table.
+fn print(rows: &[Row]) {
+    println!("{}\n", machine());
+    let (named, table) = rows.split_at(rows.len() - TABLE.len());
+    for row in named {
+        let ours = row.sides[0].mean();
+        print!("{}: ours {}", row.name, row.sides[0]);
+        for (peer, time) in row.sides.iter().enumerate().skip(1) {
+            print!(", {} {time}", row.peer(peer - 1));
+        }
+        print!("; ratio to the best {:.2}", ours / row.best());
+        for (peer, time) in row.sides.iter().enumerate().skip(1).filter(|_| row.sides.len() == SIDES) {
+            print!(", {} {:.2}", row.peer(peer - 1), ours / time.mean());
         }
         println!();
     }
-    println!("\nblocks  lines  ours us  u128 us  ratio");
-    for (blocks, kind) in TABLE.iter().zip(&table) {
-        let (ours, better) = (kind.times()[0].median, kind.better());
-        println!("{blocks:>6} {:>6} {ours:>8.2} {better:>8.2} {:>6.3}", kind.lines, ours / better);
+    println!("\n     blocks  lines  ours us  u128 us  ratio");
+    for row in table {
+        let (ours, best) = (row.sides[0].mean(), row.best());
+        println!("{:>11} {:>6} {ours:>8.2} {best:>8.2} {:>6.2}", row.name, row.lines, ours / best);
+    }
+}
+
+impl Row {
+    /// The time of the best of the peers that a ratio is to.
+    fn best(&self) -> f64 {
+        self.sides[1..].iter().take(BESIDE).map(Time::mean).fold(f64::INFINITY, f64::min)
+    }
+
+    /// What a peer is called.
+    fn peer(&self, number: usize) -> &'static str {
+        if self.sides.len() == SIDES {
+            PEERS[number]
+        } else {
+            "u128"
+        }
     }
 }
 
@@ -109,16 +202,23 @@ fn machine() -> String {
     format!("processor: {model}, {processors} of them")
 }
 
-/// The samples of a side, put together: microseconds of one call.
+/// The time of a side: microseconds of one call, its median at each of the places.
+#[derive(Default)]
 struct Time {
-    median: f64,
-    shortest: f64,
-    ninth_decile: f64,
+    medians: Vec<f64>,
+}
+
+impl Time {
+    fn mean(&self) -> f64 {
+        self.medians.iter().sum::<f64>() / self.medians.len() as f64
+    }
 }
 
 impl std::fmt::Display for Time {
     fn fmt(&self, to: &mut std::fmt::Formatter) -> std::fmt::Result {
-        write!(to, "{:.3} us ({:.3} to {:.3})", self.median, self.shortest, self.ninth_decile)
+        let least = self.medians.iter().copied().fold(f64::INFINITY, f64::min);
+        let largest = self.medians.iter().copied().fold(0.0, f64::max);
+        write!(to, "{:.3} us ({least:.3} to {largest:.3})", self.mean())
     }
 }
 
@@ -156,29 +256,14 @@ impl Kind {
         }
     }
 
-    /// The time of a call of each side.
-    fn times(&self) -> Vec<Time> {
+    /// The median of a call of each side, in microseconds.
+    fn medians(&self) -> Vec<f64> {
         let of_side = |samples: &Vec<f64>| {
             let mut passes = samples.clone();
             passes.sort_by(f64::total_cmp);
-            let at = |part: usize| passes[(passes.len() - 1) * part / 10] / self.calls as f64;
-            Time { median: at(5), shortest: at(0), ninth_decile: at(9) }
+            passes[(passes.len() - 1) / 2] / self.calls as f64
         };
         self.samples[..self.sides].iter().map(of_side).collect()
-    }
-
-    /// The median of the better of the peers that a ratio is to.
-    fn better(&self) -> f64 {
-        self.times()[1..].iter().take(BESIDE).map(|time| time.median).fold(f64::INFINITY, f64::min)
-    }
-
-    /// What a peer is called.
-    fn peer(&self, number: usize) -> &'static str {
-        if self.sides == SIDES {
-            PEERS[number]
-        } else {
-            "u128"
-        }
     }
 }
 
@@ -195,6 +280,10 @@ macro_rules! with_root {
                 $pass
             }
             3 => {
+                type $root = Odd;
+                $pass
+            }
+            4 => {
                 type $root = Jumping;
                 $pass
             }

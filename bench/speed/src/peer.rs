@@ -2,13 +2,13 @@
 //! with u128: no allocation, every figure worked out once, and everything tested that the papers have tested. It is here for its
 //! speed; tests/reference, written to be plain, is the independent calculation.
 //!
-//! An amount is read by words, whose leading zeros tell where its spaces end; a converted line moves its columns and formats
-//! nothing; a number of two words is divided by one machine instruction where the quotient fits a word.
+//! An amount is read as one number without a jump on its length, as ours is; a converted line moves its columns and formats nothing; a
+//! number of two words is divided by one machine instruction where the quotient fits a word.
 //!
-//! The root is the caller's, and there are four. Two take one binary digit a step without a jump, as the papers ask: one picks
-//! the digits of the radicand, the other shifts it through two words, as ours does. The other two are there for information:
-//! a jump on each digit, as it is mostly written, and Newton's. The steps of #107 are those of the radicand's length, whichever
-//! root is taken.
+//! The root is the caller's, and there are five. Three take one binary digit a step without a jump, as the papers ask: one picks
+//! the digits of the radicand, the second shifts it through two words, as ours does, and the third holds an odd number in place
+//! of the root that #107 speaks of. The other two are there for information: a jump on each digit, as it is mostly written, and
+//! Newton's. The steps of #107 are those of the radicand's length, whichever root is taken.
 
 use reference::{
     Refusal, ADJUSTABLE_PRODUCTS, BLOCK_NUMBERS, BLOCK_VALUES, FIGURES, GENERAL_CLASSES, GENERAL_NUMBERS,
@@ -48,7 +48,8 @@ impl Root for Shifting {
         if steps == 0 {
             return 0;
         }
-        // The top is two digits below the word's, so that a shift is two of a word each and none of two words.
+        // The digits stand two below the word's top. At its top the compiler would bring them down by one shift across two words,
+        // the rest and the window's, on which the next step waits.
         let window = radicand << (126 - 2 * steps);
         let (mut high, mut low) = ((window >> 64) as u64, window as u64);
         let (mut root, mut rest) = (0, 0);
@@ -68,6 +69,33 @@ fn step(root: u64, rest: u64, digits: u64) -> (u64, u64) {
     let odd = 4 * root + 1;
     let digit = u64::from(odd <= next);
     (2 * root + digit, next - digit * odd)
+}
+
+/// The same, but that the odd number is held by which the next digit is tested, four times the root and one. The digit is the sign of
+/// a difference, and nothing is multiplied by it.
+pub struct Odd;
+
+impl Root for Odd {
+    #[inline]
+    fn of(radicand: u128) -> u64 {
+        let steps = (129 - radicand.leading_zeros()) / 2;
+        if steps == 0 {
+            return 0;
+        }
+        // The upper word is held two places higher than the lower one asks: the two digits that cross are added first, and both are
+        // then moved.
+        let window = radicand << (124 - 2 * steps);
+        let (mut high, mut low) = (((window >> 64) as u64) << 2, window as u64);
+        let (mut odd, mut rest) = (1, 0);
+        for _ in 0..steps {
+            let next = 4 * rest + (high >> 60);
+            let left = next.wrapping_sub(odd) as i64;
+            (odd, rest) = if left < 0 { (2 * odd - 1, next) } else { (2 * odd + 3, left as u64) };
+            high = (high % (1 << 60) + (low >> 62)) << 2;
+            low <<= 2;
+        }
+        odd / 4 + u64::from(rest != 0)
+    }
 }
 
 /// One binary digit a step, the plain way: a jump decides each digit.
@@ -271,7 +299,7 @@ pub fn fluctuation<R: Root>(row: u64, requirement: u64, face: u64) -> Result<u64
         let (quotient, rest) = divide((u128::from(upper % base) << 64) + u128::from(lower), base);
         40_000 * ((u128::from(upper / base) << 64) + u128::from(quotient)) + u128::from((40_000 * rest).div_ceil(base))
     } else {
-        40_000 * u128::from(second * second) * u128::from(requirement)
+        u128::from(40_000 * second * second) * u128::from(requirement)
     };
     Ok((first * requirement + R::of(radicand)).div_ceil(20))
 }
@@ -282,17 +310,21 @@ const GENERAL_FACTORS: [u64; GENERAL_NUMBERS] = [575, 450, 250];
 
 /// RO of amounts within the limit, and of prior ones within twice the limit.
 fn operational(volumes: &[u64; MOST_VOLUMES], general: &[u64; GENERAL_CLASSES]) -> u64 {
-    let mut sum = 0_u128;
+    // At most 1.67 × 10^19, which fits a word.
+    let mut sum = 0;
     for territory in volumes.chunks_exact(TERRITORY_NUMBERS) {
         for (pair, factor) in territory.chunks_exact(2).zip(VOLUME_FACTORS) {
-            let current = 5 * pair[0];
-            sum += u128::from(factor * (current + current.saturating_sub(6 * pair[1])));
+            // Most classes of a small society are empty.
+            if pair[0] != 0 {
+                let current = 5 * pair[0];
+                sum += factor * (current + current.saturating_sub(6 * pair[1]));
+            }
         }
     }
     for (factor, amount) in GENERAL_FACTORS.iter().zip(general) {
-        sum += u128::from(factor * 5 * amount);
+        sum += factor * 5 * amount;
     }
-    sum.div_ceil(50_000) as u64
+    sum.div_ceil(50_000)
 }
 
 /// What the lines of a sheet say: tables of the amounts, and which lines and blocks there were.
@@ -329,48 +361,59 @@ fn measure(bytes: &[u8]) -> Result<(), Refusal> {
     Ok(())
 }
 
-/// The converting call. The lines are written into a room of its own first, because a refusal leaves the lent one as it was.
+/// The converting call. Every line is tested before the first is written, because a refusal leaves the lent room as it was.
 pub fn convert(bytes: &[u8], converted: &mut [u8]) -> Result<usize, Refusal> {
     measure(bytes)?;
     let small = bytes.get(..3).is_some_and(|code| code.iter().all(u8::is_ascii_lowercase));
-    let (mut room, mut before) = ([0; LONGEST_SHEET], Before { seen: [0; MOST_BLOCKS + 1], last: 0 });
-    for (at, (line, out)) in bytes.chunks_exact(LINE_BYTES).zip(room.chunks_exact_mut(LINE_BYTES)).enumerate() {
-        if let Err(number) = convert_line(line.try_into().unwrap(), out, small, &mut before) {
+    let mut before = Before { seen: [0; MOST_BLOCKS + 1], last: 0 };
+    for (at, line) in bytes.chunks_exact(LINE_BYTES).enumerate() {
+        if let Err(number) = test_line(line.try_into().unwrap(), small, &mut before) {
             return Err(Refusal::at_line(number, at + 1));
         }
     }
-    if converted.len() < bytes.len() {
-        return Err(Refusal::nowhere(14));
+    let Some(room) = converted.get_mut(..bytes.len()) else { return Err(Refusal::nowhere(14)) };
+    for (line, out) in bytes.chunks_exact(LINE_BYTES).zip(room.chunks_exact_mut(LINE_BYTES)) {
+        move_line(line.try_into().unwrap(), out.try_into().unwrap(), small);
     }
-    converted[..bytes.len()].copy_from_slice(&room[..bytes.len()]);
     Ok(bytes.len())
 }
 
-/// One line, into a stretch of its length.
-fn convert_line(line: &[u8; LINE_BYTES], out: &mut [u8], small: bool, before: &mut Before) -> Result<(), u8> {
+/// A line's rules, 20 and 21 among them.
+fn test_line(line: &[u8; LINE_BYTES], small: bool, before: &mut Before) -> Result<(), u8> {
     let numbers = fields(line).ok_or(3)?;
     let code = [line[0], line[1], line[2]];
-    let exchanged = code.map(|letter| letter ^ 0x20);
-    before.admit(if small { &exchanged } else { &code }, numbers)?;
+    before.admit(&if small { code.map(|letter| letter ^ 0x20) } else { code }, numbers)?;
     let [_, class, first, second] = numbers;
-    out.copy_from_slice(line);
-    out[..3].copy_from_slice(&exchanged);
     if line[0] | 0x20 == b'g' && class == 4 {
         return Ok(());
     }
-    for (from, amount) in [(10, first), (25, second)] {
+    for amount in [first, second] {
         if small && amount > LARGEST_AMOUNT / THOUSAND_DOLLARS {
             return Err(21);
         }
         if !small && amount % THOUSAND_DOLLARS != 0 {
             return Err(20);
         }
-        if amount != 0 {
-            let (from, to) = (&line[from..from + AMOUNT], &mut out[from..from + AMOUNT]);
-            move_columns(from.try_into().unwrap(), to.try_into().unwrap(), small);
-        }
     }
     Ok(())
+}
+
+/// A line that its rules let pass, as the other sort of sheet has it: the scalar's line and 0 keep their columns.
+#[inline(always)]
+fn move_line(line: &[u8; LINE_BYTES], out: &mut [u8; LINE_BYTES], small: bool) {
+    *out = *line;
+    for letter in &mut out[..3] {
+        *letter ^= 0x20;
+    }
+    if line[0] | 0x20 == b'g' && line[7..9] == *b" 4" {
+        return;
+    }
+    for from in [10, 25] {
+        let (amount, to) = (&line[from..from + AMOUNT], &mut out[from..from + AMOUNT]);
+        if amount[AMOUNT - 2..] != *b" 0" {
+            move_columns(amount.try_into().unwrap(), to.try_into().unwrap(), small);
+        }
+    }
 }
 
 /// The columns of an amount, and the columns of its five zeros that a thousand dollars have in cents.
@@ -608,7 +651,8 @@ impl Sheet {
         let Some(bracket) = left.checked_sub(credits + self.adjustable) else {
             return Err(Refusal::nowhere(13));
         };
-        let buffer = (u128::from(scalar) * u128::from(bracket)).div_ceil(10_000) as u64;
+        let (quotient, rest) = divide(u128::from(scalar) * u128::from(bracket), 10_000);
+        let buffer = quotient + u64::from(rest != 0);
         Ok((blocks, [sum, ro, buffer]))
     }
 }
@@ -645,36 +689,41 @@ fn pair(tens: u8, ones: u8) -> Option<u64> {
 }
 
 /// A number of an amount's columns: decimal, right-justified, spaces before, at least one digit, no leading zero except 0 itself.
-/// All columns are tested at once, as words: of a space 0 is left, and of a digit its number.
+/// All columns are one number. Less a space each, a digit is its number with a mark, so that the marks tell where digits stand.
 #[inline(always)]
 fn amount(field: &[u8; AMOUNT]) -> Option<u64> {
     const SPACES: u128 = 0x2020_2020_2020_2020_2020_2020_2020;
-    const DIGITS: u128 = 0x1010_1010_1010_1010_1010_1010_1010;
-    const TOPS: u64 = 0x8080_8080_8080_8080;
+    const MARKS: u128 = 0x1010_1010_1010_1010_1010_1010_1010;
+    const TOPS: u128 = 0x8080_8080_8080_8080_8080_8080_8080;
     // What takes a byte above 9 to its top bit.
-    const TO_TOP: u64 = 0x7676_7676_7676_7676;
-    let upper = u64::from_be_bytes(field[..8].try_into().unwrap());
-    let lower = u64::from_be_bytes(field[6..].try_into().unwrap()) & 0xffff_ffff_ffff;
-    let marked = ((u128::from(upper) << 48) + u128::from(lower)) ^ SPACES;
-    if marked == 0 {
+    const TO_TOP: u128 = 0x7676_7676_7676_7676_7676_7676_7676;
+    let four = u32::from_be_bytes(field[..4].try_into().unwrap());
+    let two = u16::from_be_bytes(field[4..6].try_into().unwrap());
+    let eight = u64::from_be_bytes(field[6..].try_into().unwrap());
+    let word = (u128::from((u64::from(four) << 16) + u64::from(two)) << 64) + u128::from(eight);
+    if word <= SPACES {
         return None;
     }
-    let spaces = (marked.leading_zeros() - 16) & !7;
-    let values = marked ^ (DIGITS >> spaces);
-    if spaces < 104 && values >> (104 - spaces) == 0 {
+    let held = word - SPACES;
+    let marks = held & MARKS;
+    let values = held - marks;
+    // The marks of all digits but the first.
+    let behind = marks >> 8;
+    if marks & behind != behind || values < behind || marks < values {
         return None;
     }
-    let (eight_values, six) = ((values >> 48) as u64, values as u64 & 0xffff_ffff_ffff);
-    let outside = eight_values | eight_values.wrapping_add(TO_TOP) | six | six.wrapping_add(TO_TOP);
-    (outside & TOPS == 0).then(|| joined(eight_values) * 1_000_000 + joined(six))
+    if (values | (values + TO_TOP)) & TOPS != 0 {
+        return None;
+    }
+    Some(joined((values >> 64) as u64) * 100_000_000 + joined(values as u64))
 }
 
 /// The number of eight digits, a byte each, the first in the top byte.
 #[inline(always)]
 fn joined(digits: u64) -> u64 {
-    let pairs = (digits & 0x00ff_00ff_00ff_00ff) + ((digits >> 8) & 0x00ff_00ff_00ff_00ff) * 10;
-    let fours = (pairs & 0x0000_ffff_0000_ffff) + ((pairs >> 16) & 0x0000_ffff_0000_ffff) * 100;
-    (fours & 0xffff_ffff) + (fours >> 32) * 10_000
+    let pairs = (digits + (digits >> 8) * 10) & 0x00ff_00ff_00ff_00ff;
+    let fours = (pairs + (pairs >> 16) * 100) & 0x0000_ffff_0000_ffff;
+    (fours + (fours >> 32) * 10_000) & 0xffff_ffff
 }
 
 /// A line for each figure, the items counted from 1.
@@ -730,6 +779,7 @@ mod tests {
             let case = Case::of(index);
             answers::<Picking>(&case);
             answers::<Shifting>(&case);
+            answers::<Odd>(&case);
             answers::<Jumping>(&case);
             answers::<Newton>(&case);
             let (given, lent) = generate::convert_case(1, index);

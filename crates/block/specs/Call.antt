@@ -1,7 +1,7 @@
 -- The block call of document 01, 'What is turned away': 'it tests 7 at the first bad position, then 8, then 9, these two at the
 -- position of the first bad LT', and 'Accepted, the block call gives I, D, U, LT and K'; after them, by document 02, #107, the steps of the
 -- two roots. Assumes nothing.
-use Rattle.std.specs.Prelude.{Bool, Result, List, ◌++◌, ℕ, ◌+◌, ◌*◌, ltb, eqb, length, get_or}
+use Rattle.std.specs.Prelude.{Bool, Result, ⊤, List, ◌++◌, ℕ, ◌+◌, ◌*◌, ltb, eqb, length, get_or}
 use Rattle.search.specs.Pick.{pick}
 use Rattle.search.specs.First.{first}
 use Rattle.amount.specs.Amount.{first_above}
@@ -23,6 +23,10 @@ stated = stated_by (λ w. figure_list w.figures ++ step_list w.steps)
 -- the same of the block alone, by what is worked out of its numbers
 abbrev pub stated_block : Result Block Refusal → Outcome
 stated_block = stated_by (λ k. figures_of k.numbers ++ steps_of k.numbers)
+
+-- the same where the answer holds nothing, by the numbers that were tested
+abbrev pub stated_numbers : List ℕ → Result ⊤ Refusal → Outcome
+stated_numbers b = stated_by (λ nothing. figures_of b ++ steps_of b)
 
 -- rule 9 at the pair i, counted from 0: its LT, at position 2i + 1, is above its IR
 abbrev pub lt_above : List ℕ → ℕ → Bool

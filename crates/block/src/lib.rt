@@ -4,7 +4,8 @@
 ghost use Rattle.std.specs.Prelude.{◌≡◌, IfOk};
 ghost use Rattle.search.specs.First.{FoundAt};
 ghost use Rattle.guideline.specs.Sizes.{risks};
-ghost use Rattle.block.specs.Call.{stated, stated_block, block_call, first_lt_above};
+ghost use Rattle.guideline.specs.Block.{AcceptedBlock};
+ghost use Rattle.block.specs.Call.{stated, stated_block, stated_numbers, block_call, first_lt_above};
 ghost use Rattle.block.specs.Accepted.{BlockDemand3, FewSteps};
 
 use figures::Worked;
@@ -18,14 +19,23 @@ pub fn block_call(b: &[u64; BLOCK_NUMBERS]) -> Result<Worked, Refusal>
     ensures demand3 { BlockDemand3 b.now (stated result) }
     ensures few_steps { FewSteps (stated result) }
 {
-    let block = accepted_block(b)?;
-    Ok(figures::worked_out(&block))
+    tested(b)?;
+    Ok(figures::worked_out(&Block::new(*b)))
 }
 
 // The block of any 17 numbers, where rules 7, 8 and 9 let them pass: what the block call accepts, and refuses otherwise.
 pub fn accepted_block(b: &[u64; BLOCK_NUMBERS]) -> Result<Block, Refusal>
     ensures outcome { stated_block result ≡ block_call b.now }
     ensures numbers { IfOk result (λ block. block.numbers ≡ b.now) }
+{
+    tested(b)?;
+    Ok(Block::new(*b))
+}
+
+// Rules 7, 8 and 9 of any 17 numbers. The answer holds no copy of the numbers: one in an enum is stored by bytes and copied by words, which waits.
+fn tested(b: &[u64; BLOCK_NUMBERS]) -> Result<(), Refusal>
+    ensures outcome { stated_numbers b.now result ≡ block_call b.now }
+    ensures passed { IfOk result (λ nothing. AcceptedBlock b.now) }
 {
     if let Some(above) = amount::first_above(b) {
         return Err(Refusal(Rule::AmountAboveLimit, Place::Position(above)));
@@ -36,7 +46,7 @@ pub fn accepted_block(b: &[u64; BLOCK_NUMBERS]) -> Result<Block, Refusal>
     if let Some(risk) = first_lt_above(b) {
         return Err(Refusal(Rule::TrendAboveComponent, Place::Position(2 * risk + 1)));
     }
-    Ok(Block::new(*b))
+    Ok(())
 }
 
 // The first risk, counted from 0, whose level and trend part is above its component, where there is one.

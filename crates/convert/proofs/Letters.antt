@@ -18,7 +18,7 @@ use Rattle.refusal.specs.declared.Rule.TheVariants as rule
 use Rattle.codes.specs.Codes.{codes, is_code, code_among, code_of}
 use Rattle.codes.specs.declared.Code.{Code}
 use Rattle.codes.specs.declared.Code.TheVariants.{Rsk, Oth, Mor, Vol, Acq, Gen, Crd}
-use Rattle.layout.specs.Columns.{sheet_line_bytes, spaced, layout_of}
+use Rattle.layout.specs.Columns.{sheet_line_bytes, layout_of}
 use Rattle.layout.specs.Whole.{whole_lines, line_at}
 use Rattle.layout.specs.declared.Numbers.{Numbers}
 use Rattle.layout.proofs.Lent.{length_line}
@@ -37,7 +37,7 @@ use Rattle.scaled_line.specs.Scale.{other, raise, lower, letters_in, scale_of, r
 use Rattle.scaled_line.specs.Amounts.{convertible}
 use Rattle.scaled_line.specs.declared.Scale.{Scale}
 use Rattle.scaled_line.specs.declared.Scale.TheVariants.{Cents, Thousands}
-use Rattle.scaled_line.proofs.Small.{letters_first, three_in, capitals, raised_is, long_letters, length_raised}
+use Rattle.scaled_line.proofs.Small.{letters_first, three_in, capitals, raised_is, long_letters, length_raised, layout_raised}
 use Rattle.convert.specs.Call.{reading_in, after_reading, conversion}
 use Rattle.convert.proofs.Reading.{reads, inverse}
 
@@ -110,13 +110,6 @@ none_in Thousands Vol t = refl
 none_in Thousands Acq t = refl
 none_in Thousands Gen t = refl
 none_in Thousands Crd t = refl
-
-layout_raised : (s : List ℕ) → layout_of (raised s) ≡ layout_of s
-unfolding layout_of spaced raised
-layout_raised [] = refl
-layout_raised (a ∷ []) = refl
-layout_raised (a ∷ b ∷ []) = refl
-layout_raised (a ∷ b ∷ c ∷ s) = refl
 
 -- a line without a code of a sort is refused in its sheet by 3 or 4, in either sort alike
 uncoded : (d : Scale) (s : List ℕ) → code_in d s ≡ None → parse_in d s ≡ rule3 (layout_of s) None

@@ -28,10 +28,12 @@ use Rattle.order.proofs.Lines as lines
 use Rattle.order.proofs.Lines.{ReadTo}
 use Rattle.scaled_line.specs.Scale.{other, parse_in}
 use Rattle.scaled_line.specs.Amounts.{convertible, rescaled}
-use Rattle.scaled_line.specs.Other.{other_line, other_over}
+use Rattle.scaled_line.specs.Other.{other_line}
+use Rattle.scaled_line.specs.Moved.{moved_line}
 use Rattle.scaled_line.specs.declared.Scale.{Scale}
 use Rattle.scaled_line.proofs.Scaled.{keeps}
 use Rattle.scaled_line.proofs.Lines.{length_in_lem}
+use Rattle.scaled_line.proofs.Moves.{line_moved}
 use Rattle.convert.specs.Call.{reading_in}
 use Rattle.convert.specs.Steps.{LinesWritten}
 use Rattle.convert.proofs.Reading.{reads}
@@ -80,7 +82,7 @@ write_start d s r =
     record { some = omega arith; long = refl; lines = λ es q. record { seen = []; rest = rw z q; wrote = nothing r } }
 
 module _ {d : Scale} {s r₀ r : List ℕ} {i : ℕ} (W : Writing d s r₀ r i) where
-  module _ (h : i < whole_lines s) (fits : length s ≤ length r₀) (ys old : List ℕ) (w : ys ≡ other_over d (parse_in d (line_at s i)) old) where
+  module _ (h : i < whole_lines s) (fits : length s ≤ length r₀) (ys : List ℕ) (w : ys ≡ moved_line d (line_at s i)) where
     line_more : (es : List Entry) → WrittenTo d s r₀ r i es → WrittenTo d s r₀ (put_mid (sheet_line_bytes * i) sheet_line_bytes r ys) (i + 1) es
     unfolding print_by
     line_more es T =
@@ -90,7 +92,7 @@ module _ {d : Scale} {s r₀ r : List ℕ} {i : ℕ} (W : Writing d s r₀ r i) 
         (convertible d (line_after T.seen (parse_in d (line_at s i)))) (λ n p q. never (cc))
         (λ e p q.
         let a = lines.next_line (reads d) T.seen (line_at s i) (length_line s i h) e p in
-        let y : ys ≡ other_line d e = w ∙ ap (λ (l : Result Entry Rule). other_over d l old) a.parsed in
+        let y : ys ≡ other_line d e = w ∙ line_moved d (line_at s i) (length_line s i h) e a.parsed a.passes in
         let k : sheet_line_bytes * i + sheet_line_bytes ≡ sheet_line_bytes * (i + 1) = omega arith in
         let p = part T.wrote sheet_line_bytes ys (omega arith) (ap length y ∙ length_in_lem (other d) (rescaled d e)) in
         record { seen = e ∷ T.seen; rest = q; wrote = rw k at (subst Put y p) })

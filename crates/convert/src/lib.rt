@@ -1,7 +1,7 @@
 // Sheets in thousands of dollars, with the code in small letters: a sheet of either sort converted to the other.
 //
-// A sheet is read twice: first every line is tested, with the marks of those before it and the last key, then each is written. So a refusal
-// writes nothing, and no table of amounts is held.
+// There are two passes over a sheet: first every line is read and tested, with the marks of those before it and the last key, then the columns of
+// each are moved. So a refusal writes nothing, and no table of amounts is held.
 #![tactic(auto)]
 
 ghost use Rattle.std.specs.Prelude.{◌≡◌, [], ◌%◌, ◌≤◌, length};
@@ -10,8 +10,7 @@ ghost use Rattle.order.specs.Marks.{marks_of};
 ghost use Rattle.order.specs.Reading.{outcome_of};
 ghost use Rattle.printing.specs.Lent.{stated, Done};
 ghost use Rattle.printing.specs.Printing.{printout, Printed};
-ghost use Rattle.scaled_line.specs.Scale.{parse_in};
-ghost use Rattle.scaled_line.specs.Other.{other_over};
+ghost use Rattle.scaled_line.specs.Moved.{moved_line};
 ghost use Rattle.convert.specs.Call.{conversion, reading_in, convert_call, ConvertsBack};
 ghost use Rattle.convert.specs.Steps.{LinesWritten, lines_call};
 
@@ -92,7 +91,7 @@ fn write_lines(scale: Scale, sheet: &[u8], room: &mut [u8])
 // Kept: the stretch comes as a slice. What an array ends as is told of the slice that it was made of, and not of the room around it.
 fn write_line(scale: Scale, line: &[u8; SHEET_LINE_BYTES], stretch: &mut [u8])
     requires { length stretch.old ≡ sheet_line_bytes }
-    ensures { stretch.new ≡ other_over scale (parse_in scale line.now) stretch.old }
+    ensures { stretch.new ≡ moved_line scale line.now }
 {
     let Some(out) = stretch.as_mut_array() else {
         unreachable!()

@@ -1,16 +1,17 @@
 // The sum under the root sign of section 11.2.1, in quarters: row by row over all 49 products of two risks.
-#![tactic(auto)]
+#![tactic(auto, unfolding(wide::specs::Value::value))]
 
-ghost use Rattle.std.specs.Prelude.{◌≡◌, ◌+◌, ◌*◌, ◌<◌, pos};
+ghost use Rattle.std.specs.Prelude.{◌≡◌, ℕ, ◌+◌, ◌*◌, ◌<◌, pos};
 ghost use Rattle.guideline.specs.Factors.{factor, quarter_sum};
-ghost use Rattle.guideline.specs.Sizes.{risks, products};
+ghost use Rattle.guideline.specs.Sizes.{risks};
 ghost use Rattle.wide.specs.Value.{value};
-ghost use Rattle.running_sum.specs.Sum.{held};
 ghost use Rattle.correlation.specs.Products.{SmallYs, SoFar, Row};
 
 use guideline::{RISKS, factor_at as f};
-use running_sum::Sum;
 use wide::Wide;
+
+// 2^64, what one of a number's upper word counts.
+const WORD_BASE: u128 = 18446744073709551616;
 
 // 'Σ i,j=1..7  ρ_ij × (IR_i − 0,5 × LT_i) × (IR_j − 0,5 × LT_j)' of the seven y(i), which is never negative: in half cents and quarters it
 // is four times Q.
@@ -18,18 +19,17 @@ pub fn correlated(y: &[u64; RISKS]) -> Wide
     requires { SmallYs y.now }
     ensures { pos (value result) ≡ quarter_sum y.now }
 {
-    row_by_row(y).unsigned()
+    in_words(row_by_row(y))
 }
 
 // The sum over i and j from 1 to 7, row by row over all 49 products, those with factor 0 too. f(k) is the factor of the product that
 // comes after k others: read at places that are written out, the compiler works with the factors as with numbers.
-// Kept: written out, as loops over the rows and columns took 85 to 190 ns in place of 20 (docs/DECISIONS.md).
-fn row_by_row(y: &[u64; RISKS]) -> Sum
+// Kept: written out, and no loops over the rows and columns, in which the compiler read each factor and multiplied by it (docs/DECISIONS.md).
+fn row_by_row(y: &[u64; RISKS]) -> i128
     requires { SmallYs y.now }
-    ensures all_products { SoFar y.now products result }
-    ensures sum { held result ≡ quarter_sum y.now }
+    ensures { result ≡ quarter_sum y.now }
 {
-    let s0 = Sum::empty();
+    let s0 = 0;
     // i = 1, Mortalité
     let s1 = with_row(s0, y, 0, f(0), f(1), f(2), f(3), f(4), f(5), f(6));
     // i = 2, Longévité
@@ -48,7 +48,7 @@ fn row_by_row(y: &[u64; RISKS]) -> Sum
 
 // Row i = row + 1: its seven products in the order of the columns j, each by its ρ_ij.
 fn with_row(
-    before: Sum,
+    before: i128,
     y: &[u64; RISKS],
     row: usize,
     f1: i64,
@@ -58,7 +58,7 @@ fn with_row(
     f5: i64,
     f6: i64,
     f7: i64,
-) -> Sum
+) -> i128
     requires in_table { row < risks }
     requires so_far { SoFar y.now (risks * row) before }
     requires factors { Row row f1 f2 f3 f4 f5 f6 f7 }
@@ -73,13 +73,27 @@ fn with_row(
     with_product(s6, y, row, 6, f7)
 }
 
-// One product, ρ_ij × (IR_i − 0,5 × LT_i) × (IR_j − 0,5 × LT_j): the held sum, in quarters and possibly below zero, goes from exactly
+// One product, ρ_ij × (IR_i − 0,5 × LT_i) × (IR_j − 0,5 × LT_j): the sum, in quarters and possibly below zero, goes from exactly
 // that of the first k products, k = 7 × row + column, to that of the first k + 1; i is row + 1 and j is column + 1.
-fn with_product(before: Sum, y: &[u64; RISKS], row: usize, column: usize, quarters: i64) -> Sum
+// A product is below 2^96 and a factor at most four quarters, so that 49 of them stay far below 2^127.
+fn with_product(before: i128, y: &[u64; RISKS], row: usize, column: usize, quarters: i64) -> i128
     requires in_table { (row < risks) × (column < risks) }
     requires so_far { SoFar y.now (risks * row + column) before }
     requires is_factor { quarters ≡ factor (risks * row + column) }
     ensures { SoFar y.now (risks * row + (column + 1)) result }
 {
-    before.add_term(quarters, y[row], y[column])
+    before + i128::from(quarters) * (i128::from(y[row]) * i128::from(y[column]))
+}
+
+// The sum as an unsigned number of two words, where it is shown not to be below 0.
+fn in_words(sum: i128) -> Wide
+    requires { (q : ℕ) × (sum ≡ pos q) }
+    ensures { pos (value result) ≡ sum }
+{
+    // Kept: it isn't below 0, and each word fits; a TryFrom would have a failure that never comes.
+    let sum = sum as u128;
+    Wide {
+        high: (sum / WORD_BASE) as u64,
+        low: (sum % WORD_BASE) as u64,
+    }
 }

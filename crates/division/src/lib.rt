@@ -14,72 +14,87 @@ pub struct Division<Q> {
     pub rest: u64,
 }
 
-// n over d, rounded up, where that fits a word.
-// Kept: a struct of a divisor within these bounds would be made for each call and taken apart in it, for three callers.
+// n over d, rounded up, where that fits a word: then the upper word is below d.
+// Kept: a struct of a divisor within these bounds would be made for each call and taken apart in it, for two callers.
 pub fn divide_up(n: Wide, d: u64) -> u64
     requires { (0 < d) × (d < 2 ^ 63) × (value n ≤ d * (2 ^ 64 - 1)) }
     ensures { result ≡ least (λ q. leb (value n) (d * q)) }
 {
-    quotient_up(n, d).low
-}
-
-// n over d, rounded up, in two words.
-pub fn quotient_up(n: Wide, d: u64) -> Wide
-    requires { (0 < d) × (d < 2 ^ 63) }
-    ensures { value result ≡ (value n + (d - 1)) / d }
-{
-    let by = divide(n, d);
-    let down = by.quotient;
+    let by = divide_lower(n.high, n.low, d);
+    let quotient = by.quotient;
     let rest = by.rest;
-    if 0 < rest { down + Wide::from(1) } else { down }
+    if 0 < rest { quotient + 1 } else { quotient }
 }
 
-// n over any d of at most 63 binary digits, with its rest: the upper word by the machine's division, then the lower one. A number of one word,
-// the usual case, takes one division.
+// n over any d of at most 63 binary digits, with its rest: the upper word by the machine's division where it isn't below d, then the lower one.
 pub fn divide(n: Wide, d: u64) -> Division<Wide>
     requires { (0 < d) × (d < 2 ^ 63) }
     ensures { (result.rest < d) × (value result.quotient * d + result.rest ≡ value n) }
 {
     let high = n.high;
-    let low = n.low;
-    if high == 0 {
-        return Division {
-            quotient: Wide::from(low / d),
-            rest: low % d,
-        };
-    }
-    let lower = divide_lower(high % d, low, d);
+    let upper = if high < d {
+        Division {
+            quotient: 0,
+            rest: high,
+        }
+    } else {
+        divide_word(high, d)
+    };
+    let lower = divide_lower(upper.rest, n.low, d);
     Division {
         quotient: Wide {
-            high: high / d,
+            high: upper.quotient,
             low: lower.quotient,
         },
         rest: lower.rest,
     }
 }
 
-// A word below a rest, over d: as many binary digits a step as d leaves free in a word, and in the last step those that are left.
+// A word over d. The rest is what the quotient leaves: of a quotient and a rest by `%` the compiler makes two divisions.
+fn divide_word(n: u64, d: u64) -> Division<u64>
+    requires { 0 < d }
+    ensures { (result.rest < d) × (result.quotient * d + result.rest ≡ n) }
+{
+    let quotient = n / d;
+    Division {
+        quotient,
+        rest: n - quotient * d,
+    }
+}
+
+// A word below a rest, over d: each step brings down as many binary digits as the rest so far leaves free. Below no rest one division is enough.
 fn divide_lower(above: u64, low: u64, d: u64) -> Division<u64>
     requires { (above < d) × (d < 2 ^ 63) }
     ensures { (result.rest < d) × (result.quotient * d + result.rest ≡ above * 2 ^ 64 + low) }
 {
-    let width = u64::leading_zeros(d);
+    if above == 0 {
+        return divide_word(low, d);
+    }
     let mut left = 64u32;
     let mut held = Division {
         quotient: 0,
         rest: above,
     };
-    // Kept: each step takes `width` digits off those that are left, which no range counts.
-    while width < left {
+    // Kept: each step takes as many digits off those that are left as its rest has room for, which no range counts.
+    while 0 < left {
+        let width = step_width(held.rest, left);
         left -= width;
         held = divide_step(held, low, left, width, d);
     }
-    divide_step(held, low, 0, left, d)
+    held
+}
+
+// How many of the binary digits that are left fit below the rest in a word; a rest of 0 leaves room for 63, as one of 1 does.
+fn step_width(rest: u64, left: u32) -> u32
+    requires { (rest < 2 ^ 63) × (0 < left) }
+    ensures { (0 < result) × (result ≤ left) × (result < 64) × ((rest + 1) * 2 ^ result ≤ 2 ^ 64) }
+{
+    u64::leading_zeros(rest.max(1)).min(left)
 }
 
 // One step of a long division by d: the `width` binary digits of low above its last `left` are brought down to the rest so far.
 fn divide_step(before: Division<u64>, low: u64, left: u32, width: u32, d: u64) -> Division<u64>
-    requires widths { (left < 64) × (width < 64) × (2 ^ width * d ≤ 2 ^ 64) }
+    requires widths { (left < 64) × (width < 64) × ((before.rest + 1) * 2 ^ width ≤ 2 ^ 64) }
     requires room { (before.rest < d) × ((before.quotient + 1) * 2 ^ width ≤ 2 ^ 64) }
     ensures below { (result.rest < d) × (result.quotient + 1 ≤ (before.quotient + 1) * 2 ^ width) }
     ensures value { result.quotient * d + result.rest ≡ (before.quotient * d + before.rest) * 2 ^ width + low / 2 ^ left % 2 ^ width }
@@ -87,10 +102,10 @@ fn divide_step(before: Division<u64>, low: u64, left: u32, width: u32, d: u64) -
     let quotient = before.quotient;
     let rest = before.rest;
     let base = power_of_two(width);
-    let next = rest * base + (low >> left) % base;
+    let by = divide_word(rest * base + (low >> left) % base, d);
     Division {
-        quotient: quotient * base + next / d,
-        rest: next % d,
+        quotient: quotient * base + by.quotient,
+        rest: by.rest,
     }
 }
 

@@ -128,7 +128,7 @@ unfolding decimal
 space_decimal zero v p h = absurd (omega arith)
 space_decimal (suc n) v p h = ap (λ (l : List ℕ). l ++ ((48 + v % 10) ∷ [])) (space_leading n (v / 10) (omega arith))
 
-leading_decimal : (n v : ℕ) → 0 < v → leading_digits n v ≡ decimal n v
+pub leading_decimal : (n v : ℕ) → 0 < v → leading_digits n v ≡ decimal n v
 unfolding leading_digits decimal
 leading_decimal zero v h = refl
 leading_decimal (suc n) v h = rw (digit_shown v h)

@@ -39,7 +39,7 @@ fn digits_from(s: &[u8]) -> Option<u64>
 }
 
 // The number of a digit.
-fn digit_of(b: u8) -> Option<u64>
+pub fn digit_of(b: u8) -> Option<u64>
     ensures { MatchOption result (48 ≤ b → 57 < b) (λ d. (48 ≤ b) × ((b ≤ 57) × (d ≡ b - 48))) }
 {
     match b {

@@ -1,38 +1,90 @@
--- The numerator of K as the code makes it: two products, M being one of two differences; its quotient by 600,000 and then by V. Assumes nothing.
-use mathlib.Core.Path.{◌≡◌, sym, ◌∙◌}
+-- K in tenths of a cent, as the code makes it: 8U + LT, and a tenth of M over V and then over 6,000, each time rounded up. Assumes nothing.
+use mathlib.Core.Path.{◌≡◌, sym, ap, ◌∙◌}
 use mathlib.Core.List.{List}
-use Prim.Native.Nat.{ℕ, ◌+◌, ◌-◌, ◌*◌, ◌/◌, ◌<◌}
+use Prim.Native.Nat.{ℕ, ◌+◌, ◌-◌, ◌*◌, ◌/◌, ◌^◌, ◌≤◌, ◌<◌}
+use native.Mathlib.Nat.{mul-le-mul, mul-le-mul_left, le_of_mul-le-mul_left}
 use native.Mathlib.Omega.{arith}
 use lib.Dec.{leb}
 use Rattle.search.specs.Least.{least}
+use Rattle.search.proofs.LeastOf.{LeastOf, least_of, ceil_eq}
+use Rattle.search.proofs.Tests.{leb_same}
 use Rattle.guideline.specs.Sizes.{fineness}
-use Rattle.guideline.specs.Block.{AcceptedBlock, U, LT, Vh, fine_d, K, fine_numerator, requirement}
+use Rattle.guideline.specs.Block.{AcceptedBlock, U, LT, Vh, fine_d, K, M, fine_numerator, requirement}
 use Rattle.guideline.proofs.Bounds.{factored}
 use Rattle.guideline.proofs.Figures.{requirement_some, v_is, u_high, u_fits, fine_d_high, fine_d_third}
-use Rattle.division.proofs.Quotients.{up_twice}
 use Rattle.figures.specs.Parts.{FigureBounds}
 
--- what the numerator is over, but for V
+-- 60 × V is so many times V in cents, and 7V / 10 so many
 abbrev pub over_v : ℕ
-over_v = 60 * fineness * fineness
+over_v = 60 * fineness
+
+abbrev pub seven_tenths : ℕ
+seven_tenths = 7 * fineness / 10
+
+-- a tenth of M
+abbrev pub tenth_of_m : (v d : ℕ) → ℕ
+tenth_of_m v d = (3 * d - fineness * v) * (d - seven_tenths * v)
 
 module _ (u l d : ℕ) (s : FigureBounds u l d) where
   abbrev v : ℕ
   v = 2 * u - l
 
-  -- the two products are the numerator
-  pub numerator_is :
-      (p m : ℕ) → p ≡ fineness * v * (fineness * (48 * u + 6 * l)) → m ≡ (3 * d - fineness * v) * (10 * d - 7 * (fineness * v)) →
-      p + m ≡ fine_numerator u l v d
-  numerator_is p m e f = omega (arith, factored (fineness * v) d s.third)
+  m_is : M (fineness * v) d ≡ 10 * tenth_of_m v d
+  m_is =
+      let e : 10 * d - 7 * (fineness * v) ≡ 10 * (d - seven_tenths * v) = omega arith in
+      omega (arith, factored (fineness * v) d s.third, ap (λ (x : ℕ). (3 * d - fineness * v) * x) e)
 
-  -- the quotient as the two divisions have it
-  pub requirement_is : 0 < u → (n c : ℕ) → n ≡ fine_numerator u l v d → c ≡ (n + (over_v - 1)) / over_v → least (λ q. leb c (v * q)) ≡ requirement u l v d
-  requirement_is h n c e f =
-      (λ i. least (λ q. leb (f i) (v * q))) ∙ up_twice n over_v (omega arith) v ∙ (λ i. least (λ q. leb (e i) (over q i))) ∙ sym (requirement_some u l v d h)
-    where
-      over : (q : ℕ) → over_v * v * q ≡ 60 * (fineness * v * (fineness * q))
-      over q = omega arith
+  numerator_is : fine_numerator u l v d ≡ 10 * (over_v * (v * (8 * u + l)) + tenth_of_m v d)
+  numerator_is = omega (arith, m_is)
+
+  m_within : tenth_of_m v d ≤ v * (over_v * v)
+  m_within =
+      let h : 3 * d - fineness * v ≤ 200 * v = omega (arith, s.high) in
+      let k : d - seven_tenths * v ≤ 30 * v = omega (arith, s.high) in
+      omega (arith, mul-le-mul h k)
+
+  -- over V it fits a word
+  pub m_fits : tenth_of_m v d ≤ v * (2 ^ 64 - 1)
+  m_fits =
+      let h : over_v * v ≤ 2 ^ 64 - 1 = omega (arith, s.within, s.small) in
+      omega (arith, m_within, mul-le-mul_left v h)
+
+  -- q is a tenth of M over V, w what that is over 6,000
+  module _ (some : 0 < u) (q w : ℕ) (by_v : q ≡ least (λ x. leb (tenth_of_m v d) (v * x))) (up : q ≤ over_v * w) (near : over_v * w < q + over_v) where
+    law : LeastOf (tenth_of_m v d) (λ x. v * x) q
+    law = rw by_v (least_of (tenth_of_m v d) (λ x. v * x) (λ m k le. mul-le-mul_left v le) (over_v * v) (omega (arith, s.within, s.small)) m_within)
+
+    reached : (t : ℕ) → w ≤ t → tenth_of_m v d ≤ over_v * (v * t)
+    reached t h =
+        let k : q ≤ over_v * t = omega (arith, up) in
+        omega (arith, law.reaches, mul-le-mul_left v k)
+
+    first : (t : ℕ) → tenth_of_m v d ≤ over_v * (v * t) → w ≤ t
+    first t h = omega (arith, near, law.first (over_v * t) (omega (arith, h)))
+
+    pub tenths_within : w ≤ v
+    tenths_within = first v (omega (arith, m_within))
+
+    -- K's test in tenths of a cent
+    same : (k : ℕ) → leb (fine_numerator u l v d) (60 * (fineness * v * (fineness * k))) ≡ leb (8 * u + l + w) (10 * k)
+    same k = leb_same _ _ _ _ to from
+      where
+        to : fine_numerator u l v d ≤ 60 * (fineness * v * (fineness * k)) → 8 * u + l + w ≤ 10 * k
+        to h =
+            let b : 8 * u + l ≤ 10 * k = le_of_mul-le-mul_left {k = v} (omega (arith, h, numerator_is)) (omega (arith, some, s.within)) in
+            let t : ℕ = 10 * k - (8 * u + l) in
+            let e : 10 * k ≡ 8 * u + l + t = omega (arith, b) in
+            omega (arith, b, first t (omega (arith, h, numerator_is, ap (λ (x : ℕ). v * x) e)))
+
+        from : 8 * u + l + w ≤ 10 * k → fine_numerator u l v d ≤ 60 * (fineness * v * (fineness * k))
+        from h =
+            let t : ℕ = 10 * k - (8 * u + l) in
+            let e : 10 * k ≡ 8 * u + l + t = omega (arith, h) in
+            omega (arith, numerator_is, reached t (omega (arith, h)), ap (λ (x : ℕ). v * x) e)
+
+    pub requirement_is : (k : ℕ) → 8 * u + l + w ≤ 10 * k → 10 * k < 8 * u + l + w + 10 → k ≡ requirement u l v d
+    requirement_is k h r =
+        sym (requirement_some u l v d some ∙ (λ i. least (λ k. same k i)) ∙ ceil_eq (8 * u + l + w) 10 k (omega (arith, r, tenths_within, s.within, s.small)) h r)
 
 -- an accepted block's figures
 pub bounded : (b : List ℕ) → AcceptedBlock b → (u l d : ℕ) → u ≡ U b → l ≡ LT b → d ≡ fine_d b → FigureBounds u l d

@@ -14,8 +14,10 @@ use guideline::{Block, FINENESS};
 use root::Root;
 use wide::Wide;
 
-// K's numerator is over this and V: 600,000, as U, LT, V and K are taken in hundredths beside D.
-const OVER_V: u64 = 60 * FINENESS * FINENESS;
+// 60 × V in hundredths, as it is beside D, is so many times V in cents.
+const OVER_V: u64 = 60 * FINENESS;
+// And 7V / 10 so many times.
+const SEVEN_TENTHS: u64 = 7 * FINENESS / 10;
 
 // The reported figures of a block: I and D in half cents, the others in cents.
 #[derive(Clone, Copy, Default)]
@@ -132,8 +134,9 @@ fn level_and_trend(b: &Block) -> u64
     b.lt(1) + b.lt(2) + b.lt(3) + b.lt(4) + b.lt(5) + b.lt(6) + b.lt(7)
 }
 
-// K, in cents, with V = 2U − LT and d, the finer D; U, LT and V are taken in hundredths beside it. M is (3d − V) × (10d − 7V), the second factor
-// cut at 0: with V at most 3d no sign is needed. What the numerator is over passes a word, so it is divided twice, each time rounded up.
+// K, in cents, with V = 2U − LT and d, the finer D; V is taken in hundredths beside it. M is (3d − V) × (10d − 7V), the second factor cut at 0:
+// with V at most 3d no sign is needed. In tenths of a cent K is 8U + LT, in cents, and a tenth of M over 60 × V: a number of two words by v, a
+// quotient of one word by a constant and a sum by 10, each time rounded up.
 fn adjusted(u: u64, lt: u64, d: u64) -> u64
     requires { FigureBounds u lt d }
     ensures { result ≡ requirement u lt (2 * u - lt) d }
@@ -142,8 +145,7 @@ fn adjusted(u: u64, lt: u64, d: u64) -> u64
         return 0;
     }
     let v = 2 * u - lt;
-    let fine_v = FINENESS * v;
-    let m = Wide::product(3 * d - fine_v, amount::excess(10 * d, 7 * fine_v));
-    let numerator = Wide::product(fine_v, FINENESS * (48 * u + 6 * lt)) + m;
-    division::divide_up(division::quotient_up(numerator, OVER_V), v)
+    let tenth_of_m = Wide::product(3 * d - FINENESS * v, amount::excess(d, SEVEN_TENTHS * v));
+    let tenths = division::divide_up(tenth_of_m, v).div_ceil(OVER_V);
+    (8 * u + lt + tenths).div_ceil(10)
 }

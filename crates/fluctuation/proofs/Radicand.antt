@@ -36,6 +36,28 @@ module _ (c base q rest part : ℕ) (small : rest < base) (whole : q * base + re
   pub root_same : least (λ x. leb radicand (x * x)) ≡ least (λ x. leb (scale * (c * c)) (x * x * base))
   root_same = λ i. least (λ x. leb_same radicand (x * x) (scale * (c * c)) (x * x * base) (radicand_reached (x * x)) (radicand_within (x * x)) i)
 
+-- where the requirement is the base, c is the base times the second number, and the radicand is the base times 40,000 of its square
+module _ (second base : ℕ) (positive : 0 < base) where
+  abbrev pub own_radicand : ℕ
+  own_radicand = scale * (second * second) * base
+
+  abbrev own : ℕ
+  own = base * second
+
+  times_base : own_radicand * base ≡ scale * (own * own)
+  times_base = omega arith
+
+  own_reached : (m : ℕ) → own_radicand ≤ m → scale * (own * own) ≤ m * base
+  own_reached m h = omega (arith, times_base, mul-le-mul_right base h)
+
+  own_within : (m : ℕ) → scale * (own * own) ≤ m * base → own_radicand ≤ m
+  own_within m h =
+      let l : own_radicand < suc m = lt_of_mul-lt-mul_right base (omega (arith, times_base)) in
+      omega arith
+
+  pub own_root_same : least (λ x. leb own_radicand (x * x)) ≡ least (λ x. leb (scale * (own * own)) (x * x * base))
+  own_root_same = λ i. least (λ x. leb_same own_radicand (x * x) (scale * (own * own)) (x * x * base) (own_reached (x * x)) (own_within (x * x)) i)
+
 -- a number up to the square of 2 × 10^15 fits the root, and two words
 pub in_root : (n : ℕ) → n ≤ most_twentieths * most_twentieths → n < 2 ^ 124
 in_root n h = lt_of_le_of_lt h (lit< tt)

@@ -11,13 +11,17 @@ unfoldable pub factor_for : Row → (b face : ℕ) → Option Falling
 factor_for w b face =
     pick (ltb (100 * w.threshold) (base_of w b face)) (Some (record { 0 = w.first; 1 = w.second; 2 = base_of w b face })) None
 
+-- no second number is above that of critical illness
+abbrev pub most_second : ℕ
+most_second = 14722
+
 -- numbers and a base with which the factor is at most 1
 pub record Falls (first second base b : ℕ) : Type 0 where
   pub positive : 0 < base
   pub small : base ≤ limit
   pub amount : b ≤ limit
   pub first_small : first ≤ 20
-  pub second_small : second ≤ 14722
+  pub second_small : second ≤ most_second
   pub at_most_one : scale * (second * second) ≤ (20 - first) * (20 - first) * base
 
 -- an amount is below so many twentieths of a cent

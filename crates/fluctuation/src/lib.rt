@@ -2,12 +2,13 @@
 #![tactic(auto)]
 
 ghost use Rattle.std.specs.Prelude.{◌≡◌, ◌*◌, ◌≤◌, leb};
+ghost use Rattle.amount.specs.Amount.{limit};
 ghost use Rattle.search.specs.Least.{least};
 ghost use Rattle.fluctuation.specs.Rows.{row_count, row_of};
 ghost use Rattle.fluctuation.specs.Result.{scale, reaches, factored_requirement};
 ghost use Rattle.fluctuation.specs.Call.{stated, fluctuation_call};
 ghost use Rattle.fluctuation.specs.Accepted.{AcceptedFluctuation, FluctuationDemand};
-ghost use Rattle.fluctuation.specs.Parts.{factor_for, Falls, InReach};
+ghost use Rattle.fluctuation.specs.Parts.{factor_for, most_second, Falls, InReach};
 
 use refusal::{Place, Refusal, Rule};
 use wide::Wide;
@@ -108,13 +109,32 @@ fn reduced(factor: Falling, requirement: u64) -> u64
     ensures { result ≡ least (reaches factor.0 factor.1 factor.2 requirement) }
 {
     let Falling(first, second, base) = factor;
-    let over = over_root(requirement * second, base);
+    let over = over_root(requirement, second, base);
     (first * requirement + over).div_ceil(20)
 }
 
-// 20 × c over the root of the base in dollars, rounded up. The radicand is SCALE × c² over the base in cents, rounded up: c² is divided
-// first, so that two words hold it, and then what that leaves.
-fn over_root(c: u64, base: u64) -> u64
+// 20 × c over the root of the base in dollars, rounded up, for c = requirement × second.
+fn over_root(requirement: u64, second: u64, base: u64) -> u64
+    requires { (requirement ≤ limit) × (second ≤ most_second) × InReach (requirement * second) base }
+    ensures { result ≡ least (λ x. leb (scale * (requirement * second * (requirement * second))) (x * x * base)) }
+{
+    if base == requirement {
+        return over_own_root(second, base);
+    }
+    over_any_root(requirement * second, base)
+}
+
+// Where the base is the requirement, as in rows 1 to 6: c² over the base is then the base times the second number's square, and nothing is divided.
+fn over_own_root(second: u64, base: u64) -> u64
+    requires { (second ≤ most_second) × InReach (base * second) base }
+    ensures { result ≡ least (λ x. leb (scale * (base * second * (base * second))) (x * x * base)) }
+{
+    root::root_up(Wide::product(SCALE * (second * second), base))
+}
+
+// The same for any base. The radicand is SCALE × c² over the base in cents, rounded up: c² is divided first, so that two words hold it, and then
+// what that leaves.
+fn over_any_root(c: u64, base: u64) -> u64
     requires { InReach c base }
     ensures { result ≡ least (λ x. leb (scale * (c * c)) (x * x * base)) }
 {

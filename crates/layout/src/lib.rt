@@ -26,10 +26,10 @@ pub fn read_layout(s: &[u8; SHEET_LINE_BYTES]) -> Option<Numbers>
     if !separated(s) {
         return None;
     }
-    let block = field::read_field(&s[4..6])?;
-    let class = field::read_field(&s[7..9])?;
-    let first = field::read_field(&s[10..24])?;
-    let second = field::read_field(&s[25..39])?;
+    let block = line_fields::read_pair(s[4..6].as_array()?)?;
+    let class = line_fields::read_pair(s[7..9].as_array()?)?;
+    let first = line_fields::read_amount(s[10..24].as_array()?)?;
+    let second = line_fields::read_amount(s[25..39].as_array()?)?;
     Some(Numbers {
         block,
         class,

@@ -74,7 +74,7 @@ abbrev Amount : ℕ → Type 0
 Amount n = n ≤ limit
 
 module _ (f g : ℕ → ℕ) where
-  length_pairs : (n : ℕ) → length (pairs f g n) ≡ 2 * n
+  pub length_pairs : (n : ℕ) → length (pairs f g n) ≡ 2 * n
   unfolding pairs
   length_pairs zero = refl
   length_pairs (suc n) = simp (length-append, length_pairs n) (omega arith)

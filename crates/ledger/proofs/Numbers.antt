@@ -1,23 +1,25 @@
 -- The numbers that are taken off the tables: how a list of them is written pair by pair, and that for tables of entries they are the
 -- numbers of those entries. Assumes nothing.
-use mathlib.Core.Path.{◌≡◌, refl, ◌∙◌}
-use mathlib.Core.List.{List, append_assoc}
-use Prim.Native.Nat.{ℕ, zero, suc, ◌+◌, ◌*◌, ◌/◌, ◌%◌, ◌≤◌, ◌<◌}
+use borrow.Rule.Slice.PartMut.{put_mid}
+use mathlib.Core.Path.{◌≡◌, refl, sym, ap, ◌∙◌}
+use mathlib.Core.List.{List, ◌++◌, append_assoc, append-nil}
+use Prim.Native.Nat.{ℕ, zero, suc, ◌+◌, ◌-◌, ◌*◌, ◌/◌, ◌%◌, ◌≤◌, ◌<◌}
 use native.Mathlib.Numerals.{add-one}
 use native.Mathlib.Omega.{arith}
-use lib.ListN.{length, set}
+use lib.ListN.{length, get_or, set}
 use Rattle.search.specs.Each.{Each}
-use Rattle.search.proofs.Stretches.{Wrote, nothing, next, all_written}
-use Rattle.guideline.specs.Sizes.{blocks, block_numbers, volume_classes, volume_numbers, volume_pairs}
+use Rattle.search.proofs.Stretches.{Wrote, nothing, next, lent_part, all_written}
+use Rattle.guideline.specs.Sizes.{blocks, territories, block_numbers, volume_classes, territory_numbers, volume_numbers, volume_pairs}
 use Rattle.codes.specs.Codes.{risk_classes, other_classes, general_classes, range_of}
 use Rattle.sheet_line.specs.Rules.{AcceptedLine}
 use Rattle.codes.specs.declared.Code.{Code}
 use Rattle.codes.specs.declared.Code.TheVariants.{Rsk, Oth, Vol, Acq, Gen}
 use Rattle.sheet_line.specs.declared.Entry.{Entry}
 use Rattle.order.specs.Entries.{lookup, first_of, second_of}
-use Rattle.order.specs.Places.{table, tabled}
+use Rattle.order.specs.Places.{index_of, table, tabled}
 use Rattle.order.proofs.Indexes.{lookup_table}
-use Rattle.ledger.specs.Numbers.{pairs, block_by, volumes_by, joined_by, block_of, volumes_of, general_amount}
+use Rattle.ledger.proofs.Bounds.{length_pairs}
+use Rattle.ledger.specs.Numbers.{pairs, block_by, volumes_by, territory_by, joined_by, block_of, volumes_of, general_amount}
 
 -- ---- a list written pair by pair
 
@@ -47,11 +49,57 @@ block_written b firsts seconds h W e p q r =
     let W' = next (next (next (rw e at W.wrote) (tabled firsts Oth b 1) (omega arith)) (tabled firsts Oth b 2) (omega arith)) (tabled firsts Oth b 3) (omega arith) in
     rw (p, q, r) (all_written W' (omega arith) ∙ simp append_assoc)
 
--- a pair of a territory's class, joined
+-- the columns of a code's classes follow one another
+pub class_at : (l : List ℕ) (k : Code) (t c first : ℕ) → first ≡ index_of k t 1 → get_or l (first + c) 0 ≡ tabled l k t (c + 1)
+unfolding index_of
+class_at l k t c first e =
+    let at : first + c ≡ index_of k t (c + 1) = omega arith in
+    ap (λ (j : ℕ). get_or l j 0) at
+
+-- the numbers of pair j of all territories
+abbrev of_first : List ℕ → ℕ → ℕ
+of_first f j = tabled f Vol (j / volume_classes + 1) (j % volume_classes + 1)
+
+abbrev of_joined : List ℕ → List ℕ → ℕ → ℕ
+of_joined f s j = tabled s Vol (j / volume_classes + 1) (j % volume_classes + 1) + tabled f Acq (j / volume_classes + 1) (j % volume_classes + 1)
+
+-- the first j pairs of all territories are written
 abbrev pub Joined : List ℕ → List ℕ → List ℕ → ℕ → List ℕ → Type 0
-Joined firsts seconds =
-    Copied (λ j. tabled firsts Vol (j / volume_classes + 1) (j % volume_classes + 1))
-    (λ j. tabled seconds Vol (j / volume_classes + 1) (j % volume_classes + 1) + tabled firsts Acq (j / volume_classes + 1) (j % volume_classes + 1))
+Joined f s = Copied (of_first f) (of_joined f s)
+
+pairs_same : (f g f' g' : ℕ → ℕ) (n : ℕ) → ((i : ℕ) → i < n → f i ≡ f' i) → ((i : ℕ) → i < n → g i ≡ g' i) → pairs f g n ≡ pairs f' g' n
+unfolding pairs
+pairs_same f g f' g' zero p q = refl
+pairs_same f g f' g' (suc n) p q =
+    rw (pairs_same f g f' g' n (λ i h. p i (omega arith)) (λ i h. q i (omega arith)), p n (omega arith), q n (omega arith))
+
+pairs_add : (f g : ℕ → ℕ) (n m : ℕ) → pairs f g (n + m) ≡ pairs f g n ++ pairs (λ k. f (n + k)) (λ k. g (n + k)) m
+unfolding pairs
+pairs_add f g n zero = let z : n + 0 ≡ n = omega arith in rw z (sym (append-nil (pairs f g n)))
+pairs_add f g n (suc m) =
+    let e : n + suc m ≡ suc (n + m) = omega arith in
+    rw (e, pairs_add f g n m) (simp append_assoc)
+
+-- a territory's pairs are the eight of all that follow those of the territories before it
+territory_pairs : (f s : List ℕ) (i : ℕ)
+    → territory_by (tabled f) (tabled s) (i + 1) ≡ pairs (λ k. of_first f (volume_classes * i + k)) (λ k. of_joined f s (volume_classes * i + k)) volume_classes
+territory_pairs f s i =
+    pairs_same _ _ _ _ volume_classes (λ k l. rw (block k l, class k l)) (λ k l. rw (block k l, class k l))
+  where
+    block : (k : ℕ) → k < volume_classes → (volume_classes * i + k) / volume_classes + 1 ≡ i + 1
+    block k l = omega arith
+
+    class : (k : ℕ) → k < volume_classes → (volume_classes * i + k) % volume_classes + 1 ≡ k + 1
+    class k l = omega arith
+
+pub next_territory : (f s : List ℕ) {l₀ l ys : List ℕ} {i : ℕ} → Joined f s l₀ (volume_classes * i) l → length l₀ ≡ volume_numbers → i < territories
+    → ys ≡ territory_by (tabled f) (tabled s) (i + 1)
+    → Joined f s l₀ (volume_classes * (i + 1)) (put_mid (territory_numbers * i) (territory_numbers * i + territory_numbers - territory_numbers * i) l ys)
+next_territory f s {ys = ys} {i = i} W n h e =
+    let j : volume_classes * (i + 1) ≡ volume_classes * i + volume_classes = omega arith in
+    let at : 2 * (volume_classes * i) ≡ territory_numbers * i = omega arith in
+    let more : 2 * (volume_classes * i + volume_classes) ≡ territory_numbers * i + territory_numbers = omega arith in
+    record { wrote = rw (j, pairs_add, more, ← territory_pairs f s i, ← e) (lent_part (rw at at W.wrote) territory_numbers ys (omega arith) (rw e (length_pairs _ _ volume_classes))) }
 
 -- the pairs of all territories
 pub volumes_written : (firsts seconds : List ℕ) {l₀ l : List ℕ} {i : ℕ} → length l₀ ≡ volume_numbers → Joined firsts seconds l₀ i l → i ≡ volume_pairs
@@ -60,12 +108,6 @@ unfolding volumes_by
 volumes_written firsts seconds h W e = all_written (rw e at W.wrote) (omega arith)
 
 -- ---- the numbers of entries
-
-pairs_same : (f g f' g' : ℕ → ℕ) (n : ℕ) → ((i : ℕ) → i < n → f i ≡ f' i) → ((i : ℕ) → i < n → g i ≡ g' i) → pairs f g n ≡ pairs f' g' n
-unfolding pairs
-pairs_same f g f' g' zero p q = refl
-pairs_same f g f' g' (suc n) p q =
-    rw (pairs_same f g f' g' n (λ i h. p i (omega arith)) (λ i h. q i (omega arith)), p n (omega arith), q n (omega arith))
 
 -- where nothing was acquired, the volumes are those of the VOL lines
 pub none_acquired : (es : List Entry) → ((b c : ℕ) → lookup first_of es Acq b c ≡ 0) → volumes_of es ≡ volumes_by (lookup first_of es) (lookup second_of es)

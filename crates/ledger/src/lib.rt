@@ -3,15 +3,15 @@
 // First amounts, second amounts and marks have a table each, with a place for each code, block and class.
 #![tactic(auto)]
 
-ghost use Rattle.std.specs.Prelude.{◌≡◌, ◌≤◌};
+ghost use Rattle.std.specs.Prelude.{◌≡◌, ◌≤◌, length};
 ghost use Rattle.codes.specs.Codes.{general_classes, Key};
-ghost use Rattle.guideline.specs.Sizes.{blocks};
+ghost use Rattle.guideline.specs.Sizes.{blocks, territories, territory_numbers};
 ghost use Rattle.order.specs.Places.{tabled};
-ghost use Rattle.ledger.specs.Numbers.{block_by, joined_by};
+ghost use Rattle.ledger.specs.Numbers.{block_by, joined_by, territory_by};
 ghost use Rattle.ledger.specs.Tables.{HoldSome, JoinedFits};
 
 use codes::{Code, RISK_CLASSES};
-use guideline::{BLOCK_NUMBERS, VOLUME_CLASSES, VOLUME_NUMBERS, VOLUME_PAIRS};
+use guideline::{BLOCK_NUMBERS, TERRITORIES, TERRITORY_NUMBERS, VOLUME_CLASSES, VOLUME_NUMBERS};
 use order::PLACES;
 use refusal::Rule;
 use sheet_line::Entry;
@@ -182,15 +182,36 @@ pub fn volume_numbers(firsts: &[u64; PLACES], seconds: &[u64; PLACES]) -> [u64; 
     ensures { result ≡ joined_by (tabled firsts.now) (tabled seconds.now) }
 {
     let mut numbers = [0u64; VOLUME_NUMBERS];
-    for i in 0..VOLUME_PAIRS {
-        let territory = i / VOLUME_CLASSES + 1;
-        let class = i % VOLUME_CLASSES + 1;
-        let at = order::index_of(Code::Vol, territory, class);
-        let acquired = firsts[order::index_of(Code::Acq, territory, class)];
-        numbers[2 * i] = firsts[at];
-        numbers[2 * i + 1] = seconds[at] + acquired;
+    for i in 0..TERRITORIES {
+        let begin = TERRITORY_NUMBERS * i;
+        let pairs = &mut numbers[begin..begin + TERRITORY_NUMBERS];
+        territory_numbers(firsts, seconds, i + 1, pairs);
     }
     numbers
+}
+
+// The eight pairs of a territory, into its own stretch of the numbers. The columns of a code's classes follow one another, so that two indexes serve
+// all eight. The compiler unrolls the loop.
+// Kept: not inlined. With the unrolled stores in its caller the compiler clears and copies the 256 numbers at each function that hands them on.
+#[tactic(auto, unfolding(order::specs::Places::index_of))]
+#[inline(never)]
+fn territory_numbers(
+    firsts: &[u64; PLACES],
+    seconds: &[u64; PLACES],
+    territory: usize,
+    numbers: &mut [u64],
+)
+    requires range { (1 ≤ territory) × (territory ≤ territories) }
+    requires fits { JoinedFits firsts.now seconds.now }
+    requires room { length numbers.old ≡ territory_numbers }
+    ensures { numbers.new ≡ territory_by (tabled firsts.now) (tabled seconds.now) territory }
+{
+    let current = order::index_of(Code::Vol, territory, 1);
+    let acquired = order::index_of(Code::Acq, territory, 1);
+    for k in 0..VOLUME_CLASSES {
+        numbers[2 * k] = firsts[current + k];
+        numbers[2 * k + 1] = seconds[current + k] + firsts[acquired + k];
+    }
 }
 
 // The amount of a GEN line.

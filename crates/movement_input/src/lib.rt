@@ -6,9 +6,7 @@ ghost use Rattle.search.specs.First.{FoundAt};
 ghost use Rattle.movement_input.specs.Reading.{input_lines, amount_of, lines_kept, number_at, block_of};
 
 use guideline::BLOCK_NUMBERS;
-
-// The columns of an amount.
-const AMOUNT_COLUMNS: usize = 14;
+use line_fields::AMOUNT_COLUMNS;
 
 // They and the line feed.
 const INPUT_LINE_BYTES: usize = AMOUNT_COLUMNS + 1;
@@ -56,5 +54,5 @@ fn read_amount(line: &[u8; INPUT_LINE_BYTES]) -> Option<u64>
     if line[AMOUNT_COLUMNS] != b'\n' {
         return None;
     }
-    field::read_field(&line[0..AMOUNT_COLUMNS])
+    line_fields::read_amount(line[0..AMOUNT_COLUMNS].as_array()?)
 }

@@ -68,10 +68,15 @@ fn business(volumes: &[u64]) -> u64
 }
 
 // A class in a territory, over 50,000. The excess over 120 % of the prior volume is in fifths, so that none is lost.
+// A class without current volume has no charge. It is tested first, since an absent line means zeros and most territories of a small society have
+// no line.
 fn charge(factor: u64, current: u64, prior: u64) -> u64
     requires { (factor ≤ largest_factor) × (current ≤ limit) × (prior ≤ 2 * limit) }
     ensures { result ≡ factor * (5 * current + (5 * current - 6 * prior)) }
 {
+    if current == 0 {
+        return 0;
+    }
     factor * (5 * current + amount::excess(5 * current, 6 * prior))
 }
 

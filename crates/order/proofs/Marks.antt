@@ -2,20 +2,22 @@
 use mathlib.Core.Path.{◌≡◌, refl, sym, ap, ◌∙◌}
 use mathlib.Core.Logic.{◌⊎◌, inl, inr}
 use mathlib.Core.List.{List, [], ◌∷◌}
-use mathlib.Core.Bool.{Bool, true, false, beq}
-use Prim.Native.Nat.{ℕ, suc, ◌+◌, ◌-◌, ◌≤◌, ◌<◌}
+use mathlib.Core.Bool.{Bool, true, false, ◌||◌}
+use Prim.Native.Nat.{ℕ, zero, suc, ◌+◌, ◌-◌, ◌≤◌, ◌<◌}
 use native.Mathlib.Decide.{ℕ_discrete}
+use native.Mathlib.Nat.{add-sub_cancel_left}
+use native.Mathlib.Numerals.{add-one}
 use native.Mathlib.Omega.{arith}
 use lib.Dec.{eqb, ltb}
-use lib.ListN.{length, get_or, set, take, drop, replicate, length-set, length-replicate, length-drop, get_or-replicate}
-use lib.Seq.{get_or-set_same, get_or-set_other, get_or-take, get_or-drop, length-take-le}
-use Rattle.std.specs.List.{IsAnyAnswer}
+use lib.ListN.{length, set, take, drop, replicate, length-set, length-replicate, length-drop, get_or-replicate}
+use lib.Seq.{get_or-set_same, get_or-set_other, get_or-drop}
+use Rattle.std.specs.List.{fold}
+use Rattle.std.proofs.lemmas.List.Sums.{fold_more}
 use Rattle.search.specs.Pick.{pick}
 use Rattle.search.specs.Each.{Each}
 use Rattle.search.specs.First.{any_to}
 use Rattle.search.proofs.Picks.{if_true, if_false, if_eq, if_ne}
 use Rattle.search.proofs.Anys.{one_of, none_of, any_same}
-use Rattle.search.proofs.Ranges.{any_item}
 use Rattle.guideline.specs.Sizes.{blocks}
 use Rattle.codes.specs.Codes.{range_of, Key}
 use Rattle.sheet_line.specs.Rules.{AcceptedLine}
@@ -64,24 +66,25 @@ module _ (m : List Bool) (p b : ℕ) where
   any_out o =
       any_same _ _ block_places (λ c l h. get_or-set_other m p (index_of Rsk b c) true false (λ q. o (omega arith) (omega arith)))
 
--- `contains` tells whether a part of a table has a mark: that of a block's row
-pub row_marked : (m : List Bool) (b : ℕ) {row : ℕ} {r : Bool} → row ≡ index_of Rsk b 1 → row + block_places ≤ length m
-    → IsAnyAnswer (λ y t. beq y true ≡ t) (take (row + block_places - row) (drop row m)) r → r ≡ block_marked m b
-unfolding index_of
-row_marked m b {row} {r} e h a =
-    let s : row + block_places - row ≡ block_places = omega arith in
-    let part = take block_places (drop row m) in
-    let n : length part ≡ block_places = length-take-le block_places (drop row m) (rw length-drop (omega arith)) in
-    any_item false (λ y. beq y true) (has_mark m Rsk b) part
-    (λ k l.
-    let i : index_of Rsk b (suc k) ≡ row + k = omega arith in
-    let c : k < block_places = omega (arith, l, n) in
-    ap (λ (j : ℕ). get_or m j false) i ∙ sym (get_or-take block_places (drop row m) k false c ∙ get_or-drop row m k false) ∙ sym (is_true _)) r (rw s at a)
-    ∙ ap (any_to (has_mark m Rsk b)) n
-  where
-    is_true : (y : Bool) → beq y true ≡ y
-    is_true true = refl
-    is_true false = refl
+or_pick : (s t : Bool) → (s || t) ≡ pick s true t
+unfolding pick
+or_pick true t = refl
+or_pick false t = refl
+
+-- the first n marks of a block's row, joined one after the other
+columns_marked : (m : List Bool) (b row n : ℕ) → row ≡ index_of Rsk b 1 → row + n ≤ length m
+    → fold (λ any y. any || y) false (take n (drop row m)) ≡ any_to (has_mark m Rsk b) n
+unfolding any_to index_of
+columns_marked m b row zero e h = refl
+columns_marked m b row (suc n) e h =
+    let i : index_of Rsk b (suc n) ≡ row + n = omega arith in
+    let l : n < length (drop row m) = rw length-drop (omega arith) in
+    rw (add-one n, columns_marked m b row n e (omega arith), get_or-drop row m n false, ← i) at (fold_more (λ any y. any || y) false (drop row m) n false l)
+    ∙ or_pick (any_to (has_mark m Rsk b) n) (has_mark m Rsk b (suc n))
+
+pub row_marked : (m : List Bool) (b : ℕ) {row : ℕ} → row ≡ index_of Rsk b 1 → row + block_places ≤ length m
+    → fold (λ any y. any || y) false (take (row + block_places - row) (drop row m)) ≡ block_marked m b
+row_marked m b {row} e h = rw (add-sub_cancel_left row block_places) (columns_marked m b row block_places e h)
 
 -- ---- the lines of a block's row
 

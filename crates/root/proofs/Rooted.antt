@@ -2,7 +2,7 @@
 use mathlib.Core.Path.{◌≡◌, sym, ap, ◌∙◌}
 use mathlib.Core.Bool.{true, false}
 use Prim.Native.Nat.{ℕ, suc, ◌+◌, ◌-◌, ◌*◌, ◌/◌, ◌%◌, ◌^◌, ◌≤◌, ◌<◌}
-use native.Mathlib.Nat.{pow-succ', div-le_self, div-div-eq-div-mul, div-eq_of_lt, div-one, mod-eq_of_lt, mul_comm}
+use native.Mathlib.Nat.{pow-succ', div-le_self, div-div-eq-div-mul, div-eq_of_lt, div-one, mod-lt, mod-eq_of_lt, mul_comm}
 use native.Mathlib.Omega.{arith}
 use lib.Dec.{leb}
 use borrow.Author.Tests.{leb-true, leb-false}
@@ -13,7 +13,7 @@ use Rattle.search.proofs.Picks.{by_test}
 use Rattle.search.proofs.Roots.{lt_of_squares}
 use Rattle.root.specs.Steps.{steps, leading, After}
 use Rattle.root.proofs.Lengths.{has_digits, few_steps}
-use Rattle.root.proofs.Windows.{brought}
+use Rattle.root.proofs.Windows.{pos4, start_fits, brought}
 use Rattle.root.proofs.Floors.{floor_root, floor_is}
 
 -- one binary digit t more: the root is 2r + t, and t times the next odd number is taken off what is left with the digits brought down
@@ -53,6 +53,13 @@ module _ (n : ℕ) (fits : n < 2 ^ 124) where
   leading_small j = omega (arith, div-le_self n (4 ^ (steps n - j)))
 
   module _ (j w r s : ℕ) (a : After n j w r s) where
+    -- the digits that are not yet brought down leave the window's two upper ones free
+    pub window_small : w < 2 ^ 126
+    window_small =
+        let m = steps n - j in
+        let f = few in
+        rw a.to_come (start_fits (n % 4 ^ m) m (63 - m) (mod-lt n (pos4 m)) (omega arith))
+
     -- what is left of the leading digits is at most twice the root
     pub small : s ≤ 2 * r
     small =
@@ -60,7 +67,7 @@ module _ (n : ℕ) (fits : n < 2 ^ 124) where
         omega (arith, a.remains)
 
   -- before the first step nothing is brought down
-  pub at_start : (w : ℕ) → w ≡ n * 4 ^ (64 - steps n) → After n 0 w 0 0
+  pub at_start : (w : ℕ) → w ≡ n * 4 ^ (63 - steps n) → After n 0 w 0 0
   at_start w e =
       let whole : steps n - 0 ≡ steps n = omega arith in
       let k : n < 4 ^ (steps n - 0) = rw whole (has_digits n).no_more in
@@ -77,16 +84,16 @@ module _ (n : ℕ) (fits : n < 2 ^ 124) where
       let e : n / 4 ^ m / 4 ≡ n / 4 ^ suc m = div-div-eq-div-mul n (4 ^ m) 4 ∙ ap (λ (x : ℕ). n / x) (mul_comm (4 ^ m) 4 ∙ sym (pow-succ' 4 m)) in
       omega arith
 
-  -- one step: q, the two digits that leave at the top, are brought down, and one binary digit of the root is fixed
+  -- one step: q, the two digits that leave the window, are brought down, and one binary digit of the root is fixed
   pub step :
-      (j w r s q w' r' s' : ℕ) → j < steps n → After n j w r s → w' < 2 ^ 128 → w' + q * 2 ^ 128 ≡ 4 * w →
+      (j w r s q w' r' s' : ℕ) → j < steps n → After n j w r s → w' < 2 ^ 126 → w' + q * 2 ^ 126 ≡ 4 * w →
       r' * r' + s' ≡ 4 * (r * r + s) + q → s' ≤ 2 * r' → After n (j + 1) w' r' s'
   step j w r s q w' r' s' h a fit down square small' =
       let m = steps n - (j + 1) in
       let e : steps n - j ≡ suc m = omega arith in
       let f = few in
-      let d = brought n m (64 - suc m) w q w' (omega arith) (rw e at a.to_come) fit down in
-      let z : suc (64 - suc m) ≡ 64 - m = omega arith in
+      let d = brought n m (63 - suc m) w q w' (omega arith) (rw e at a.to_come) fit down in
+      let z : suc (63 - suc m) ≡ 63 - m = omega arith in
       let k : r' * r' + s' ≡ leading n (j + 1) = omega (arith, one_more m, rw e at a.remains, d.0) in
       record {
         held = floor_is (leading n (j + 1)) r' (leading_small (j + 1)) (omega arith) (omega arith);

@@ -42,15 +42,15 @@ pub record FloorRoot (m r : ℕ) : Type 0 where
 abbrev pub held_after : (n j : ℕ) → ℕ
 held_after n j = root_down (leading n j)
 
--- what is held after step j: the value, what its square leaves of the leading digits, and the digits that are not yet brought down, at the top
--- of two words
+-- what is held after step j: the value, what its square leaves of the leading digits, and the digits that are not yet brought down, in two words,
+-- two binary digits below the top
 pub record After (n j window root rest : ℕ) : Type 0 where
   pub held : root ≡ held_after n j
   pub remains : root * root + rest ≡ leading n j
-  pub to_come : window ≡ n % 4 ^ (steps n - j) * 4 ^ (64 - (steps n - j))
+  pub to_come : window ≡ n % 4 ^ (steps n - j) * 4 ^ (63 - (steps n - j))
 
--- two words that hold a radicand of at most 124 binary digits, its padded length at the top
+-- two words that hold a radicand of at most 124 binary digits, its padded length two binary digits below the top
 pub record Aligned (n count window : ℕ) : Type 0 where
   pub count_is : count ≡ steps n
-  pub at_top : window ≡ n * 4 ^ (64 - count)
+  pub at_top : window ≡ n * 4 ^ (63 - count)
   pub fits : n < 2 ^ 124

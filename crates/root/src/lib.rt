@@ -9,6 +9,9 @@ ghost use Rattle.root.specs.Steps.{steps, After};
 
 use wide::Wide;
 
+// 2^60: the place, in the window's upper word, of the two digits that are brought down next.
+const PLACE_OF_DIGITS: u64 = 1152921504606846976;
+
 // A root and the steps that it took.
 #[derive(Clone, Copy)]
 pub struct Root {
@@ -64,7 +67,7 @@ struct Held {
 
 // One step, of whatever radicand n: from what is held after step j to what is held after step j + 1.
 fn step(window: Wide, root: u64, rest: u64) -> Held
-    requires { (rest ≤ 2 * root) × (root < 2 ^ 61) }
+    requires { (rest ≤ 2 * root) × (root < 2 ^ 61) × (window.high < 2 ^ 62) }
     ensures { (n j : ℕ) → n < 2 ^ 124 → j < steps n → After n j (value window) root rest → After n (j + 1) (value result.window) result.root result.rest }
 {
     let digits = top_digits(window);
@@ -106,42 +109,45 @@ fn one_if_within(odd: u64, next: u64) -> u64
     u64::from(odd <= next)
 }
 
-// The two binary digits at the top of the window, which are brought down next.
+// The two binary digits that are brought down next. They stand two below the top of the window: with them at the top, the compiler makes
+// `4 * rest + digits` one shift across two words, the rest and the window's upper word. That takes longer, and each step waits on the rest.
 fn top_digits(window: Wide) -> u64
-    ensures { (result ≡ window.high / 2 ^ 62) × (result < 4) }
+    requires { window.high < 2 ^ 62 }
+    ensures { (result ≡ window.high / 2 ^ 60) × (result < 4) }
 {
     let high = window.high;
-    high >> 62
+    high >> 60
 }
 
-// The window moved up by two binary digits: two cross from the lower word into the upper one, and two leave at the top.
+// The window without these two digits, moved up by two: two cross from the lower word into the upper one.
 fn bring_down(window: Wide) -> Wide
-    ensures { value result + window.high / 2 ^ 62 * 2 ^ 128 ≡ 4 * value window }
+    ensures moved { value result + window.high / 2 ^ 60 * 2 ^ 126 ≡ 4 * value window }
+    ensures free { result.high < 2 ^ 62 }
 {
     let high = window.high;
     let low = window.low;
     Wide {
-        high: (high << 2) + (low >> 62),
+        high: ((high % PLACE_OF_DIGITS) << 2) + (low >> 62),
         low: low << 2,
     }
 }
 
-// The starting place: n moved up by its leading zeros, an even number of them, so that its padded length stands at the top.
+// The starting place: n moved up by an even number of its leading zeros, so that its padded length stands two binary digits below the top.
 fn aligned(n: Wide, count: u32) -> Wide
     requires { (0 < count) × (count ≤ 62) × (value n < 4 ^ count) }
-    ensures { value result ≡ value n * 4 ^ (64 - count) }
+    ensures { value result ≡ value n * 4 ^ (63 - count) }
 {
     let high = n.high;
     let low = n.low;
-    if count <= 32 {
+    if count <= 31 {
         Wide {
-            high: low << (64 - 2 * count),
+            high: low << (62 - 2 * count),
             low: 0,
         }
     } else {
         Wide {
-            high: (high << (128 - 2 * count)) + (low >> (2 * count - 64)),
-            low: low << (128 - 2 * count),
+            high: (high << (126 - 2 * count)) + (low >> (2 * count - 62)),
+            low: low << (126 - 2 * count),
         }
     }
 }

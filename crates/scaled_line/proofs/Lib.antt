@@ -2,3 +2,5 @@
 pub mod Small
 pub mod Scaled
 pub mod Lines
+pub mod Moves
+pub mod Stored

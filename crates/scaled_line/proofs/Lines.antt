@@ -1,14 +1,12 @@
--- A line of either sort is read and printed, each undoing the other; what is written for it in the other sort; the rules that it is refused by.
--- Assumes nothing.
+-- A line of either sort is read and printed, each undoing the other; the rules that it is refused by. Assumes nothing.
 use Rattle.std.specs.Prelude.{Result, Ok, Err}
-use mathlib.Core.Path.{◌≡◌, refl, ap, ◌∙◌, subst}
-use mathlib.Core.List.{List, map}
+use mathlib.Core.Path.{◌≡◌, refl, subst}
+use mathlib.Core.List.{List}
 use Prim.Native.Nat.{ℕ}
-use lib.ListN.{length, take}
+use lib.ListN.{length}
 use Rattle.search.proofs.Picks.{by_test, never}
 use Rattle.refusal.specs.Outcome.{rule_number, Judging, judging}
-use Rattle.layout.specs.Columns.{sheet_line_bytes, lettered}
-use Rattle.layout.specs.declared.Numbers.{Numbers}
+use Rattle.layout.specs.Columns.{sheet_line_bytes}
 use Rattle.layout.proofs.Laid.{length_lettered}
 use Rattle.sheet_line.specs.Line.{numbers_of}
 use Rattle.sheet_line.specs.Rules.{AcceptedLine}
@@ -17,12 +15,11 @@ use Rattle.sheet_line.specs.declared.Entry.{Entry}
 use Rattle.sheet_line.proofs.Accepted.{line_good}
 use Rattle.sheet_line.proofs.Printed.{parse_print, print_parsed}
 use Rattle.sheet_line.proofs.Refusals.{line_judging}
-use Rattle.scaled_line.specs.Scale.{other, letters_in, raised, parse_in, print_in}
-use Rattle.scaled_line.specs.Amounts.{barred_by, rule20or21, convertible, rescaled}
-use Rattle.scaled_line.specs.Other.{other_letter, other_over}
+use Rattle.scaled_line.specs.Scale.{letters_in, raised, parse_in, print_in}
+use Rattle.scaled_line.specs.Amounts.{barred_by, rule20or21, convertible}
 use Rattle.scaled_line.specs.declared.Scale.{Scale}
 use Rattle.scaled_line.specs.declared.Scale.TheVariants.{Cents, Thousands}
-use Rattle.scaled_line.proofs.Small.{letters_first, three_in, letters_turned, length_raised, small_printed, small_read}
+use Rattle.scaled_line.proofs.Small.{three_in, length_raised, small_printed, small_read}
 
 -- ---- read and printed
 
@@ -40,21 +37,6 @@ line_parsed Thousands e a = small_read e a
 
 pub length_in_lem : (d : Scale) (e : Entry) → length (print_in d e) ≡ sheet_line_bytes
 length_in_lem d e = length_lettered (letters_in d e.code) (three_in d e.code) (numbers_of e)
-
--- ---- written in the other sort
-
-module _ (d : Scale) (s : List ℕ) {e : Entry} (q : parse_in d s ≡ Ok e) where
-  -- its letters are those of its code
-  letters_other : length s ≡ sheet_line_bytes → map (other_letter d) (take 3 s) ≡ letters_in (other d) e.code
-  letters_other h =
-      let k = e.code in
-      ap (λ (t : List ℕ). map (other_letter d) (take 3 t)) (line_printed d s h e q)
-      ∙ ap (map (other_letter d)) (letters_first (letters_in d k) (three_in d k) (numbers_of e))
-      ∙ letters_turned d k
-
-  pub line_other : length s ≡ sheet_line_bytes → (out : List ℕ) {w out' : List ℕ} {n : Numbers} → w ≡ map (other_letter d) (take 3 s)
-      → n ≡ numbers_of (rescaled d e) → out' ≡ lettered w n → out' ≡ other_over d (parse_in d s) out
-  line_other h out x y z = rw q (z ∙ (λ i. lettered ((x ∙ letters_other h) i) (y i)))
 
 -- ---- the rules that a line is refused by
 

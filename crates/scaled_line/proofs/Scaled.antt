@@ -19,7 +19,7 @@ use Rattle.scaled_line.specs.declared.Scale.TheVariants.{Cents, Thousands}
 -- ---- one amount
 
 -- an amount that the other sort can have
-abbrev Fits : Scale → ℕ → Type 0
+abbrev pub Fits : Scale → ℕ → Type 0
 Fits Cents n = n % thousand_dollars ≡ 0
 Fits Thousands n = n * thousand_dollars ≤ limit
 
@@ -31,7 +31,7 @@ other_most : (d : Scale) (n : ℕ) → n ≤ limit → Fits d n → in_other d n
 other_most Cents n h f = omega arith
 other_most Thousands n h f = omega arith
 
-other_none : (d : Scale) (n : ℕ) → n ≡ 0 → in_other d n ≡ 0
+pub other_none : (d : Scale) (n : ℕ) → n ≡ 0 → in_other d n ≡ 0
 other_none Cents n h = omega arith
 other_none Thousands n h = omega arith
 

@@ -1,29 +1,29 @@
--- Lines in small letters: raising and lowering undo each other on the letters of a code, so reading such a line and printing an entry so do too.
--- Assumes nothing.
+-- Lines in small letters: raising and lowering undo each other on the letters of a code, so reading such a line and printing an entry so do too; and
+-- such a line is read by its columns as they stand and its letters as capitals. Assumes nothing.
 use Rattle.std.specs.Prelude.{Ok}
 use mathlib.Core.Path.{◌≡◌, refl, sym, ap, ◌∙◌}
 use mathlib.Core.List.{List, [], ◌∷◌, ◌++◌, map}
 use Prim.Native.Nat.{ℕ, suc, ◌+◌, ◌-◌, ◌≤◌, ◌<◌}
 use native.Mathlib.Decide.{dec_le}
 use native.Mathlib.Omega.{arith}
-use lib.ListN.{length, get_or, set, take, drop, take-append-drop, length-append, length-map, length-drop}
+use lib.ListN.{length, get_or, take, drop, take-append-drop, length-append, length-map, length-drop}
 use lib.Seq.{length-take-le, take_at, drop_at}
 use Rattle.search.specs.Pick.{pick}
 use Rattle.search.specs.Each.{Each}
 use Rattle.search.proofs.Picks.{if_lt, if_ge}
 use Rattle.search.proofs.Values.{values, is_values}
 use Rattle.field.specs.Field.{leading_digits, decimal}
-use Rattle.codes.specs.Codes.{letters_of}
+use Rattle.codes.specs.Codes.{letters_of, is_code, code_among, code_of}
 use Rattle.codes.specs.declared.Code.{Code}
 use Rattle.codes.specs.declared.Code.TheVariants.{Rsk, Oth, Mor, Vol, Acq, Gen, Crd}
-use Rattle.layout.specs.Columns.{sheet_line_bytes, lettered}
+use Rattle.layout.specs.Columns.{sheet_line_bytes, spaced, layout_of, lettered}
 use Rattle.layout.specs.declared.Numbers.{Numbers}
 use Rattle.sheet_line.specs.Line.{numbers_of, print_line}
-use Rattle.sheet_line.specs.Rules.{parse_line, AcceptedLine}
+use Rattle.sheet_line.specs.Rules.{rule3, parse_line, AcceptedLine}
 use Rattle.sheet_line.specs.declared.Entry.{Entry}
 use Rattle.sheet_line.proofs.Printed.{three_letters, parse_print, print_parsed}
-use Rattle.scaled_line.specs.Scale.{other, raise, lower, letters_in, raised, print_in}
-use Rattle.scaled_line.specs.Other.{other_letter}
+use Rattle.scaled_line.specs.Scale.{other, raise, lower, letters_in, capital, raised, parse_in, print_in}
+use Rattle.scaled_line.specs.Moved.{other_case}
 use Rattle.scaled_line.specs.declared.Scale.{Scale}
 use Rattle.scaled_line.specs.declared.Scale.TheVariants.{Cents, Thousands}
 
@@ -56,9 +56,22 @@ raise_lower Gen = refl
 raise_lower Crd = refl
 
 -- a code's letters of one sort in the other
-pub letters_turned : (d : Scale) (k : Code) → map (other_letter d) (letters_in d k) ≡ letters_in (other d) k
-letters_turned Cents k = refl
-letters_turned Thousands k = raise_lower k
+pub letters_turned : (d : Scale) (k : Code) → map other_case (letters_in d k) ≡ letters_in (other d) k
+unfolding lower pick
+letters_turned Cents Rsk = refl
+letters_turned Cents Oth = refl
+letters_turned Cents Mor = refl
+letters_turned Cents Vol = refl
+letters_turned Cents Acq = refl
+letters_turned Cents Gen = refl
+letters_turned Cents Crd = refl
+letters_turned Thousands Rsk = refl
+letters_turned Thousands Oth = refl
+letters_turned Thousands Mor = refl
+letters_turned Thousands Vol = refl
+letters_turned Thousands Acq = refl
+letters_turned Thousands Gen = refl
+letters_turned Thousands Crd = refl
 
 -- from A to Z
 abbrev pub Capital : ℕ → Type 0
@@ -143,12 +156,31 @@ small_read e a =
     ap parse_line (ap (λ (v : List ℕ). v ++ drop 3 (lettered w n)) r ∙ relettered w (three_in Thousands k) n (letters_of k) (three_in Cents k))
     ∙ parse_print e a
 
--- ---- a line that is stored over with its raised letters
+-- ---- a line read by its columns, and by its letters as capitals
 
-pub letters_raised : (s : List ℕ) → 3 ≤ length s
-    → set (set (set s 0 (raise (get_or s 0 0))) 1 (raise (get_or s 1 0))) 2 (raise (get_or s 2 0)) ≡ raised s
-unfolding raised
-letters_raised [] h = absurd (omega arith)
-letters_raised (a ∷ []) h = absurd (omega arith)
-letters_raised (a ∷ b ∷ []) h = absurd (omega arith)
-letters_raised (a ∷ b ∷ c ∷ s) h = refl
+-- raising the letters leaves the columns behind them
+pub layout_raised : (s : List ℕ) → layout_of (raised s) ≡ layout_of s
+unfolding layout_of spaced raised
+layout_raised [] = refl
+layout_raised (a ∷ []) = refl
+layout_raised (a ∷ b ∷ []) = refl
+layout_raised (a ∷ b ∷ c ∷ s) = refl
+
+code_raised : (s : List ℕ) → code_of (map raise (take 3 s)) ≡ code_of (raised s)
+unfolding code_among is_code raised
+code_raised [] = refl
+code_raised (a ∷ []) = refl
+code_raised (a ∷ b ∷ []) = refl
+code_raised (a ∷ b ∷ c ∷ s) = refl
+
+code_kept : (s : List ℕ) → code_of (map (capital Cents) (take 3 s)) ≡ code_of s
+unfolding code_among is_code
+code_kept [] = refl
+code_kept (a ∷ []) = refl
+code_kept (a ∷ b ∷ []) = refl
+code_kept (a ∷ b ∷ c ∷ s) = refl
+
+pub read_by : (d : Scale) (s : List ℕ) → rule3 (layout_of s) (code_of (map (capital d) (take 3 s))) ≡ parse_in d s
+unfolding parse_line
+read_by Cents s = ap (rule3 (layout_of s)) (code_kept s)
+read_by Thousands s = λ i. rule3 (sym (layout_raised s) i) (code_raised s i)

@@ -2,3 +2,4 @@
 pub mod Scale
 pub mod Amounts
 pub mod Other
+pub mod Moved

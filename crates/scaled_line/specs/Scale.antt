@@ -28,6 +28,11 @@ raise b = pick (ltb b 97) 0 (pick (ltb 122 b) 0 (b - 32))
 unfoldable pub lower : ℕ → ℕ
 lower b = pick (ltb b 65) 0 (pick (ltb 90 b) 0 (b + 32))
 
+-- a letter of a sheet of this sort as a capital
+abbrev pub capital : Scale → ℕ → ℕ
+capital Cents b = b
+capital Thousands b = raise b
+
 -- a code's letters in a sheet of this sort
 abbrev pub letters_in : Scale → Code → List ℕ
 letters_in Cents k = letters_of k

@@ -1,12 +1,9 @@
-// The amounts of a line in the two sorts of sheet: rules 20 and 21, and what is written.
-ghost use Rattle.std.specs.Prelude.{◌≡◌, ◌≤◌};
-ghost use Rattle.amount.specs.Amount.{limit};
-ghost use Rattle.sheet_line.specs.Line.{numbers_of};
-ghost use Rattle.scaled_line.specs.Amounts.{of_scalar, barred, barred_by, has_barred, convertible, amount_of, rescaled};
+// The amounts of a line in the two sorts of sheet: rules 20 and 21.
+ghost use Rattle.std.specs.Prelude.{◌≡◌};
+ghost use Rattle.scaled_line.specs.Amounts.{of_scalar, barred, barred_by, has_barred, convertible};
 
 use super::Scale;
 use amount::LARGEST_AMOUNT;
-use layout::Numbers;
 use refusal::Rule;
 use sheet_line::Entry;
 
@@ -54,34 +51,6 @@ impl Scale {
         match self {
             Scale::Cents => amount % THOUSAND_DOLLARS != 0,
             Scale::Thousands => MOST_THOUSANDS < amount,
-        }
-    }
-
-    // The numbers of an entry in the other sort of sheet.
-    pub(crate) fn rescaled(self, e: Entry) -> Numbers
-        requires { (e.first ≤ limit) × (e.second ≤ limit) }
-        ensures { result ≡ numbers_of (rescaled self e) }
-    {
-        Numbers {
-            block: e.block,
-            class: e.class,
-            first: self.amount_of(e, e.first),
-            second: self.amount_of(e, e.second),
-        }
-    }
-
-    // An amount of an entry in the other sort: the scalar's line keeps its number.
-    #[tactic(auto, unfolding(crate::specs::Amounts::amount_of, search::specs::Pick::pick))]
-    fn amount_of(self, e: Entry, amount: u64) -> u64
-        requires { amount ≤ limit }
-        ensures { result ≡ amount_of self e amount }
-    {
-        if of_scalar(e) {
-            return amount;
-        }
-        match self {
-            Scale::Cents => amount / THOUSAND_DOLLARS,
-            Scale::Thousands => amount * THOUSAND_DOLLARS,
         }
     }
 }

@@ -1,10 +1,13 @@
 // The letters of the two sorts of sheet: capital ones where amounts are cents, small ones where they are thousands.
 ghost use Rattle.std.specs.Prelude.{◌≡◌, map, take};
-ghost use Rattle.scaled_line.specs.Scale.{raise, lower, scale_of, raised};
-ghost use Rattle.scaled_line.specs.Other.{other_letter};
+ghost use Rattle.scaled_line.specs.Scale.{raise, scale_of, capital};
+ghost use Rattle.scaled_line.specs.Moved.{other_case};
 
 use super::Scale;
 use layout::SHEET_LINE_BYTES;
+
+// The bit that a small letter has and its capital hasn't.
+const CASE: u8 = 32;
 
 // The sort of a sheet, by its first letter.
 #[tactic(auto, unfolding(crate::specs::Scale::scale_of, crate::specs::Scale::raise, search::specs::Pick::pick))]
@@ -18,26 +21,22 @@ pub fn scale_of(sheet: &[u8]) -> Scale
 }
 
 impl Scale {
-    // The three letters of a line as the other sort of sheet has them.
-    pub(crate) fn other_letters(self, line: &[u8; SHEET_LINE_BYTES]) -> [u8; 3]
-        ensures { result ≡ map (other_letter self) (take 3 line.now) }
+    // The three letters of a line as capitals: as they stand in a sheet in cents, raised in one in thousands.
+    pub(crate) fn capitals(self, line: &[u8; SHEET_LINE_BYTES]) -> [u8; 3]
+        ensures { result ≡ map (capital self) (take 3 line.now) }
     {
         match self {
-            Scale::Cents => [lower(line[0]), lower(line[1]), lower(line[2])],
+            Scale::Cents => [line[0], line[1], line[2]],
             Scale::Thousands => [raise(line[0]), raise(line[1]), raise(line[2])],
         }
     }
 }
 
-// A line with its three letters raised.
-pub(crate) fn raised(line: &[u8; SHEET_LINE_BYTES]) -> [u8; SHEET_LINE_BYTES]
-    ensures { result ≡ raised line.now }
+// A letter as the other sort of sheet has it. A capital and its small letter differ in one bit alone.
+pub(crate) fn other_case(b: u8) -> u8
+    ensures { result ≡ other_case b }
 {
-    let mut up = *line;
-    up[0] = raise(line[0]);
-    up[1] = raise(line[1]);
-    up[2] = raise(line[2]);
-    up
+    b ^ CASE
 }
 
 // The capital of a small letter, 0 for any other byte.
@@ -48,20 +47,7 @@ fn raise(b: u8) -> u8
     ensures { result ≡ raise b }
 {
     match b {
-        b'a'..=b'z' => b - 32,
-        _ => 0,
-    }
-}
-
-// The small letter of a capital, 0 for any other byte.
-//
-// Kept: as `raise`; one function for both ways would want a range and a difference as arguments, and an Option is put back to 0 at once here too.
-#[tactic(auto, unfolding(crate::specs::Scale::lower, search::specs::Pick::pick))]
-fn lower(b: u8) -> u8
-    ensures { result ≡ lower b }
-{
-    match b {
-        b'A'..=b'Z' => b + 32,
+        b'a'..=b'z' => b - CASE,
         _ => 0,
     }
 }

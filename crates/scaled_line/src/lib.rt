@@ -6,12 +6,15 @@
 pub mod letters;
 // The amounts of a line in the two sorts, rules 20 and 21.
 pub mod amounts;
+// The columns of a line in the other sort.
+pub mod columns;
 
 ghost use Rattle.std.specs.Prelude.{◌≡◌};
 ghost use Rattle.scaled_line.specs.Scale.{parse_in};
-ghost use Rattle.scaled_line.specs.Other.{other_over};
+ghost use Rattle.scaled_line.specs.Moved.{moved_line};
 
 use layout::SHEET_LINE_BYTES;
+use letters::other_case;
 use refusal::Rule;
 use sheet_line::Entry;
 
@@ -23,23 +26,27 @@ pub enum Scale {
 }
 
 impl Scale {
-    // Reads a line of a sheet of this sort: one in small letters as that with its letters raised.
+    // Reads a line of a sheet of this sort: its columns, and its letters as capitals.
+    #[tactic(auto, using(crate::proofs::Small::read_by))]
     pub fn read(self, line: &[u8; SHEET_LINE_BYTES]) -> Result<Entry, Rule>
         ensures { result ≡ parse_in self line.now }
     {
-        match self {
-            Scale::Cents => sheet_line::read_line(line),
-            Scale::Thousands => sheet_line::read_line(&letters::raised(line)),
-        }
+        sheet_line::read_line_by(line, |line| codes::read_code(&self.capitals(line)))
     }
 
-    // Writes a line, where its rules let it pass, as the other sort of sheet has it; rules 20 and 21 are tested before. Of a bad line nothing is
-    // written.
+    // Writes a line as the other sort of sheet has it. It isn't read again: where its rules let it pass, 20 and 21 among them, an amount keeps its digits
+    // there, five columns further, with five zeros more or less; 0 and the scalar's line stay as they are. What stands after any other line is told
+    // too, and nobody asks for it.
+    #[tactic(auto, using(crate::proofs::Stored::second_stands, crate::proofs::Stored::line_stored))]
     pub fn write_other(self, line: &[u8; SHEET_LINE_BYTES], out: &mut [u8; SHEET_LINE_BYTES])
-        ensures { out.new ≡ other_over self (parse_in self line.now) out.old }
+        ensures { out.new ≡ moved_line self line.now }
     {
-        if let Ok(e) = self.read(line) {
-            sheet_writer::write_lettered(out, self.other_letters(line), self.rescaled(e));
-        }
+        let kept = columns::keeps_amounts(line);
+        *out = *line;
+        out[0] = other_case(line[0]);
+        out[1] = other_case(line[1]);
+        out[2] = other_case(line[2]);
+        self.move_amount(kept, &line[10..24], &mut out[10..24]);
+        self.move_amount(kept, &line[25..39], &mut out[25..39]);
     }
 }

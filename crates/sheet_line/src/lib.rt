@@ -4,8 +4,11 @@
 // Rules 5 to 10, of what the line says.
 pub mod rules;
 
-ghost use Rattle.std.specs.Prelude.{◌≡◌};
-ghost use Rattle.sheet_line.specs.Rules.{parse_line};
+ghost use Rattle.std.specs.Prelude.{◌≡◌, Option};
+ghost use Rattle.std.specs.Fn.{FnOnceReturnsAt};
+ghost use Rattle.codes.specs.declared.Code.{Code};
+ghost use Rattle.layout.specs.Columns.{layout_of};
+ghost use Rattle.sheet_line.specs.Rules.{rule3, parse_line};
 
 use codes::Code;
 use layout::SHEET_LINE_BYTES;
@@ -26,8 +29,23 @@ pub struct Entry {
 pub fn read_line(s: &[u8; SHEET_LINE_BYTES]) -> Result<Entry, Rule>
     ensures { result ≡ parse_line s.now }
 {
+    read_line_by(s, |s| codes::read_code(s))
+}
+
+// Reads a line whose code is told by a reader of its own.
+//
+// Kept: the reader, and not the code that it tells. So the compiler makes a copy of this for each reader and takes it into its one caller; of one
+// copy for two callers the entry would come through memory (docs/DECISIONS.md).
+pub fn read_line_by<F: FnOnce(&[u8; SHEET_LINE_BYTES]) -> Option<Code>>(
+    s: &[u8; SHEET_LINE_BYTES],
+    reader: F,
+) -> Result<Entry, Rule>
+    requires { F.IsAlwaysCallable reader }
+    ensures { (c : Option Code) × FnOnceReturnsAt F.FnOnce reader s.now c × (result ≡ rule3 (layout_of s.now) c) }
+{
+    let coded = reader(s);
     let n = layout::read_layout(s).ok_or(Rule::BrokenLayout)?;
-    let code = codes::read_code(s).ok_or(Rule::UnknownCode)?;
+    let code = coded.ok_or(Rule::UnknownCode)?;
     rules::judged(Entry {
         code,
         block: n.block,

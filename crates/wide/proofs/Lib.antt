@@ -1,4 +1,2 @@
--- What the proofs of the operations on two words share: laws of numbers of two digits.
-pub mod Digits
-pub mod Difference
+-- What the numbers of two words are below.
 pub mod Limits

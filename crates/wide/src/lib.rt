@@ -1,5 +1,5 @@
 // Numbers of two machine words: products, sums, differences and quarters.
-#![tactic(auto)]
+#![tactic(auto, unfolding(crate::specs::Value::value))]
 
 ghost use Rattle.std.specs.Prelude.{◌≡◌, ◌+◌, ◌*◌, ◌/◌, ◌^◌, ◌<◌, ◌≤◌};
 ghost use Rattle.wide.specs.Value.{value};
@@ -13,27 +13,16 @@ pub struct Wide {
     pub low: u64,
 }
 
-// 2^32: half words are digits in this base, and the product of two fits a word.
-const HALF_BASE: u64 = 4294967296;
 // 2^62, a quarter of what one of the upper word counts.
 const QUARTER: u64 = 4611686018427387904;
 
 impl Wide {
-    // The product of two words, by the products of their half words.
+    // The product of two words, which the machine makes by one instruction.
     pub fn product(a: u64, b: u64) -> Wide
         ensures { value result ≡ a * b }
     {
-        let a1 = a / HALF_BASE;
-        let a0 = a % HALF_BASE;
-        let b1 = b / HALF_BASE;
-        let b0 = b % HALF_BASE;
-        let lowest = a0 * b0;
-        let middle = a1 * b0 + lowest / HALF_BASE;
-        let cross = middle % HALF_BASE + a0 * b1;
-        Wide {
-            high: a1 * b1 + middle / HALF_BASE + cross / HALF_BASE,
-            low: cross % HALF_BASE * HALF_BASE + lowest % HALF_BASE,
-        }
+        let (low, high) = a.carrying_mul(b, 0);
+        Wide { high, low }
     }
 
     // A quarter, rounded up.
@@ -72,21 +61,10 @@ impl Add for Wide {
     ghost add_gives = { λ a b sum. value sum ≡ value a + value b };
 
     fn add(self, b: Wide) -> Wide {
-        let ah = self.high;
-        let al = self.low;
-        let bh = b.high;
-        let bl = b.low;
-        let room = u64::MAX - al;
-        if bl <= room {
-            Wide {
-                high: ah + bh,
-                low: al + bl,
-            }
-        } else {
-            Wide {
-                high: ah + bh + 1,
-                low: bl - room - 1,
-            }
+        let (low, carry) = self.low.carrying_add(b.low, false);
+        Wide {
+            high: self.high + b.high + u64::from(carry),
+            low,
         }
     }
 }
@@ -100,20 +78,10 @@ impl Sub for Wide {
     ghost sub_gives = { λ a b difference. value difference + value b ≡ value a };
 
     fn sub(self, b: Wide) -> Wide {
-        let ah = self.high;
-        let al = self.low;
-        let bh = b.high;
-        let bl = b.low;
-        if bl <= al {
-            Wide {
-                high: ah - bh,
-                low: al - bl,
-            }
-        } else {
-            Wide {
-                high: ah - bh - 1,
-                low: u64::MAX - (bl - al) + 1,
-            }
+        let (low, borrow) = self.low.borrowing_sub(b.low, false);
+        Wide {
+            high: self.high - b.high - u64::from(borrow),
+            low,
         }
     }
 }
@@ -127,12 +95,10 @@ impl Mul<u64> for Wide {
     ghost mul_gives = { λ n m product. value product ≡ value n * m };
 
     fn mul(self, m: u64) -> Wide {
-        let high = self.high;
-        let lower = Wide::product(self.low, m);
-        let carry = lower.high;
+        let (low, carry) = self.low.carrying_mul(m, 0);
         Wide {
-            high: high * m + carry,
-            low: lower.low,
+            high: self.high * m + carry,
+            low,
         }
     }
 }

@@ -2,6 +2,8 @@
 use mathlib.Core.Path.{◌≡◌, ◌∙◌}
 use mathlib.Core.List.{◌++◌}
 use Rattle.refusal.specs.Outcome.Outcome.{accepted}
+use Rattle.guideline.specs.Block.{figures_of}
+use Rattle.figures.specs.RootSteps.{steps_of}
 use Rattle.figures.specs.Parts.{figure_list, step_list}
 use Rattle.block.specs.Call.{block_call}
 use Rattle.block.proofs.Accepted.{block_demanded, block_few_steps}
@@ -11,7 +13,10 @@ use Rattle.block.proofs.block_call.Goals as goal
 given : (c : After-worked_out) →
     let w = c.worked_out.result in
     accepted (figure_list w.figures ++ step_list w.steps) ≡ block_call c.args.b.now
-given c = (λ j. accepted (c.worked_out.ensures.0 j ++ c.worked_out.ensures.1 j)) ∙ c.in_ok-block.ensures.outcome
+given c =
+    (λ j. accepted (c.worked_out.ensures.0 j ++ c.worked_out.ensures.1 j))
+    ∙ (λ j. accepted (figures_of (c.new.ensures j) ++ steps_of (c.new.ensures j)))
+    ∙ c.in_ok-tested.ensures.outcome
 
 pub returns-clause-demand3 : goal.returns-clause-demand3
 returns-clause-demand3 c = block_demanded _ _ (given c)

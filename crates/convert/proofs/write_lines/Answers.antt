@@ -12,7 +12,7 @@ pub loop-i-preserved : goal.loop-i-preserved
 loop-i-preserved c =
     let e = c.as_chunks.ensures.front in
     let w = rw (line_is _ e c.loop-i-test.true _) at c.write_line.ensures in
-    write_again c.loop-i.invariant (within _ e c.loop-i-test.true) c.requires.1 _ _ w (search rules)
+    write_again c.loop-i.invariant (within _ e c.loop-i-test.true) c.requires.1 _ w (search rules)
 
 pub returns : goal.returns
 returns c = write_done c.loop-i.invariant (omega (arith, c.loop-i-test.false, count_lines _ c.as_chunks.ensures.front)) c.requires.0

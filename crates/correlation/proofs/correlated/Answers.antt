@@ -1,9 +1,10 @@
 -- The sum over all i, j is never below 0. Assumes nothing.
-use mathlib.Core.Path.{◌∙◌}
+use native.Mathlib.Omega.{arith}
+use Rattle.std.proofs.lemmas.Int.{to_z-of_z}
 use Rattle.guideline.proofs.Table.{quarter_natural}
 use Rattle.correlation.proofs.correlated.Goals as goal
 
-pub unsigned-requires-clause-not_negative : goal.unsigned-requires-clause-not_negative
-unsigned-requires-clause-not_negative c =
+pub in_words-requires : goal.in_words-requires
+in_words-requires c =
     let n = quarter_natural c.args.y.now in
-    (n.0, c.row_by_row.ensures.sum ∙ n.1)
+    (n.0, grind (arith, to_z-of_z, c.row_by_row.ensures, n.1))

@@ -1,21 +1,26 @@
--- A number of one word is its lower word. Else the upper word's rest is what the lower word stands below. Assumes nothing.
-use mathlib.Core.Path.{ap, ◌∙◌}
-use Prim.Native.Nat.{ℕ, ◌+◌, ◌*◌, ◌%◌}
-use native.Mathlib.Nat.{mod-lt}
+-- The upper word is its own rest where it is below d. What it leaves is what the lower word stands below. Assumes nothing.
+use mathlib.Core.Path.{◌≡◌, ap, ◌∙◌}
+use Prim.Native.Nat.{ℕ, ◌+◌, ◌*◌}
 use native.Mathlib.Omega.{arith}
 use Rattle.wide.specs.Value.{value}
-use Rattle.division.proofs.Quotients.{two_words, one_word}
+use Rattle.division.specs.declared.Division.{Division}
+use Rattle.division.proofs.Quotients.{two_words}
+use Rattle.division.proofs.divide.Goals.{After-divide_lower-lower, then-high-d, else-high-d}
 use Rattle.division.proofs.divide.Goals as goal
 
-pub returns-then-high-eq0 : goal.returns-then-high-eq0
-unfolding value
-returns-then-high-eq0 c =
-    let n = c.args.n in
-    (mod-lt _ c.requires.0, ap (λ (x : ℕ). x * c.args.d + n.low % c.args.d) c.from.ensures ∙ one_word _ n.high n.low _ (omega (arith, c.if-high-eq0.true)))
+-- what a quotient and its rest make of d
+abbrev over : ℕ → Division ℕ → ℕ
+over d by = by.quotient * d + by.rest
+
+upper : (c : After-divide_lower-lower) → over c.args.d c.if-high-d.upper ≡ c.args.n.high
+upper c =
+    elim c.if-high-d.branch [
+      | then-high-d w ↦ ap (over c.args.d) w.upper-is ∙ omega arith
+      | else-high-d w ↦ ap (over c.args.d) w.upper-is ∙ w.divide_word-upper.ensures.1
+    ]
 
 pub returns : goal.returns
 unfolding value
 returns c =
-    let n = c.args.n in
     let e = c.divide_lower-lower.ensures in
-    (e.0, two_words _ n.high n.low _ _ _ e.1)
+    (e.0, two_words _ c.args.n.high c.args.n.low _ _ _ _ _ (upper (goal.at.returns c).After-divide_lower-lower) e.1)

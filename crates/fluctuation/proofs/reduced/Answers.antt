@@ -13,7 +13,9 @@ first_fits : (c : Start) → c.args.factor.0 * c.args.requirement ≤ 1999999999
 first_fits c = mul-le-mul {n₂ = 20} {m₂ = limit} c.requires.first_small c.requires.amount
 
 pub over_root-over-requires : goal.over_root-over-requires
-over_root-over-requires c = let p = c.requires in record { positive = p.positive; small = p.small; within = square_small _ _ _ _ p }
+over_root-over-requires c =
+    let p = c.requires in
+    (p.amount, p.second_small, record { positive = p.positive; small = p.small; within = square_small _ _ _ _ p })
 
 -- with the root's part the sum is at most 20 × B
 sum_small : (c : After-over_root-over) → c.args.factor.0 * c.args.requirement + c.over_root-over.result ≤ 1999999999999980

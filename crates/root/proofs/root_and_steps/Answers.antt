@@ -1,12 +1,12 @@
--- Whatever radicand stands at the top of the first window, after step j the held value is the root of its leading 2j digits (`After`). After
+-- Whatever radicand stands in the first window, after step j the held value is the root of its leading 2j digits (`After`). After
 -- the last step these are all its digits, and the root is rounded up by what is left. Assumes nothing.
 use mathlib.Core.Path.{◌≡◌, sym, ◌∙◌}
-use Prim.Native.Nat.{◌≤◌, ◌<◌}
+use Prim.Native.Nat.{ℕ, ◌+◌, ◌*◌, ◌^◌, ◌≤◌, ◌<◌}
 use native.Mathlib.Omega.{arith}
 use Rattle.wide.specs.Value.{value}
 use Rattle.root.specs.Steps.{steps, After, Aligned}
 use Rattle.root.proofs.Lengths.{has_digits}
-use Rattle.root.proofs.Rooted.{few, small, at_start, root_small, exact_root, next_root, root_of_none}
+use Rattle.root.proofs.Rooted.{few, small, window_small, at_start, root_small, exact_root, next_root, root_of_none}
 use Rattle.root.proofs.root_and_steps.Goals.{After-aligned-window, After-loop-j, At-loop-j, In-loop-j}
 use Rattle.root.proofs.root_and_steps.Goals as goal
 
@@ -22,7 +22,7 @@ aligned-window-requires c =
     let e = c.count_steps-count.ensures in
     (omega (arith, c.if-count-eq0.false), omega (arith, few n c.requires), rw e (has_digits n).no_more)
 
--- n stands at the top of the first window
+-- n stands two binary digits below the top of the first window
 aligned_at : (c : After-aligned-window) →
     Aligned (value c.args.n) c.count_steps-count.result (value c.aligned-window.result)
 aligned_at c =
@@ -41,11 +41,17 @@ held c = c.loop-j.invariant _ (aligned_at (goal.at.At-loop-j c).After-aligned-wi
 to_go : (c : In-loop-j) → c.loop-j._j < steps (value c.args.n)
 to_go c = omega (arith, c.loop-j-test.true, c.count_steps-count.ensures)
 
+-- the window's upper word has two binary digits free
+free : (h l : ℕ) → h * 2 ^ 64 + l < 2 ^ 126 → h < 2 ^ 62
+free h l k = omega arith
+
 pub step-held-requires : goal.step-held-requires
+unfolding value
 step-held-requires c =
     let before = held ((goal.at.step-held-requires c).At-loop-j) in
     let n_fits = c.requires in
-    (small _ n_fits _ _ _ _ before, root_small _ n_fits _ _ _ _ (to_go ((goal.at.step-held-requires c).In-loop-j)) before)
+    let go = to_go ((goal.at.step-held-requires c).In-loop-j) in
+    (small _ n_fits _ _ _ _ before, root_small _ n_fits _ _ _ _ go before, free _ _ (window_small _ n_fits _ _ _ _ before))
 
 pub loop-j-preserved : goal.loop-j-preserved
 loop-j-preserved c = λ n a. c.step-held.ensures n _ a.fits (omega (arith, a.count_is, c.loop-j-test.true)) (c.loop-j.invariant n a)

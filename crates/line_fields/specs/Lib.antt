@@ -1,0 +1,2 @@
+-- Columns as words. Assumes nothing.
+pub mod Words

@@ -1,2 +1,0 @@
--- What a running sum stands for. Assumes nothing.
-pub mod Sum

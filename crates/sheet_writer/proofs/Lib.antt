@@ -1,2 +1,0 @@
--- A line's bytes, one stretch after the other. Assumes nothing.
-pub mod Written
