@@ -1,8 +1,8 @@
-/* calls SHEET CENTS THOUSANDS NEEDS: how much stack each call of include/tsav.h takes on its largest input, a line for each:
+/* calls SHEET CENTS THOUSANDS NEEDS NUMBERS QUARTER: how much stack each call of include/tsav.h takes on its largest input, a line for each:
    its name, a space, bytes. A call runs on a thread of its own, which fills its stack with one byte first. What the call
    takes is counted from the frame that calls it down to the deepest byte that is another then; with two fillings, since what
    is written may be the byte itself. SHEET, CENTS and THOUSANDS have every line, CENTS whole thousands of dollars, THOUSANDS
-   the same in thousands; NEEDS has the longest listing. */
+   the same in thousands; NEEDS has the longest listing; NUMBERS are those of the movement call, QUARTER the sheet 60 times. */
 #define _POSIX_C_SOURCE 200112L
 #include <pthread.h>
 #include <stdint.h>
@@ -14,10 +14,10 @@
 static _Alignas(4096) uint8_t stack[1 << 20];
 
 struct text {
-    uint8_t bytes[TSAV_LONGEST_SHEET];
+    uint8_t bytes[TSAV_MOST_SHEETS * (TSAV_LONGEST_SHEET + TSAV_SHEET_LINE)];
     size_t length;
 };
-static struct text sheet, cents, thousands, needs;
+static struct text sheet, cents, thousands, needs, numbers, sheets;
 static uint8_t room[TSAV_LONGEST_SHEET];
 static uint64_t amounts[TSAV_MOST_VOLUMES], figures[TSAV_PARTS], place[2], row;
 
@@ -31,6 +31,8 @@ static uint64_t to_thousands(void) { return tsav_convert(cents.bytes, cents.leng
 static uint64_t to_cents(void) { return tsav_convert(thousands.bytes, thousands.length, room, sizeof room, figures, place); }
 static uint64_t check(void) { return tsav_check(sheet.bytes, sheet.length, room, sizeof room, figures, place); }
 static uint64_t listing(void) { return tsav_check(needs.bytes, needs.length, room, sizeof room, figures, place); }
+static uint64_t movement(void) { return tsav_movement(numbers.bytes, numbers.length, room, sizeof room, figures, place); }
+static uint64_t quarter(void) { return tsav_quarter(sheets.bytes, sheets.length, room, sizeof room, figures, place); }
 
 static void fail(const char *what) {
     fprintf(stderr, "bench/calls: %s\n", what);
@@ -83,11 +85,13 @@ static void read_in(const char *name, struct text *into) {
 }
 
 int main(int count, char **words) {
-    if (count != 5) fail("usage: calls SHEET CENTS THOUSANDS NEEDS");
+    if (count != 7) fail("usage: calls SHEET CENTS THOUSANDS NEEDS NUMBERS QUARTER");
     read_in(words[1], &sheet);
     read_in(words[2], &cents);
     read_in(words[3], &thousands);
     read_in(words[4], &needs);
+    read_in(words[5], &numbers);
+    read_in(words[6], &sheets);
     for (size_t at = 0; at < TSAV_MOST_VOLUMES; at++) amounts[at] = TSAV_LARGEST_AMOUNT;
 
     measure(version);
@@ -109,5 +113,9 @@ int main(int count, char **words) {
     measure(check);
     measure(listing);
     tell("tsav_check");
+    measure(movement);
+    tell("tsav_movement");
+    measure(quarter);
+    tell("tsav_quarter");
     return 0;
 }

@@ -23,6 +23,8 @@
      tsav_sheet         20 KiB
      tsav_convert        2 KiB
      tsav_check         20 KiB
+     tsav_movement       2 KiB
+     tsav_quarter       48 KiB
 
    Not counted: a signal handler on the same stack; what the C library keeps of a thread's stack, some 5 KiB of the size that
    pthread_attr_setstacksize is given with glibc; and 3 KiB or more of the dynamic linker, where it looks up a name at its first
@@ -37,16 +39,18 @@
 
      place[0]        place[1]
      TSAV_NOWHERE    0
-     TSAV_LINE       the line of the sheet, counted from 1
+     TSAV_LINE       the line of the sheet, or of the movement call's numbers, counted from 1
      TSAV_POSITION   the position in the call's numbers, counted from 0
-     TSAV_RISK       the risk, 1 to 7; of 22, which none of these calls gives
-     TSAV_SHEET      the sheet, counted from 1; of 24 and 25, which none of these calls gives
+     TSAV_RISK       the risk, 1 to 7; of 22, which stands in a line of the movements and turns no input away
+     TSAV_SHEET      the sheet, counted from 1; of 24 and 25, which end a summary and turn no input away
 
    The refusals:
 
       1  nowhere             the sheet is longer than TSAV_LONGEST_SHEET
-      2  nowhere             its length isn't a multiple of 40, and no whole line breaks the layout
-      3  line                columns 4 to 40 of a whole line break the layout; tested before 2
+      2  nowhere             its length isn't a multiple of 40, and no whole line breaks the layout; of the movement call's
+                             numbers, it isn't TSAV_MOVEMENT_NUMBERS
+      3  line                columns 4 to 40 of a whole line break the layout; tested before 2. Of the movement call's numbers, a
+                             line isn't an amount in 14 columns and a line feed; tested after 2
       4  line                the code isn't RSK, OTH, MOR, VOL, ACQ, GEN or CRD
       5  line                the block is outside the code's range
       6  line                the class is outside the range of the code, for CRD also of the block
@@ -59,7 +63,7 @@
      13  nowhere             the credits that belong to no block (CRD of block 0, GEN class 5) are above what is left: sum of K,
                              less the dividend credits, + guarantee requirement + RO
      14  nowhere             the lent report is shorter than the report; converting, the lent room is shorter than the sheet;
-                             checking, it is shorter than the listing
+                             checking, it is shorter than the listing; likewise of the movements and of a quarter's summary
      15  nowhere             the list of volumes is longer than TSAV_MOST_VOLUMES, or no multiple of TSAV_TERRITORY_NUMBERS
      16  nowhere             the credit of a MOR line is above level and trend of its block's mortality
      17  nowhere             a dividend credit (CRD of a block) is above its block's K, or the block has no RSK or OTH line
@@ -68,10 +72,12 @@
                              VOL, ACQ, GEN, CRD, then by block, then by class
      20  line                converting from cents, an amount isn't whole thousands of dollars, a multiple of 100,000 cents
      21  line                converting from thousands, an amount is above 999,999,999: in cents it has more than 14 digits
-     22  risk                the program tsav-movement: raised, the component of the risk is above TSAV_LARGEST_AMOUNT
+     22  risk                no call's answer: raised, the component of the risk is above TSAV_LARGEST_AMOUNT. A line REF 22 of
+                             the movements says so in the place of the risk's own
      23  nowhere             shares: a part's margin is negative, or the margins are all zero
-     24  sheet               the program tsav-quarter: there are more than 60 sheets
-     25  sheet               the program tsav-quarter: the last sheet isn't closed */
+     24  sheet               no call's answer: there are more than TSAV_MOST_SHEETS sheets. The last line of a summary says so,
+                             REF 24, behind the lines of the sheets before it
+     25  sheet               no call's answer: the last sheet isn't closed. The last line of a summary says so, REF 25 */
 
 #ifndef TSAV_H
 #define TSAV_H
@@ -83,12 +89,17 @@
 extern "C" {
 #endif
 
+/* The release that this header is of, as the file VERSION has it. */
+#define TSAV_RELEASE "1.0.0"
+
 /* Of the calls as they are declared here: what is lent to each, and what it means. Compare it with what tsav_version() gives
    before any other call: a library of another version may write more than a caller of this header has lent.
 
    With version 2 the block call's figures grew from five to seven. A caller that was compiled for the header of version 1, and
-   that doesn't compare, would get two words written past the end of its array by a library of version 2. */
-#define TSAV_VERSION 2
+   that doesn't compare, would get two words written past the end of its array by a library of version 2. With version 3 the
+   movement call and the quarter call came, and every other call is lent and writes what it did; from then on the version grows
+   with each call that is added, so that it tells which calls a library has. */
+#define TSAV_VERSION 3
 
 #define TSAV_LARGEST_AMOUNT UINT64_C(99999999999999)
 
@@ -118,6 +129,17 @@ extern "C" {
 /* The bytes of a listing's line, and the listing of 176 lines. With this room a check is never refused by 14. */
 #define TSAV_LISTING_LINE 20
 #define TSAV_LONGEST_LISTING 3520
+
+/* The bytes of the movement call's numbers, 18 lines of 15, and those of its movements, seven lines of TSAV_REPORT_LINE. With
+   that room it is never refused by 14. */
+#define TSAV_MOVEMENT_NUMBERS 270
+#define TSAV_MOVEMENTS 203
+
+/* The sheets of a quarter, at most; the bytes of a summary's line; and the summary of so many sheets, with eight lines for all of
+   them. With that room the quarter call refuses nothing. */
+#define TSAV_MOST_SHEETS 60
+#define TSAV_SUMMARY_LINE 30
+#define TSAV_LONGEST_SUMMARY 2040
 
 #define TSAV_NOWHERE 0
 #define TSAV_LINE 1
@@ -252,6 +274,45 @@ uint64_t tsav_convert(const uint8_t *sheet, size_t bytes, uint8_t *converted, si
    Refusals, tested in this order: those of the sheet call but for its 14; then 14, where room is less than the listing. */
 uint64_t tsav_check(const uint8_t *sheet, size_t bytes, uint8_t *listing, size_t room, uint64_t written[1],
                     uint64_t place[2]);
+
+/* The movement call: how far the reported K of a block moves as each risk's component is raised by t, all else kept.
+
+   numbers: bytes bytes, 18 lines of an amount in 14 columns, as a sheet has it, and a line feed: the block call's numbers, then t.
+   movements: room bytes, of any content.
+
+   Accepted, written holds TSAV_MOVEMENTS; so many bytes of movements, from its start, are a line of TSAV_REPORT_LINE for each risk,
+   and those behind them are untouched. The line of a risk is MOV, 0, the risk, and the K of the block with that risk's component
+   raised less the K of the block, in cents, with a minus right before a fall. That is less than t + 2 either way, and the exact K
+   moves by at most t.
+
+   Where the raise takes a component above TSAV_LARGEST_AMOUNT, the risk's line is REF, 22, 0 and the risk instead, the other risks
+   have their own, and the call is accepted.
+
+   Refusals, tested in this order: 2, where bytes isn't TSAV_MOVEMENT_NUMBERS; 3 at the first line that holds no amount; 8 and 9 as
+   in the block call, whose 7 can't come, as 14 columns hold no larger amount; 14. */
+uint64_t tsav_movement(const uint8_t *numbers, size_t bytes, uint8_t *movements, size_t room, uint64_t written[1],
+                       uint64_t place[2]);
+
+/* The quarter call: a quarter's sheets, one after the other, and what they come to together.
+
+   sheets: bytes bytes, at most TSAV_MOST_SHEETS sheets as of the sheet call, each closed by a line of 39 minus signs and a line
+   feed, which counts at the start and right after a line feed. None is no sheet.
+   summary: room bytes, of any content.
+
+   Accepted, written holds the summary's length; so many bytes of summary, from its start, are lines of TSAV_SUMMARY_LINE, and those
+   behind them are untouched. A line is one of a report with a column more for the number. For each sheet there is SHT, the sheet,
+   1 and its buffer, or the REF line of its refusal, which has every number of the sheet call but 14; then, as SUM, 0 and items 1
+   to 8: how many were accepted, the smallest buffer, the first sheet that has it, the largest, the first sheet that has it, the
+   total, the mean in whole cents, and its remainder over the count; with none accepted, zeros.
+
+   With more than TSAV_MOST_SHEETS sheets the summary ends, behind the lines of the first 60, in REF, 24, 0 and 61; with bytes behind
+   the last closing line it ends, behind the lines of the sheets before, in REF, 25, 0 and the number of the sheet that isn't closed;
+   24 first. No SUM line stands there then, and the call is accepted all the same, since the sheets before have their answers: look
+   at the last line.
+
+   Refusals: 14 alone. */
+uint64_t tsav_quarter(const uint8_t *sheets, size_t bytes, uint8_t *summary, size_t room, uint64_t written[1],
+                      uint64_t place[2]);
 
 #ifdef __cplusplus
 }

@@ -11,6 +11,8 @@ OVER = tsav.LARGEST_AMOUNT + 1
 BLOCK = [int(word) for word in (TOP / "examples" / "block.numbers").read_text().split()]
 SHEET = (TOP / "examples" / "example.sheet").read_bytes()
 UNMET = (TOP / "examples" / "unmet.sheet").read_bytes()
+MOVEMENT = (TOP / "examples" / "example.movement").read_bytes()
+QUARTER = (TOP / "examples" / "example.quarter").read_bytes()
 THOUSANDS = (TOP / "examples" / "thousands.sheet").read_bytes()
 REPORT = (TOP / "crates" / "tsav_sheet" / "stdout").read_bytes()
 FLUCTUATIONS = (TOP / "tests" / "reference" / "fluctuation.cases").read_text().splitlines()
@@ -98,6 +100,8 @@ class Calls(unittest.TestCase):
     def test_fluctuation(self):
         self.assertEqual(tsav.fluctuation(2, 10_000_000_000, 0), 9_330_000_000)
         self.assertEqual(tsav.fluctuation(7, 100_000_000, 40_000_000_000), 88_610_000)
+        self.assertEqual(tsav.fluctuation(2, 10_000_000_000), 9_330_000_000)
+        self.assertEqual(tsav.fluctuation(row=2, requirement=10_000_000_000, face=1), 9_330_000_000)
         self.refused(18, None, None, tsav.fluctuation, 0, OVER, OVER)
         self.refused(18, None, None, tsav.fluctuation, 2**64 + 1, 0, 0)
         self.refused(7, None, 0, tsav.fluctuation, 7, 2**64, OVER)
@@ -215,6 +219,50 @@ class Calls(unittest.TestCase):
             with self.assertRaises(TypeError):
                 tsav.check(wrong)
 
+    def test_movement(self):
+        """The guide's example; a raise above the limit, which refuses nothing; K that falls by a cent."""
+
+        def of(numbers, raised):
+            return tsav.movement(b"".join(b"%14d\n" % number for number in (*numbers, raised))).decode().splitlines()
+
+        movements = (896714, 439905, 766075, 482427, 707119, 490330, 746843)
+        lines = "".join(f"MOV  0 {risk:2} {moved:18}\n" for risk, moved in enumerate(movements, 1)).encode()
+        for kind in (bytes, bytearray, memoryview):
+            self.assertEqual(tsav.movement(kind(MOVEMENT)), lines)
+        above = of([tsav.LARGEST_AMOUNT, 0, 2] + [0] * 14, 1)
+        self.assertEqual(above[0], "REF 22  0                  1")
+        self.assertEqual([line[:3] for line in above[1:]], ["MOV"] * 6)
+        falls = [0] * tsav.BLOCK_NUMBERS
+        falls[4], falls[8] = 2, 20
+        self.assertEqual(of(falls, 1)[5], "MOV  0  6                 -1")
+
+    def test_movement_refused(self):
+        self.refused(2, None, None, tsav.movement, b"")
+        self.refused(2, None, None, tsav.movement, MOVEMENT + b"\n")
+        self.refused(3, 18, None, tsav.movement, MOVEMENT[:-1] + b" ")
+        self.refused(8, None, 13, tsav.movement, MOVEMENT[: 14 * 15 - 2] + b"1" + MOVEMENT[14 * 15 - 1 :])
+        self.refused(9, None, 1, tsav.movement, MOVEMENT[:15] + b"%14d" % tsav.LARGEST_AMOUNT + MOVEMENT[29:])
+        for wrong in (MOVEMENT.decode(), 270, None):
+            with self.assertRaises(TypeError):
+                tsav.movement(wrong)
+
+    def test_quarter(self):
+        """The guide's example; no sheet; the most, and one more; one that isn't closed."""
+        closing = b"-" * 39 + b"\n"
+        lines = ["SHT  1  1           163265783", "REF  9  0                   2", "SHT  3  1           155102494"]
+        sums = [2, 155102494, 3, 163265783, 1, 318368277, 159184138, 1]
+        whole = lines + [f"SUM  0 {item:2} {number:19}" for item, number in enumerate(sums, 1)]
+        for kind in (bytes, bytearray, memoryview):
+            self.assertEqual(tsav.quarter(kind(QUARTER)).decode().splitlines(), whole)
+        self.assertEqual(len(tsav.quarter(b"")), 8 * tsav.SUMMARY_LINE)
+        self.assertEqual(len(tsav.quarter(closing * tsav.MOST_SHEETS)), tsav.LONGEST_SUMMARY)
+        more = tsav.quarter(closing * (tsav.MOST_SHEETS + 1)).decode().splitlines()
+        self.assertEqual((len(more), more[-1]), (61, "REF 24  0                  61"))
+        self.assertEqual(tsav.quarter(QUARTER + b"x").decode().splitlines(), lines + ["REF 25  0                   4"])
+        for wrong in (QUARTER.decode(), 40, None):
+            with self.assertRaises(TypeError):
+                tsav.quarter(wrong)
+
     def test_what_is_no_amount(self):
         for wrong in (1.0, "1", None):
             with self.assertRaises(TypeError):
@@ -236,9 +284,23 @@ class Calls(unittest.TestCase):
                 tsav.sheet(wrong)
 
     def test_words(self):
-        self.assertEqual(str(tsav.Refused(9, line=2)), "refusal 9 at line 2")
-        self.assertEqual(str(tsav.Refused(7, position=0)), "refusal 7 at position 0")
-        self.assertEqual(str(tsav.Refused(12)), "refusal 12")
+        self.assertEqual(str(tsav.Refused(9, line=2)), "refusal 9 at line 2: a level and trend part is above its component")
+        self.assertEqual(str(tsav.Refused(7, position=0)), "refusal 7 at position 0: an amount is above 99,999,999,999,999")
+        self.assertEqual(str(tsav.Refused(12)), "refusal 12: there is no scalar line")
+        self.assertEqual(str(tsav.Refused(26)), "refusal 26: no refusal has this number")
+        header = (TOP / "include" / "tsav.h").read_text()
+        listed = re.findall(r"^     ?[ 1-9][0-9]  (?:nowhere|line|position|risk|sheet)\b", header, re.MULTILINE)
+        self.assertEqual([int(line.split()[0]) for line in listed], list(tsav.REFUSALS))
+
+    def test_a_str(self):
+        """What is given as text is refused in a sentence, a sheet and a number."""
+        for call in (tsav.sheet, tsav.convert, tsav.check, tsav.movement, tsav.quarter):
+            with self.assertRaisesRegex(TypeError, r"^sheets and lines of numbers are bytes, and this is a str: read its file with open\(name, 'rb'\)"):
+                call(SHEET.decode())
+        with self.assertRaisesRegex(TypeError, "^amounts and rows are whole numbers, and this is a str: '1'$"):
+            tsav.block(["1"] + BLOCK[1:])
+        with self.assertRaisesRegex(TypeError, "^amounts and rows are whole numbers, and this is a float: 1.0$"):
+            tsav.fluctuation(1.0, 0)
 
     def test_a_broken_contract(self):
         for place in ((tsav.RISK, 1), (tsav.SHEET, 1), (5, 0), (0, 1), (2**64 - 1, 0)):
@@ -249,7 +311,7 @@ class Calls(unittest.TestCase):
         """That the header's are the source's is compared by tests/constants."""
         header = (TOP / "include" / "tsav.h").read_text()
         defined = re.findall(r"^#define TSAV_([A-Z_]+) (?:UINT64_C\()?([0-9]+)\)?$", header, re.MULTILINE)
-        self.assertEqual(len(defined), header.count("#define TSAV_") - 1)  # TSAV_H has no number
+        self.assertEqual(len(defined), header.count("#define TSAV_") - 2)  # TSAV_H has no number, and TSAV_RELEASE is none
         for name, number in defined:
             self.assertEqual(getattr(tsav, name), int(number), name)
 

@@ -1,9 +1,11 @@
 //! What the numbers that the library gives mean, by include/tsav.h. The library is proved to give no others; if others
 //! come all the same, another library was linked, and they are handed on as they are and not guessed at.
 
+use std::ops::RangeInclusive;
+
 use crate::{
     report_length, Breach, Error, Place, Refusal, BLOCK_NUMBERS, FLUCTUATION_AMOUNTS, GENERAL_NUMBERS, LISTING_LINE,
-    LONGEST_LISTING, MOST_BLOCKS, SHEET_LINE, VERSION,
+    LONGEST_LISTING, LONGEST_SUMMARY, MOST_BLOCKS, MOVEMENTS, SHEET_LINE, SUMMARY_LINE, VERSION,
 };
 
 /// The kinds of a place.
@@ -89,6 +91,28 @@ pub(crate) fn convert(answer: u64, place: [u64; 2], bytes: usize) -> Result<(), 
     Err(refused(answer, place, listed))
 }
 
+/// The movement call's answer: 2, 3 at one of the lines that all hold a number, those of the block call but 7, and 14.
+pub(crate) fn movement(answer: u64, place: [u64; 2]) -> Result<(), Error> {
+    match answer {
+        2 | 14 => Err(refused(answer, place, nowhere(place))),
+        3 => {
+            let listed = of_kind(LINE, place).filter(|line| (1..=BLOCK_NUMBERS + 1).contains(line));
+            Err(refused(answer, place, listed.map(Place::Line)))
+        }
+        7 => Err(refused(answer, place, None)),
+        _ => block(answer, place),
+    }
+}
+
+/// The quarter call's answer.
+pub(crate) fn quarter(answer: u64, place: [u64; 2]) -> Result<(), Error> {
+    match answer {
+        0 => Ok(()),
+        14 => Err(refused(answer, place, nowhere(place))),
+        _ => Err(refused(answer, place, None)),
+    }
+}
+
 /// The length that the sheet call gives where it accepts, with so many bytes lent.
 pub(crate) fn length(length: u64, room: usize) -> Result<usize, Error> {
     (0..=MOST_BLOCKS)
@@ -103,11 +127,26 @@ pub(crate) fn converted_length(length: u64, bytes: usize, room: usize) -> Result
     sound.then_some(bytes).ok_or(Error::Contract(Breach::Length { length, room }))
 }
 
-/// The length that the check call gives where it accepts, with so many bytes lent: whole lines.
+/// The length that the check call gives where it accepts, with so many bytes lent.
 pub(crate) fn listing_length(length: u64, room: usize) -> Result<usize, Error> {
-    (0..=LONGEST_LISTING)
-        .step_by(LISTING_LINE)
-        .find(|&listing| listing as u64 == length && listing <= room)
+    whole_lines(LISTING_LINE, 0..=LONGEST_LISTING, length, room)
+}
+
+/// The length that the movement call gives where it accepts, with so many bytes lent.
+pub(crate) fn movements_length(length: u64, room: usize) -> Result<usize, Error> {
+    whole_lines(MOVEMENTS, MOVEMENTS..=MOVEMENTS, length, room)
+}
+
+/// The length that the quarter call gives where it accepts, with so many bytes lent: a last line is always there.
+pub(crate) fn summary_length(length: u64, room: usize) -> Result<usize, Error> {
+    whole_lines(SUMMARY_LINE, SUMMARY_LINE..=LONGEST_SUMMARY, length, room)
+}
+
+/// A length of some whole lines, within the lent bytes.
+fn whole_lines(line: usize, lengths: RangeInclusive<usize>, length: u64, room: usize) -> Result<usize, Error> {
+    lengths
+        .step_by(line)
+        .find(|&text| text as u64 == length && text <= room)
         .ok_or(Error::Contract(Breach::Length { length, room }))
 }
 
@@ -147,13 +186,15 @@ mod tests {
     const VOLUMES: usize = 32;
 
     /// The answers of the calls, on what is lent in these tests; those of the check call are the sheet call's.
-    const CALLS: [(&str, Call); 6] = [
+    const CALLS: [(&str, Call); 8] = [
         ("block", block),
         ("shares", shares),
         ("operational", |answer, place| operational(answer, place, VOLUMES)),
         ("fluctuation", fluctuation),
         ("sheet", |answer, place| sheet(answer, place, LONGEST_SHEET)),
         ("convert", |answer, place| convert(answer, place, LONGEST_SHEET)),
+        ("movement", movement),
+        ("quarter", quarter),
     ];
 
     fn broken(number: u64, place: [u64; 2]) -> Answer {
@@ -183,13 +224,15 @@ mod tests {
     #[test]
     fn each_call_has_its_refusals() {
         // Of each call: nowhere, at a line, at a position, at a risk, at a sheet.
-        let listed: [[&[u64]; 5]; 6] = [
+        let listed: [[&[u64]; 5]; 8] = [
             [&[], &[], &[7, 8, 9], &[], &[]],   // block
             [&[23], &[], &[7, 8, 9], &[], &[]], // shares
             [&[15], &[], &[7], &[], &[]],       // operational
             [&[18], &[], &[7], &[], &[]],       // fluctuation
             [&[1, 2, 12, 13, 14, 16, 17], &[3, 4, 5, 6, 8, 9, 10, 11, 19], &[], &[], &[]],
             [&[1, 2, 14], &[3, 4, 5, 6, 8, 9, 10, 11, 19, 20, 21], &[], &[], &[]],
+            [&[2, 14], &[3], &[8, 9], &[], &[]], // movement
+            [&[14], &[], &[], &[], &[]],         // quarter
         ];
         for ((name, call), listed) in CALLS.into_iter().zip(listed) {
             for (kind, numbers) in (NOWHERE..).zip(listed) {
@@ -221,6 +264,11 @@ mod tests {
         assert_eq!(convert(20, [LINE, 1], SHEET_LINE), refused(20, Place::Line(1)));
         assert_eq!(convert(21, [LINE, 629], LONGEST_SHEET), refused(21, Place::Line(629)));
         assert_eq!(convert(14, [NOWHERE, 0], SHEET_LINE), refused(14, Place::Nowhere));
+        assert_eq!(movement(2, [NOWHERE, 0]), refused(2, Place::Nowhere));
+        assert_eq!(movement(3, [LINE, 18]), refused(3, Place::Line(18)));
+        assert_eq!(movement(8, [POSITION, 13]), refused(8, Place::Position(13)));
+        assert_eq!(movement(9, [POSITION, 11]), refused(9, Place::Position(11)));
+        assert_eq!(quarter(14, [NOWHERE, 0]), refused(14, Place::Nowhere));
     }
 
     #[test]
@@ -243,6 +291,8 @@ mod tests {
             assert_eq!(operational(15, [kind, 0], VOLUMES), broken(15, [kind, 0]));
             assert_eq!(fluctuation(18, [kind, 0]), broken(18, [kind, 0]));
             assert_eq!(sheet(3, [kind, 1], LONGEST_SHEET), broken(3, [kind, 1]));
+            assert_eq!(movement(3, [kind, 1]), broken(3, [kind, 1]));
+            assert_eq!(quarter(14, [kind, 0]), broken(14, [kind, 0]));
         }
         assert_eq!(sheet(12, [NOWHERE, 1], LONGEST_SHEET), broken(12, [NOWHERE, 1]));
         assert_eq!(block(7, [LINE, 1]), broken(7, [LINE, 1]));
@@ -258,6 +308,9 @@ mod tests {
         for at in [17, u64::MAX] {
             assert_eq!(block(7, [POSITION, at]), broken(7, [POSITION, at]));
             assert_eq!(shares(7, [POSITION, at]), broken(7, [POSITION, at]));
+        }
+        for line in [0, 19, u64::MAX] {
+            assert_eq!(movement(3, [LINE, line]), broken(3, [LINE, line]));
         }
         assert_eq!(block(8, [POSITION, 12]), broken(8, [POSITION, 12]));
         for at in [0, 12, 13, 15] {
@@ -306,6 +359,23 @@ mod tests {
         let longest = LONGEST_LISTING as u64;
         for (given, room) in [(1, 40), (20, 19), (30, 40), (longest + 20, usize::MAX), (u64::MAX, usize::MAX)] {
             assert_eq!(listing_length(given, room), Err(Error::Contract(Breach::Length { length: given, room })));
+        }
+    }
+
+    #[test]
+    fn movements_and_summary_lengths() {
+        assert_eq!(movements_length(MOVEMENTS as u64, MOVEMENTS), Ok(MOVEMENTS));
+        assert_eq!(movements_length(MOVEMENTS as u64, usize::MAX), Ok(MOVEMENTS));
+        for lines in 1..=68 {
+            let summary = SUMMARY_LINE * lines;
+            assert_eq!(summary_length(summary as u64, summary), Ok(summary));
+        }
+        let breach = |given: u64, room: usize| Err(Error::Contract(Breach::Length { length: given, room }));
+        for (given, room) in [(0, 203), (202, 203), (203, 202), (406, usize::MAX), (u64::MAX, usize::MAX)] {
+            assert_eq!(movements_length(given, room), breach(given, room));
+        }
+        for (given, room) in [(0, 30), (29, 30), (30, 29), (2070, usize::MAX), (u64::MAX, usize::MAX)] {
+            assert_eq!(summary_length(given, room), breach(given, room));
         }
     }
 

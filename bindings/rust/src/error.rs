@@ -17,8 +17,8 @@ pub struct Refusal {
     pub place: Place,
 }
 
-/// Where a refusal has its place: a line of the sheet, counted from 1, a position in the call's numbers, counted from 0,
-/// or nowhere.
+/// Where a refusal has its place: a line of the sheet or of the movement call's numbers, counted from 1, a position in the call's
+/// numbers, counted from 0, or nowhere.
 #[derive(Clone, Copy, Debug, PartialEq, Eq)]
 pub enum Place {
     Line(usize),
@@ -33,7 +33,8 @@ pub enum Breach {
     Version { found: u64 },
     /// A refusal that the call doesn't have, or not at this place: the number, and the place's two numbers as written.
     Refusal { number: u64, place: [u64; 2] },
-    /// A length that no report or listing has, or that isn't the converted sheet's, or that is longer than the lent room.
+    /// A length that no report, listing, movements or summary has, or that isn't the converted sheet's, or that is longer than the lent
+    /// room.
     Length { length: u64, room: usize },
 }
 

@@ -11,8 +11,11 @@ mod error;
 
 pub use error::{Breach, Error, Place, Refusal};
 
+/// Of this release; the calls have a version of their own.
+pub const RELEASE: &str = env!("CARGO_PKG_VERSION");
+
 /// Of the library's calls, as this wrapper knows them.
-pub const VERSION: u64 = 2;
+pub const VERSION: u64 = 3;
 
 pub const LARGEST_AMOUNT: u64 = 99_999_999_999_999;
 
@@ -52,6 +55,17 @@ pub const LONGEST_REPORT: usize = report_length(MOST_BLOCKS);
 pub const LISTING_LINE: usize = 20;
 pub const LONGEST_LISTING: usize = 176 * LISTING_LINE;
 
+/// The bytes of the movement call's numbers, 18 lines of 15, and those of its movements, a report line for each of seven risks: with this
+/// room it is never refused by 14.
+pub const MOVEMENT_NUMBERS: usize = 18 * 15;
+pub const MOVEMENTS: usize = 7 * REPORT_LINE;
+
+/// The sheets of a quarter, at most; the bytes of a summary's line; and the summary of so many sheets: with this room the quarter call
+/// refuses nothing.
+pub const MOST_SHEETS: usize = 60;
+pub const SUMMARY_LINE: usize = 30;
+pub const LONGEST_SUMMARY: usize = (MOST_SHEETS + 8) * SUMMARY_LINE;
+
 /// The lines that a report has for a block: I, D, U, LT and K.
 const BLOCK_LINES: usize = 5;
 
@@ -60,8 +74,7 @@ pub const fn report_length(blocks: usize) -> usize {
     REPORT_LINE * (BLOCK_LINES * blocks + 3)
 }
 
-/// The refusals are numbered from 1 to this. 22 is of the program tsav-movement, 24 and 25 are of tsav-quarter, and no call gives
-/// them.
+/// The refusals are numbered from 1 to this. No call gives 22, which stands in a line of the movements, or 24 and 25, which end a summary.
 pub const LAST_REFUSAL: usize = 25;
 
 /// A block's figures: I and D in half cents, U, LT and K in cents; and the steps that the roots of I and of D take, at most
@@ -162,6 +175,33 @@ pub fn check(sheet: &[u8], listing: &mut [u8]) -> Result<usize, Error> {
     contract::listing_length(written[0], room)
 }
 
+/// The movement call, of 18 lines of an amount in 14 columns, the block call's numbers and then t: how far the reported K moves as each
+/// risk's component is raised by t, a line for each risk, of which one may be REF 22. It gives their length. The bytes behind it, and all
+/// of them where the numbers are refused, are left as they were.
+pub fn movement(numbers: &[u8], movements: &mut [u8]) -> Result<usize, Error> {
+    compare_versions()?;
+    let (mut written, mut place) = ([0; 1], [0; 2]);
+    let (lent, room) = (movements.as_mut_ptr(), movements.len());
+    // SAFETY: as in `sheet`.
+    let answer =
+        unsafe { library::tsav_movement(numbers.as_ptr(), numbers.len(), lent, room, &mut written, &mut place) };
+    contract::movement(answer, place)?;
+    contract::movements_length(written[0], room)
+}
+
+/// The quarter call: of sheets one after the other, each closed by a line of 39 minus signs, the line of each and what they come to
+/// together; or a last line REF 24 or 25, with which the call is accepted all the same. It gives the summary's length. The bytes behind
+/// it, and all of them where the room is too short, are left as they were.
+pub fn quarter(sheets: &[u8], summary: &mut [u8]) -> Result<usize, Error> {
+    compare_versions()?;
+    let (mut written, mut place) = ([0; 1], [0; 2]);
+    let (lent, room) = (summary.as_mut_ptr(), summary.len());
+    // SAFETY: as in `sheet`.
+    let answer = unsafe { library::tsav_quarter(sheets.as_ptr(), sheets.len(), lent, room, &mut written, &mut place) };
+    contract::quarter(answer, place)?;
+    contract::summary_length(written[0], room)
+}
+
 /// Another version may write more than is lent here.
 fn compare_versions() -> Result<(), Error> {
     // SAFETY: nothing is lent.
@@ -218,8 +258,24 @@ mod library {
             written: &mut [u64; 1],
             place: &mut [u64; 2],
         ) -> u64;
+        pub fn tsav_movement(
+            numbers: *const u8,
+            bytes: usize,
+            movements: *mut u8,
+            room: usize,
+            written: &mut [u64; 1],
+            place: &mut [u64; 2],
+        ) -> u64;
+        pub fn tsav_quarter(
+            sheets: *const u8,
+            bytes: usize,
+            summary: *mut u8,
+            room: usize,
+            written: &mut [u64; 1],
+            place: &mut [u64; 2],
+        ) -> u64;
     }
 }
 
-#[cfg(test)]
+#[cfg(all(test, feature = "papers"))]
 mod tests;

@@ -1,8 +1,8 @@
 use super::*;
 use contract::{LINE, NOWHERE, POSITION, RISK, SHEET};
 use reference::{
-    all_lines, convert_cases, example, fluctuation_cases, report_line, sheet_line, EXAMPLE_FIGURES, EXAMPLE_SHARES,
-    IN_THOUSANDS, UNMET, WHOLE_RUN, WHOLE_RUN_REPORT,
+    all_lines, convert_cases, example, fluctuation_cases, report_line, sheet_line, CLOSING_LINE, EXAMPLE_FIGURES,
+    EXAMPLE_MOVEMENT, EXAMPLE_QUARTER, EXAMPLE_SHARES, IN_THOUSANDS, UNMET, WHOLE_RUN, WHOLE_RUN_REPORT,
 };
 
 const OVER: u64 = LARGEST_AMOUNT + 1;
@@ -264,6 +264,70 @@ fn refusals_of_the_check_call() {
     assert_eq!(&listing, b"any content");
 }
 
+/// The example of the guide, whose lines the reference has; and t above what risk 1 can be raised by, which refuses nothing.
+#[test]
+fn the_movement_call() {
+    let mut movements = [b'#'; MOVEMENTS + 1];
+    assert_eq!(movement(EXAMPLE_MOVEMENT, &mut movements), Ok(MOVEMENTS));
+    assert_eq!(movements[..MOVEMENTS], reference::print_movements(EXAMPLE_MOVEMENT));
+    assert_eq!(movements[MOVEMENTS], b'#');
+    let raised = [
+        &b"99999999999999\n             0\n             2\n"[..],
+        &b"             0\n".repeat(14),
+        b"             1\n",
+    ]
+    .concat();
+    assert_eq!(movement(&raised, &mut movements), Ok(MOVEMENTS));
+    assert_eq!(&movements[..REPORT_LINE], b"REF 22  0                  1\n");
+    assert!(movements[REPORT_LINE..MOVEMENTS].chunks(REPORT_LINE).all(|line| line.starts_with(b"MOV")));
+}
+
+#[test]
+fn refusals_of_the_movement_call() {
+    let of = |bytes: &[u8]| movement(bytes, &mut [0; MOVEMENTS]);
+    let with = |line: usize, text: &[u8]| {
+        let mut numbers = EXAMPLE_MOVEMENT.to_vec();
+        numbers[15 * line - 15..15 * line - 15 + text.len()].copy_from_slice(text);
+        of(&numbers)
+    };
+    assert_eq!(of(b""), refused(2, Place::Nowhere));
+    assert_eq!(of(&[EXAMPLE_MOVEMENT, b"\n"].concat()), refused(2, Place::Nowhere));
+    assert_eq!(with(1, b"x"), refused(3, Place::Line(1)));
+    assert_eq!(with(18, b"             0 "), refused(3, Place::Line(18)));
+    assert_eq!(with(14, b"             1"), refused(8, Place::Position(13)));
+    assert_eq!(with(2, b"99999999999999"), refused(9, Place::Position(1)));
+    let mut movements = *b"any content";
+    assert_eq!(movement(EXAMPLE_MOVEMENT, &mut movements), refused(14, Place::Nowhere));
+    assert_eq!(&movements, b"any content");
+}
+
+/// The example of the guide; no sheet, and empty ones; and what no refusal of the call is: more than 60 sheets, and one that isn't closed.
+#[test]
+fn the_quarter_call() {
+    let of = |sheets: &[u8]| {
+        let mut summary = [b'#'; LONGEST_SUMMARY + 1];
+        let length = quarter(sheets, &mut summary).unwrap();
+        assert!(summary[length..].iter().all(|&byte| byte == b'#'));
+        assert_eq!(summary[..length], reference::print_quarter(sheets));
+        String::from_utf8(summary[..length].to_vec()).unwrap()
+    };
+    assert_eq!(of(EXAMPLE_QUARTER).lines().last(), Some("SUM  0  8                   1"));
+    assert_eq!(of(b"").len(), 8 * SUMMARY_LINE);
+    assert_eq!(of(&CLOSING_LINE.repeat(MOST_SHEETS)).len(), LONGEST_SUMMARY);
+    let more = of(&CLOSING_LINE.repeat(MOST_SHEETS + 1));
+    assert_eq!((more.len(), more.lines().last()), (61 * SUMMARY_LINE, Some("REF 24  0                  61")));
+    let open = of(&[EXAMPLE_QUARTER, WHOLE_RUN].concat());
+    assert_eq!(open.lines().last().map(|line| &line[..9]), Some("REF 25  0"));
+}
+
+#[test]
+fn refusals_of_the_quarter_call() {
+    assert_eq!(quarter(b"", &mut []), refused(14, Place::Nowhere));
+    let mut summary = *b"any content";
+    assert_eq!(quarter(b"x", &mut summary), refused(14, Place::Nowhere));
+    assert_eq!(&summary, b"any content");
+}
+
 #[test]
 fn errors_in_words() {
     let words = |number: u8, place: Place| Error::Refused(Refusal { number, place }).to_string();
@@ -295,6 +359,7 @@ fn the_headers_numbers() {
         .lines()
         .filter_map(|line| line.strip_prefix("#define TSAV_")?.split_once(' '))
         .map(|(name, number)| (name, number.trim_start_matches("UINT64_C(").trim_end_matches(')').to_string()))
+        .filter(|&(name, _)| name != "RELEASE")
         .collect();
     let ours = [
         ("VERSION", VERSION),
@@ -312,6 +377,11 @@ fn the_headers_numbers() {
         ("LONGEST_REPORT", LONGEST_REPORT as u64),
         ("LISTING_LINE", LISTING_LINE as u64),
         ("LONGEST_LISTING", LONGEST_LISTING as u64),
+        ("MOVEMENT_NUMBERS", MOVEMENT_NUMBERS as u64),
+        ("MOVEMENTS", MOVEMENTS as u64),
+        ("MOST_SHEETS", MOST_SHEETS as u64),
+        ("SUMMARY_LINE", SUMMARY_LINE as u64),
+        ("LONGEST_SUMMARY", LONGEST_SUMMARY as u64),
         ("NOWHERE", NOWHERE),
         ("LINE", LINE),
         ("POSITION", POSITION),
@@ -431,4 +501,39 @@ fn untouched_by_the_check_call() {
     assert_eq!(call(WHOLE_RUN, &mut listing), (0, [0], [KEPT; 2]));
     assert!(listing.iter().all(|&byte| byte == b'#'));
     assert_eq!(call(UNMET, &mut listing), (0, [80], [KEPT; 2]));
+}
+
+#[test]
+fn untouched_by_the_movement_call() {
+    let call = |numbers: &[u8], movements: &mut [u8]| {
+        let (mut length, mut place) = ([KEPT; 1], [KEPT; 2]);
+        let (lent, room) = (movements.as_mut_ptr(), movements.len());
+        // SAFETY: as in `movement`.
+        let answer =
+            unsafe { library::tsav_movement(numbers.as_ptr(), numbers.len(), lent, room, &mut length, &mut place) };
+        (answer, length, place)
+    };
+    let mut movements = [b'#'; MOVEMENTS];
+    assert_eq!(call(b"", &mut movements), (2, [KEPT], [NOWHERE, 0]));
+    assert_eq!(call(&[b' '; MOVEMENT_NUMBERS], &mut movements), (3, [KEPT], [LINE, 1]));
+    assert_eq!(call(EXAMPLE_MOVEMENT, &mut movements[1..]), (14, [KEPT], [NOWHERE, 0]));
+    assert!(movements.iter().all(|&byte| byte == b'#'));
+    assert_eq!(call(EXAMPLE_MOVEMENT, &mut movements), (0, [MOVEMENTS as u64], [KEPT; 2]));
+}
+
+#[test]
+fn untouched_by_the_quarter_call() {
+    let call = |sheets: &[u8], summary: &mut [u8]| {
+        let (mut length, mut place) = ([KEPT; 1], [KEPT; 2]);
+        let (lent, room) = (summary.as_mut_ptr(), summary.len());
+        // SAFETY: as in `quarter`.
+        let answer =
+            unsafe { library::tsav_quarter(sheets.as_ptr(), sheets.len(), lent, room, &mut length, &mut place) };
+        (answer, length, place)
+    };
+    let mut summary = [b'#'; LONGEST_SUMMARY];
+    assert_eq!(call(b"", &mut summary[..239]), (14, [KEPT], [NOWHERE, 0]));
+    assert!(summary.iter().all(|&byte| byte == b'#'));
+    assert_eq!(call(b"x", &mut summary), (0, [30], [KEPT; 2]));
+    assert_eq!(call(b"", &mut summary), (0, [240], [KEPT; 2]));
 }

@@ -11,8 +11,8 @@ use lib.Seq.{get_or-append-add}
 use Rattle.std.proofs.Common.{Option, Some, None}
 use Rattle.std.specs.Option.{MatchOption}
 use Rattle.std.specs.List.{AllWithin, HoldsAt}
-use Rattle.search.proofs.Firsts.{found_from, found_unique, none_passes, sought_found, sought_none}
-use Rattle.search.specs.First.{FoundAt}
+use Rattle.basics.proofs.Firsts.{found_from, found_unique, none_passes, sought_found, sought_none}
+use Rattle.basics.specs.First.{FoundAt}
 use Rattle.amount.specs.Amount.{limit, above, first_above}
 
 -- where the search for an amount above the limit finds none, there is none

@@ -1,6 +1,6 @@
 -- Amounts and rule 7, 'a call's amount above the limit'. Assumes nothing.
 use Rattle.std.specs.Prelude.{Bool, List, ℕ, ltb, length, get_or}
-use Rattle.search.specs.First.{first}
+use Rattle.basics.specs.First.{first}
 
 -- 'All amounts are whole cents, 0 to 99,999,999,999,999'
 abbrev pub limit : ℕ

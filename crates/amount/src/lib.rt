@@ -2,7 +2,7 @@
 #![tactic(auto)]
 
 ghost use Rattle.std.specs.Prelude.{◌≡◌, ◌-◌, length};
-ghost use Rattle.search.specs.First.{FoundAt};
+ghost use Rattle.basics.specs.First.{FoundAt};
 ghost use Rattle.amount.specs.Amount.{first_above};
 
 // The largest amount, in cents.

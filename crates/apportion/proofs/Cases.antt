@@ -3,9 +3,9 @@
 use mathlib.Core.Path.{◌≡◌, refl}
 use mathlib.Core.List.{List, [], ◌∷◌}
 use Prim.Native.Nat.{ℕ}
-use Rattle.search.specs.Pick.{pick}
-use Rattle.search.specs.Total.{sum_to, one}
-use Rattle.search.specs.Ascending.{ascending}
+use Rattle.basics.specs.Pick.{pick}
+use Rattle.basics.specs.Total.{sum_to, one}
+use Rattle.basics.specs.Ascending.{ascending}
 use Rattle.apportion.specs.Shares.{value_of_part, base, remainder, left_over, before, rank, cent, share, shares}
 
 -- margins of three parts, and none of the others

@@ -8,11 +8,11 @@ use native.Mathlib.Decide.{dec_le}
 use native.Mathlib.Omega.{arith}
 use lib.Dec.{ltb}
 use borrow.Author.Tests.{lt-ltb, le-ltb}
-use Rattle.search.specs.Total.{one, count_to}
-use Rattle.search.specs.Ascending.{list_to}
-use Rattle.search.proofs.Totals.{one_true, one_false, one_most, one_falls, sum_same, sum_le, sum_add, sum_times, count_most}
-use Rattle.search.proofs.Ascents.{list_at}
-use Rattle.guideline.specs.Sizes.{parts}
+use Rattle.basics.specs.Total.{one, count_to}
+use Rattle.basics.specs.Ascending.{list_to}
+use Rattle.basics.proofs.Totals.{one_true, one_false, one_most, one_falls, sum_same, sum_le, sum_add, sum_times, count_most}
+use Rattle.basics.proofs.Ascents.{list_at}
+use Rattle.sizes.specs.Sizes.{parts}
 use Rattle.apportion.specs.Shares.{value_of_part, total, base, remainder, left_over, before, rank, cent, share, shares}
 use Rattle.apportion.specs.Fair.{Fair}
 use Rattle.apportion.proofs.Ranks.{before_larger, before_lower, rank_lt, ranked}

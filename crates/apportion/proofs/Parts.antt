@@ -11,12 +11,12 @@ use lib.Dec.{ltb, eqb}
 use lib.ListN.{get_or, get_or-map}
 use mir.Val.{bool_byte}
 use Rattle.division.specs.declared.Division.{Division}
-use Rattle.search.specs.Pick.{pick}
-use Rattle.search.specs.Total.{sum_to, one}
-use Rattle.search.specs.Ascending.{list_to}
-use Rattle.search.proofs.Totals.{sum_step, sum_part, sum_same}
-use Rattle.search.proofs.Ascents.{list_same}
-use Rattle.guideline.specs.Sizes.{parts}
+use Rattle.basics.specs.Pick.{pick}
+use Rattle.basics.specs.Total.{sum_to, one}
+use Rattle.basics.specs.Ascending.{list_to}
+use Rattle.basics.proofs.Totals.{sum_step, sum_part, sum_same}
+use Rattle.basics.proofs.Ascents.{list_same}
+use Rattle.sizes.specs.Sizes.{parts}
 use Rattle.apportion.specs.Shares.{value_of_part, total, base, remainder, left_over, before, rank, cent, share, shares}
 use Rattle.apportion.specs.Steps.{Shareable, quotients, rests}
 use Rattle.apportion.proofs.Ranks.{rank_alike}

@@ -7,10 +7,10 @@ use native.Mathlib.Decide.{dec_le}
 use native.Mathlib.Omega.{arith}
 use lib.Dec.{ltb, eqb}
 use borrow.Author.Tests.{ltb-true, ltb-false, lt-ltb, le-ltb, eqb-true, eqb-false}
-use Rattle.search.specs.Pick.{pick}
-use Rattle.search.specs.Total.{sum_to, one, count_to}
-use Rattle.search.proofs.Picks.{if_eq, if_ne, by_test}
-use Rattle.search.proofs.Totals.{one_true, one_false, sum_same, sum_le, sum_lt, count_most}
+use Rattle.basics.specs.Pick.{pick}
+use Rattle.basics.specs.Total.{sum_to, one, count_to}
+use Rattle.basics.proofs.Picks.{if_eq, if_ne, by_test}
+use Rattle.basics.proofs.Totals.{one_true, one_false, sum_same, sum_le, sum_lt, count_most}
 use Rattle.apportion.specs.Shares.{before, rank}
 
 module _ (r : ℕ → ℕ) where

@@ -1,6 +1,6 @@
 -- What is true of the shares, after document 02, #112. proofs/Fair proves it of every K and all margins that are not all zero. Assumes nothing.
 use Rattle.std.specs.Prelude.{◌≡◌, ℕ, ◌+◌, ◌*◌, ◌≤◌, ◌<◌}
-use Rattle.guideline.specs.Sizes.{parts}
+use Rattle.sizes.specs.Sizes.{parts}
 use Rattle.apportion.specs.Shares.{total}
 
 -- of K, the margins and the shares of parts 1 to 10

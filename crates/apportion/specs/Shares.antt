@@ -2,10 +2,10 @@
 -- rounded down; the cents left over go one each to the parts with the largest remainders, equal ones by lower number.' Parts are numbered from
 -- 1 to 10. Nothing here is handed out in turns: a part gets a cent when fewer parts come before it than cents are left over. Assumes nothing.
 use Rattle.std.specs.Prelude.{Bool, List, ℕ, ◌+◌, ◌-◌, ◌*◌, ◌/◌, ◌%◌, ltb, eqb}
-use Rattle.search.specs.Pick.{pick}
-use Rattle.search.specs.Total.{sum_to, one, count_to}
-use Rattle.search.specs.Ascending.{list_to}
-use Rattle.guideline.specs.Sizes.{parts}
+use Rattle.basics.specs.Pick.{pick}
+use Rattle.basics.specs.Total.{sum_to, one, count_to}
+use Rattle.basics.specs.Ascending.{list_to}
+use Rattle.sizes.specs.Sizes.{parts}
 use Rattle.guideline.specs.Factors.{numbered}
 
 -- the number that a list has for part p

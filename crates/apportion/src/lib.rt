@@ -2,15 +2,15 @@
 #![tactic(auto)]
 
 ghost use Rattle.std.specs.Prelude.{◌≡◌, ◌+◌, ◌*◌, ◌/◌, ◌%◌, ◌^◌, ◌≤◌, ◌<◌, ltb, eqb};
-ghost use Rattle.search.specs.Pick.{pick};
-ghost use Rattle.search.specs.Total.{one};
-ghost use Rattle.search.specs.Ascending.{list_to};
-ghost use Rattle.guideline.specs.Sizes.{parts};
+ghost use Rattle.basics.specs.Pick.{pick};
+ghost use Rattle.basics.specs.Total.{one};
+ghost use Rattle.basics.specs.Ascending.{list_to};
+ghost use Rattle.sizes.specs.Sizes.{parts};
 ghost use Rattle.apportion.specs.Shares.{value_of_part, total, base, remainder, left_over, rank, shares};
 ghost use Rattle.apportion.specs.Steps.{Shareable, quotients, rests};
 
 use division::Division;
-use guideline::PARTS;
+use sizes::PARTS;
 use wide::Wide;
 
 // Each share rounded down with its remainder, and the cents left over.

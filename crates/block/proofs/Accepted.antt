@@ -7,18 +7,18 @@ use Prim.Native.Nat.{ℕ, ◌≤◌}
 use native.Mathlib.Omega.{arith}
 use lib.ListN.{length, get_or}
 use borrow.Author.Tests.{le-ltb, ltb-false, eqb-true}
-use Rattle.search.proofs.Picks.{by_test}
-use Rattle.search.specs.Each.{Each}
-use Rattle.search.proofs.Eaches.{each_at}
-use Rattle.search.proofs.Values.{values, values_same, is_values}
-use Rattle.search.proofs.Firsts.{sought_none}
+use Rattle.basics.proofs.Picks.{by_test}
+use Rattle.basics.specs.Each.{Each}
+use Rattle.basics.proofs.Eaches.{each_at}
+use Rattle.basics.proofs.Values.{values, values_same, is_values}
+use Rattle.basics.proofs.Firsts.{sought_none}
 use Rattle.refusal.specs.Outcome.{Outcome}
 use Rattle.refusal.specs.Outcome.Outcome.{accepted, refused}
 use Rattle.amount.specs.Amount.{limit}
 use Rattle.amount.proofs.Amounts.{none_above, all_within}
-use Rattle.guideline.specs.Sizes.{risks, block_numbers}
+use Rattle.sizes.specs.Sizes.{risks, block_numbers}
 use Rattle.guideline.specs.Block.{AcceptedBlock, lt, figures_of}
-use Rattle.guideline.proofs.Demand.{block_demand}
+use Rattle.accuracy.proofs.Demand.{block_demand}
 use Rattle.figures.specs.RootSteps.{steps_of}
 use Rattle.figures.proofs.Joint.{few_steps_both}
 use Rattle.block.specs.Call.{lt_above, first_lt_above, rule8, rule9, block_call}

@@ -3,8 +3,8 @@
 use mathlib.Core.Path.{◌≡◌, refl}
 use mathlib.Core.List.{List, [], ◌∷◌, map}
 use Prim.Native.Nat.{ℕ}
-use Rattle.search.specs.Pick.{pick}
-use Rattle.search.specs.First.{first_from}
+use Rattle.basics.specs.Pick.{pick}
+use Rattle.basics.specs.First.{first_from}
 use Rattle.refusal.specs.Outcome.Outcome.{refused}
 use Rattle.refusal.specs.declared.Place.TheVariants.{Position}
 use Rattle.amount.specs.Amount.{first_above}

@@ -10,13 +10,13 @@ use Rattle.std.proofs.Common.{Option, Some, None}
 use Rattle.std.specs.Option.{MatchOption}
 use Rattle.std.specs.List.{AllWithin, HoldsAt, range_with_len}
 use Rattle.std.proofs.lemmas.List.FromFn.{get_or-range_with_len}
-use Rattle.search.proofs.Picks.{if_lt, if_ge, if_eq, if_ne}
-use Rattle.search.proofs.Firsts.{none_passes, sought_found, sought_none}
+use Rattle.basics.proofs.Picks.{if_lt, if_ge, if_eq, if_ne}
+use Rattle.basics.proofs.Firsts.{none_passes, sought_found, sought_none}
 use Rattle.refusal.specs.Outcome.Outcome.{accepted, refused}
 use Rattle.refusal.specs.declared.Place.TheVariants.{Position}
-use Rattle.search.specs.First.{FoundAt}
+use Rattle.basics.specs.First.{FoundAt}
 use Rattle.amount.specs.Amount.{limit, first_above}
-use Rattle.guideline.specs.Sizes.{risks}
+use Rattle.sizes.specs.Sizes.{risks}
 use Rattle.guideline.specs.Block.{AcceptedBlock, lt, figures_of}
 use Rattle.guideline.proofs.Figures.{accepted_of_lem}
 use Rattle.figures.specs.RootSteps.{steps_of}

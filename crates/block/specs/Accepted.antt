@@ -4,9 +4,9 @@ use Rattle.std.specs.Prelude.{◌≡◌, List, ◌++◌, ℕ, ◌≤◌, length,
 use Rattle.refusal.specs.Outcome.{Outcome}
 use Rattle.refusal.specs.Outcome.Outcome.{accepted, refused}
 use Rattle.refusal.specs.declared.Place.{Place}
-use Rattle.guideline.specs.Sizes.{block_numbers, most_steps}
+use Rattle.sizes.specs.Sizes.{block_numbers, most_steps}
 use Rattle.guideline.specs.Block.{AcceptedBlock, figures_of}
-use Rattle.guideline.specs.Demand.{BlockDemand}
+use Rattle.accuracy.specs.Demand.{BlockDemand}
 use Rattle.figures.specs.RootSteps.{steps_of}
 use Rattle.block.specs.Call.{block_call}
 

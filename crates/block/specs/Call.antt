@@ -2,14 +2,14 @@
 -- position of the first bad LT', and 'Accepted, the block call gives I, D, U, LT and K'; after them, by document 02, #107, the steps of the
 -- two roots. Assumes nothing.
 use Rattle.std.specs.Prelude.{Bool, Result, ⊤, List, ◌++◌, ℕ, ◌+◌, ◌*◌, ltb, eqb, length, get_or}
-use Rattle.search.specs.Pick.{pick}
-use Rattle.search.specs.First.{first}
+use Rattle.basics.specs.Pick.{pick}
+use Rattle.basics.specs.First.{first}
 use Rattle.amount.specs.Amount.{first_above}
 use Rattle.refusal.specs.Outcome.{Outcome, stated_by}
 use Rattle.refusal.specs.Outcome.Outcome.{accepted, refused}
 use Rattle.refusal.specs.declared.Place.TheVariants.{Position}
 use Rattle.refusal.specs.declared.Refusal.{Refusal}
-use Rattle.guideline.specs.Sizes.{risks}
+use Rattle.sizes.specs.Sizes.{risks}
 use Rattle.guideline.specs.declared.Block.{Block}
 use Rattle.guideline.specs.Block.{lt, figures_of}
 use Rattle.figures.specs.declared.Worked.{Worked}
@@ -24,7 +24,7 @@ stated = stated_by (λ w. figure_list w.figures ++ step_list w.steps)
 abbrev pub stated_block : Result Block Refusal → Outcome
 stated_block = stated_by (λ k. figures_of k.numbers ++ steps_of k.numbers)
 
--- the same where the answer holds nothing, by the numbers that were tested
+-- the same where the answer holds nothing, by the numbers that were tested; it serves a private contract alone
 abbrev pub stated_numbers : List ℕ → Result ⊤ Refusal → Outcome
 stated_numbers b = stated_by (λ nothing. figures_of b ++ steps_of b)
 

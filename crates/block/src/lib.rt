@@ -2,15 +2,16 @@
 #![tactic(auto)]
 
 ghost use Rattle.std.specs.Prelude.{◌≡◌, IfOk};
-ghost use Rattle.search.specs.First.{FoundAt};
-ghost use Rattle.guideline.specs.Sizes.{risks};
+ghost use Rattle.basics.specs.First.{FoundAt};
+ghost use Rattle.sizes.specs.Sizes.{risks};
 ghost use Rattle.guideline.specs.Block.{AcceptedBlock};
 ghost use Rattle.block.specs.Call.{stated, stated_block, stated_numbers, block_call, first_lt_above};
 ghost use Rattle.block.specs.Accepted.{BlockDemand3, FewSteps};
 
 use figures::Worked;
-use guideline::{BLOCK_NUMBERS, Block, RISKS};
+use guideline::Block;
 use refusal::{Place, Refusal, Rule};
+use sizes::{BLOCK_NUMBERS, RISKS};
 
 // A block of any 17 numbers: seven pairs IR, LT, then PC, credit, market. Where it is accepted, the figures meet demand 3,
 // and no root took more than 58 steps.

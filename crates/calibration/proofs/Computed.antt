@@ -4,14 +4,14 @@ use mathlib.Core.Path.{◌≡◌, refl}
 use mathlib.Core.List.{List, [], ◌∷◌}
 use Prim.Native.Nat.{ℕ, suc, ◌*◌}
 use lib.Dec.{T, eqb}
-use Rattle.search.specs.Pick.{pick}
-use Rattle.search.specs.Least.{least_from}
-use Rattle.search.specs.First.{first_from, first, any_to}
-use Rattle.search.specs.Total.{sum_to, one}
-use Rattle.search.specs.Ascending.{ascending}
+use Rattle.basics.specs.Pick.{pick}
+use Rattle.basics.specs.Least.{least_from}
+use Rattle.basics.specs.First.{first_from, first, any_to}
+use Rattle.basics.specs.Total.{sum_to, one}
+use Rattle.basics.specs.Ascending.{ascending}
 use Rattle.refusal.specs.Outcome.Outcome.{accepted}
 use Rattle.amount.specs.Amount.{first_above}
-use Rattle.guideline.specs.Sizes.{risks, fineness}
+use Rattle.sizes.specs.Sizes.{risks, fineness}
 use Rattle.guideline.specs.Factors.{factors, sumℤ}
 use Rattle.guideline.specs.Block.{A, U, LT, Vh, y, ys, Q4, largest_of, largest, root, fine_i, a, fine_d, reported, I, D, requirement, K, figures_of}
 use Rattle.guideline.specs.Operational.{total, volume, growth, operational_numerator, RO}
@@ -27,7 +27,7 @@ use Rattle.fluctuation.specs.Call.{rule7 as fluctuation_rule7, fluctuation_call}
 use Rattle.apportion.specs.Shares.{base, remainder, left_over, before, rank, cent, share, shares}
 use Rattle.shares.specs.Margins.{without, k_without, margin}
 use Rattle.shares.specs.Call.{after_block, unless_zero, rule23, shares_call}
-use Rattle.order.specs.Entries.{has_key, lookup}
+use Rattle.places.specs.Entries.{has_key, lookup}
 use Rattle.ledger.specs.Numbers.{pairs, volumes_by}
 use Rattle.calibration.specs.Points.{nothing, gives, all_given, points}
 use Rattle.calibration.specs.Miscalibrations.{i_from, pc_in_risk, k_lost, ys_halved, each_rounded}

@@ -11,20 +11,21 @@ use Rattle.std.proofs.lemmas.Nat.{mul-lt}
 use lib.IntN.{ℤ, pos}
 use lib.Dec.{leb}
 use lib.ListN.{get_or}
-use Rattle.search.specs.Pick.{pick}
-use Rattle.search.specs.Least.{least}
-use Rattle.search.proofs.LeastOf.{least_eq}
+use Rattle.basics.specs.Pick.{pick}
+use Rattle.basics.specs.Least.{least}
+use Rattle.basics.proofs.LeastOf.{least_eq}
 use Rattle.refusal.specs.Outcome.{Outcome}
 use Rattle.refusal.specs.Outcome.Outcome.{accepted}
-use Rattle.guideline.specs.Sizes.{fineness, ten_thousandths}
+use Rattle.sizes.specs.Sizes.{fineness, ten_thousandths}
 use Rattle.guideline.specs.Factors.{factors, sumℤ}
 use Rattle.guideline.specs.Block.{A, U, LT, Vh, y, ys, Q4, largest_of, largest, a, radicand, k_numerator}
 use Rattle.guideline.specs.Operational.{total, volume, growth, operational_numerator}
-use Rattle.guideline.specs.Fraction.{Fraction, ◌≤ᶠ◌, ◌<ᶠ◌, whole, ratio}
-use Rattle.guideline.specs.Exact.{Fits}
-use Rattle.guideline.specs.Buffer.{Sheet, StrictlyBelowBuffer}
-use Rattle.guideline.proofs.Fractions.{nat, radicand_nat}
-use Rattle.guideline.proofs.Exactly.{k_at_some}
+use Rattle.accuracy.specs.Fraction.{Fraction, ◌≤ᶠ◌, ◌<ᶠ◌, whole, ratio}
+use Rattle.accuracy.specs.Exact.{Fits}
+use Rattle.guideline.specs.Buffer.{Sheet}
+use Rattle.accuracy.specs.ExactBuffer.{StrictlyBelowBuffer}
+use Rattle.accuracy.proofs.Fractions.{nat, radicand_nat}
+use Rattle.accuracy.proofs.Exactly.{k_at_some}
 use Rattle.calibration.specs.Points.{nothing}
 use Rattle.calibration.specs.Miscalibrations.{MeetsBlock, nearest, KeepsWhole, k_by_roots, IToNearest, DToNearest}
 use Rattle.calibration.proofs.Computed.{root_block, computed}

@@ -12,18 +12,17 @@ use lib.Dec.{leb, eqb}
 use lib.ListN.{length, get_or, set, replicate, get_or-eq_default}
 use borrow.Author.Tests.{leb-true}
 use Rattle.std.proofs.lemmas.List.{length-set, length-replicate, get_or-replicate, get_or-set_same, get_or-set_other}
-use Rattle.search.specs.Pick.{pick}
-use Rattle.search.proofs.Picks.{if_eq, if_ne, by_test}
-use Rattle.search.proofs.Values.{values, values_same}
-use Rattle.search.specs.Least.{least}
-use Rattle.search.proofs.LeastOf.{least_of}
+use Rattle.basics.specs.Pick.{pick}
+use Rattle.basics.proofs.Picks.{if_eq, if_ne, by_test}
+use Rattle.basics.proofs.Values.{values, values_same}
+use Rattle.basics.specs.Least.{least}
+use Rattle.basics.proofs.LeastOf.{least_of}
 use Rattle.refusal.specs.Outcome.{Outcome}
 use Rattle.refusal.specs.Outcome.Outcome.{accepted}
 use Rattle.amount.specs.Amount.{limit}
-use Rattle.guideline.specs.Sizes.{volume_classes, volume_numbers, volume_pairs, general_figures}
+use Rattle.sizes.specs.Sizes.{volume_classes, volume_numbers, volume_pairs, general_figures}
 use Rattle.guideline.proofs.Charges.{factor_most}
-use Rattle.guideline.specs.Operational.{general_requirement, volume_factors, factor_of, current, prior, total, volume, excess, growth}
-use Rattle.guideline.specs.Operational.{operational_numerator, operational_denominator, RO}
+use Rattle.guideline.specs.Operational.{general_requirement, volume_factors, factor_of, current, prior, total, volume, excess, growth, operational_numerator, operational_denominator, RO}
 use Rattle.operational.specs.Call.{operational_call}
 use Rattle.operational.proofs.Accepted.{accepts_operational}
 use Rattle.calibration.specs.Points.{nothing}

@@ -10,22 +10,20 @@ use lib.IntN.{ℤ, pos}
 use lib.ListN.{length, get_or, set}
 use Rattle.std.specs.Int.Signed.{le_z}
 use Rattle.std.proofs.lemmas.List.{get_or-set_same}
-use Rattle.search.specs.Pick.{pick}
-use Rattle.search.specs.Least.{least}
-use Rattle.search.proofs.Picks.{never, if_lt}
-use Rattle.search.proofs.LeastOf.{least_eq, ceil_eq}
+use Rattle.basics.specs.Pick.{pick}
+use Rattle.basics.specs.Least.{least}
+use Rattle.basics.proofs.Picks.{never, if_lt}
+use Rattle.basics.proofs.LeastOf.{least_eq, ceil_eq}
 use Rattle.refusal.specs.Outcome.{Outcome}
 use Rattle.refusal.specs.Outcome.Outcome.{accepted, refused}
-use Rattle.guideline.specs.Sizes.{risks, block_figures, fineness}
+use Rattle.sizes.specs.Sizes.{risks, block_figures, fineness}
 use Rattle.guideline.specs.Block.{seven, PC, U, LT, largest, root, fine_d, reported, I, D, requirement, figures_of}
 use Rattle.figures.specs.RootSteps.{steps_of}
 use Rattle.block.specs.Call.{block_call}
 use Rattle.block.specs.Accepted.{BlockDemand3}
 use Rattle.block.proofs.Accepted.{block_demanded}
 use Rattle.operational.specs.Call.{operational_call}
-use Rattle.calibration.specs.Miscalibrations.{put_in_place, put_at, GivesFigure, GivesRO, pc_in_risk, PcInOneRisk, PcLeftOut, i_from}
-use Rattle.calibration.specs.Miscalibrations.{ys_halved, LTHalvedInY, v_halved, WholeHalf, KeepsWholeD, LTHalvedInV, k_lost}
-use Rattle.calibration.specs.Miscalibrations.{nearest, KeepsWhole, k_by_roots, IToNearest, DToNearest}
+use Rattle.calibration.specs.Miscalibrations.{put_in_place, put_at, GivesFigure, GivesRO, pc_in_risk, PcInOneRisk, PcLeftOut, i_from, ys_halved, LTHalvedInY, v_halved, WholeHalf, KeepsWholeD, LTHalvedInV, k_lost, nearest, KeepsWhole, k_by_roots, IToNearest, DToNearest}
 use Rattle.calibration.proofs.Nearest.{nearest_is}
 
 -- where it accepts, the figure is x

@@ -12,19 +12,17 @@ use native.Mathlib.Omega.{arith}
 use lib.Dec.{eqb}
 use lib.ListN.{length, get_or}
 use borrow.Author.Tests.{eqb-false}
-use Rattle.search.proofs.Firsts.{none_passes}
-use Rattle.search.proofs.LeastOf.{LeastOf, least_of}
+use Rattle.basics.proofs.Firsts.{none_passes}
+use Rattle.basics.proofs.LeastOf.{LeastOf, least_of}
 use Rattle.refusal.specs.Outcome.{Outcome}
 use Rattle.refusal.specs.Outcome.Outcome.{accepted}
-use Rattle.guideline.specs.Sizes.{risks, block_numbers, territory_numbers, ten_thousandths}
+use Rattle.sizes.specs.Sizes.{risks, block_numbers, territory_numbers, ten_thousandths}
 use Rattle.guideline.specs.Block.{A, U, LT, y, ys, largest_of, largest}
 use Rattle.guideline.specs.Operational.{total, volume}
 use Rattle.block.specs.Call.{block_call}
 use Rattle.operational.specs.Call.{operational_call}
 use Rattle.calibration.specs.Points.{nothing}
-use Rattle.calibration.specs.Miscalibrations.{MeetsBlock, GivesFigure, PcInOneRisk, pc_in_risk, PcLeftOut}
-use Rattle.calibration.specs.Miscalibrations.{LTHalvedInY, y_halved, ys_halved, lts, LTHalvedInV, k_lost}
-use Rattle.calibration.specs.Miscalibrations.{MeetsOperational, GivesRO, EachRounded, PriorInWholeCents, over_ten_thousand, whole_cents}
+use Rattle.calibration.specs.Miscalibrations.{MeetsBlock, GivesFigure, PcInOneRisk, pc_in_risk, PcLeftOut, LTHalvedInY, y_halved, ys_halved, lts, LTHalvedInV, k_lost, MeetsOperational, GivesRO, EachRounded, PriorInWholeCents, over_ten_thousand, whole_cents}
 use Rattle.calibration.proofs.Computed.{pc_block, floor_block, odd_block, two_cents, three_classes, class_one, computed}
 
 -- I is 445, and another number with PC in a risk

@@ -3,17 +3,15 @@
 -- the call accepts, its figure is that one. Netting is what is true of two of its figures. Nothing is asked of what the call refuses, nor of
 -- lists of a length that no caller can hand it.
 -- Assumes nothing.
-use Rattle.std.specs.Prelude.{◌≡◌, List, [], ◌∷◌, ℕ, ◌+◌, ◌-◌, ◌*◌, ◌/◌, ◌^◌, max, ◌≤◌, ◌<◌, leb, eqb, length, get_or, set, drop}
-use Rattle.std.specs.Prelude.{ℤ, pos, ◌*ℤ◌}
+use Rattle.std.specs.Prelude.{◌≡◌, List, [], ◌∷◌, ℕ, ◌+◌, ◌-◌, ◌*◌, ◌/◌, ◌^◌, max, ◌≤◌, ◌<◌, leb, eqb, length, get_or, set, drop, ℤ, pos, ◌*ℤ◌}
 use Rattle.std.specs.Int.Signed.{le_z}
-use Rattle.search.specs.Pick.{pick}
-use Rattle.search.specs.Least.{least}
+use Rattle.basics.specs.Pick.{pick}
+use Rattle.basics.specs.Least.{least}
 use Rattle.refusal.specs.Outcome.{Outcome}
 use Rattle.refusal.specs.Outcome.Outcome.{accepted, refused}
-use Rattle.guideline.specs.Sizes.{risks, block_numbers, territory_numbers, volume_numbers, general_figures, fineness, ten_thousandths}
+use Rattle.sizes.specs.Sizes.{risks, block_numbers, territory_numbers, volume_numbers, general_figures, fineness, ten_thousandths}
 use Rattle.guideline.specs.Factors.{quarter_sum}
-use Rattle.guideline.specs.Block.{ir, lt, PC, U, LT, Vh, y, ys, Q4, largest_of, largest, root, a, radicand, fine_d, reported}
-use Rattle.guideline.specs.Block.{k_numerator, requirement, EachRisk}
+use Rattle.guideline.specs.Block.{ir, lt, PC, U, LT, Vh, y, ys, Q4, largest_of, largest, root, a, radicand, fine_d, reported, k_numerator, requirement, EachRisk}
 use Rattle.guideline.specs.Operational.{factor_of, current, prior, total, volume, general_requirement, operational_denominator}
 use Rattle.block.specs.Call.{block_call}
 use Rattle.operational.specs.Call.{operational_call}

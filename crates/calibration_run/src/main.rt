@@ -4,8 +4,8 @@
 #![tactic(auto)]
 
 use amount::LARGEST_AMOUNT;
-use guideline::{BLOCK_NUMBERS, GENERAL_FIGURES, RISKS, TERRITORY_NUMBERS, VOLUME_NUMBERS};
 use refusal::{Place, Refusal};
+use sizes::{BLOCK_NUMBERS, GENERAL_FIGURES, RISKS, TERRITORY_NUMBERS, VOLUME_NUMBERS};
 
 // The largest word: an amount far above the limit.
 const MOST: u64 = u64::MAX;

@@ -1,8 +1,8 @@
 -- The codes of a line: document 01's table of them, the sheet and the report. A code more is a clause more in each definition.
 -- Bytes are numbers: R is 82. Assumes nothing.
 use Rattle.std.specs.Prelude.{Option, Some, None, ℕ, zero, suc, ◌+◌, ◌≤◌, List, [], ◌∷◌, Bool, false, eqb, get_or}
-use Rattle.search.specs.Pick.{pick}
-use Rattle.guideline.specs.Sizes.{non_participating, blocks, risks, other_amounts, territories, volume_classes, adjustable_products}
+use Rattle.basics.specs.Pick.{pick}
+use Rattle.sizes.specs.Sizes.{non_participating, blocks, risks, other_amounts, territories, volume_classes, adjustable_products}
 use Rattle.codes.specs.declared.Code.{Code}
 use Rattle.codes.specs.declared.Code.TheVariants.{Rsk, Oth, Mor, Vol, Acq, Gen, Crd}
 use Rattle.codes.specs.declared.Range.{Range}

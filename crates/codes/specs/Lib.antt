@@ -1,2 +1,3 @@
 -- The codes of a sheet's line. Assumes nothing.
 pub mod Codes
+pub mod Rows

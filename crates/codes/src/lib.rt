@@ -3,9 +3,10 @@
 
 ghost use Rattle.std.specs.Prelude.{◌≡◌, ◌≤◌, length};
 ghost use Rattle.codes.specs.Codes.{letters_of, range_of, code_of};
+ghost use Rattle.codes.specs.Rows.{place_of, row_of, range_at};
 
 use cast::word;
-use guideline::{
+use sizes::{
     ADJUSTABLE_PRODUCTS, BLOCKS, NON_PARTICIPATING, OTHER_AMOUNTS, RISKS, TERRITORIES,
     VOLUME_CLASSES,
 };
@@ -68,7 +69,7 @@ pub const SCALAR_CLASS: usize = 4;
 pub const DIVIDEND_CLASSES: usize = 1;
 
 // The code whose letters columns 1 to 3 are.
-#[tactic(auto, unfolding(crate::specs::Codes::code_among, crate::specs::Codes::is_code, search::specs::Pick::pick))]
+#[tactic(auto, unfolding(crate::specs::Codes::code_among, crate::specs::Codes::is_code, basics::specs::Pick::pick))]
 pub fn read_code(s: &[u8]) -> Option<Code>
     requires { 3 ≤ length s.now }
     ensures { result ≡ code_of s.now }
@@ -103,58 +104,91 @@ impl From<Code> for [u8; 3] {
 }
 
 // The range of a code that a block falls under.
+#[tactic(auto, using(crate::proofs::Ranges::range_in_row))]
 pub fn range_of(code: Code, block: u64) -> Range
     ensures { result ≡ range_of code block }
 {
+    range_at(row_of(code, block))
+}
+
+// The row of the ranges for a code and a block: the code's place, and behind them all the second one of CRD, that of block 0.
+//
+// Kept: a sum and no `if` for CRD, which the compiler would take into the match below: all its arms are constants, so that a range is loaded and not
+// jumped to (docs/DECISIONS.md).
+fn row_of(code: Code, block: u64) -> u64
+    ensures { result ≡ row_of code block }
+{
+    place_of(code) + u64::from(matches!(code, Code::Crd) & (block == 0))
+}
+
+// A code's place in the order of codes, from 0.
+fn place_of(code: Code) -> u64
+    ensures { result ≡ place_of code }
+{
     match code {
-        Code::Rsk => Range {
+        Code::Rsk => 0,
+        Code::Oth => 1,
+        Code::Mor => 2,
+        Code::Vol => 3,
+        Code::Acq => 4,
+        Code::Gen => 5,
+        Code::Crd => 6,
+    }
+}
+
+// The range in a row.
+#[tactic(auto, unfolding(crate::specs::Rows::range_at, basics::specs::Pick::pick))]
+fn range_at(row: u64) -> Range
+    ensures { result ≡ range_at row }
+{
+    match row {
+        // RSK
+        0 => Range {
             lowest: 1,
             highest: word(BLOCKS),
             classes: word(RISK_CLASSES),
         },
-        Code::Oth => Range {
+        // OTH
+        1 => Range {
             lowest: 1,
             highest: word(BLOCKS),
             classes: word(OTHER_CLASSES),
         },
-        Code::Mor => Range {
+        // MOR
+        2 => Range {
             lowest: 1,
             highest: word(NON_PARTICIPATING),
             classes: word(MORTALITY_CLASSES),
         },
-        Code::Vol => Range {
+        // VOL
+        3 => Range {
             lowest: 1,
             highest: word(TERRITORIES),
             classes: word(VOLUME_CLASSES),
         },
-        Code::Acq => Range {
+        // ACQ
+        4 => Range {
             lowest: 1,
             highest: word(TERRITORIES),
             classes: word(ACQUIRED_CLASSES),
         },
-        Code::Gen => Range {
+        // GEN
+        5 => Range {
             lowest: 0,
             highest: 0,
             classes: word(GENERAL_CLASSES),
         },
-        Code::Crd => credit_range(block),
-    }
-}
-
-// CRD's range: adjustable products in block 0, else a dividend credit of a participating block.
-fn credit_range(block: u64) -> Range
-    ensures { result ≡ range_of Code.Crd block }
-{
-    if block == 0 {
-        return Range {
+        // CRD, the dividend credit of a participating block
+        6 => Range {
+            lowest: word(NON_PARTICIPATING) + 1,
+            highest: word(BLOCKS),
+            classes: word(DIVIDEND_CLASSES),
+        },
+        // CRD of block 0, adjustable products
+        _ => Range {
             lowest: 0,
             highest: 0,
             classes: word(ADJUSTABLE_PRODUCTS),
-        };
-    }
-    Range {
-        lowest: word(NON_PARTICIPATING) + 1,
-        highest: word(BLOCKS),
-        classes: word(DIVIDEND_CLASSES),
+        },
     }
 }

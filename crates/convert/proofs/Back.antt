@@ -6,8 +6,8 @@ use mathlib.Core.List.{List, [], ◌∷◌, ◌++◌, map}
 use Prim.Native.Nat.{ℕ, ◌*◌, ◌%◌, ◌≤◌, ◌<◌}
 use native.Mathlib.Omega.{arith}
 use lib.ListN.{length, length-map}
-use Rattle.search.specs.Each.{Each}
-use Rattle.search.proofs.Picks.{never}
+use Rattle.basics.specs.Each.{Each}
+use Rattle.basics.proofs.Picks.{never}
 use Rattle.codes.specs.declared.Code.{Code}
 use Rattle.layout.specs.Columns.{sheet_line_bytes, columns, lettered}
 use Rattle.layout.specs.Whole.{whole_lines, line_at}
@@ -25,7 +25,7 @@ use Rattle.order.proofs.Printed.{printed_by, read_by, length_by}
 use Rattle.scaled_line.specs.Scale.{other, letters_in, scale_of, print_in}
 use Rattle.scaled_line.specs.Amounts.{convertible, rescaled}
 use Rattle.convert.specs.Call.{reading_in, after_reading, conversion}
-use Rattle.printing.specs.Lent.Text.{no_text, bytes}
+use Rattle.text_answer.specs.Lent.Text.{no_text, bytes}
 use Rattle.scaled_line.specs.Other.{other_line}
 use Rattle.scaled_line.specs.declared.Scale.{Scale}
 use Rattle.scaled_line.specs.declared.Scale.TheVariants.{Cents, Thousands}

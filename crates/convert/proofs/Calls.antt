@@ -6,12 +6,12 @@ use Prim.Native.Nat.{ℕ, ◌%◌, ◌≤◌, ◌<◌}
 use native.Mathlib.Omega.{arith}
 use lib.ListN.{length, drop}
 use lib.Seq.{take_at}
-use Rattle.search.proofs.Picks.{never}
+use Rattle.basics.proofs.Picks.{never}
 use Rattle.refusal.specs.Outcome.{Judging, printed, rule_number}
 use Rattle.refusal.specs.Outcome.Outcome.{accepted, refused}
 use Rattle.refusal.specs.declared.Place.{Place}
 use Rattle.refusal.specs.declared.Place.TheVariants.{Line, Nowhere}
-use Rattle.guideline.specs.Sizes.{FitsColumns}
+use Rattle.sizes.specs.Sizes.{FitsColumns}
 use Rattle.layout.specs.Columns.{sheet_line_bytes}
 use Rattle.sheet_length.specs.Measured.{longest_sheet, measured, after_length}
 use Rattle.std.specs.Prelude.{Result, Ok, Err}
@@ -21,11 +21,11 @@ use Rattle.sheet_line.specs.declared.Entry.{Entry}
 use Rattle.order.specs.Reading.{Reading, outcome_of}
 use Rattle.order.specs.Reading.Reading.{complete, stopped}
 use Rattle.order.proofs.Lines.{stopped_by}
-use Rattle.printing.specs.Lent.{Done, stated, untouched}
-use Rattle.printing.specs.Lent.Text.{no_text}
-use Rattle.printing.specs.Printing.{printout, Printed, Shown}
-use Rattle.printing.proofs.Lent as lent
-use Rattle.printing.proofs.Lent.{RoomFor, Numbered}
+use Rattle.text_answer.specs.Lent.{Done, stated, untouched}
+use Rattle.text_answer.specs.Lent.Text.{no_text}
+use Rattle.text_answer.specs.Printing.{printout, Printed, Shown}
+use Rattle.text_answer.proofs.Lent as lent
+use Rattle.text_answer.proofs.Lent.{RoomFor, Numbered}
 use Rattle.scaled_line.specs.Scale.{scale_of, parse_in}
 use Rattle.scaled_line.specs.Amounts.{convertible}
 use Rattle.convert.specs.Call.{reading_in, after_reading, conversion, convert_call, ConvertsBack}

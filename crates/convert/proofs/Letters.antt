@@ -9,8 +9,8 @@ use native.Mathlib.Decide.{dec_le}
 use native.Mathlib.Omega.{arith}
 use lib.ListN.{length, take, drop, take-append-drop, length-drop, get_or-append}
 use lib.Seq.{drop-drop, length-take-le, take-add, take_at, drop_at}
-use Rattle.search.specs.Pick.{pick}
-use Rattle.search.proofs.Picks.{never}
+use Rattle.basics.specs.Pick.{pick}
+use Rattle.basics.proofs.Picks.{never}
 use Rattle.refusal.specs.Outcome.{rule_number}
 use Rattle.refusal.specs.declared.Place.TheVariants.{Line}
 use Rattle.refusal.specs.declared.Rule.{Rule}
@@ -31,8 +31,8 @@ use Rattle.sheet_line.proofs.Printed.{code_letters}
 use Rattle.order.specs.Reading.{Reading, line_after, on_line, read_from, print_by}
 use Rattle.order.specs.Reading.Reading.{complete, stopped}
 use Rattle.order.proofs.Lines.{read_more, on_good, by_line, next_line}
-use Rattle.printing.specs.Lent.{Text}
-use Rattle.printing.specs.Lent.Text.{no_text}
+use Rattle.text_answer.specs.Lent.{Text}
+use Rattle.text_answer.specs.Lent.Text.{no_text}
 use Rattle.scaled_line.specs.Scale.{other, raise, lower, letters_in, scale_of, raised, parse_in}
 use Rattle.scaled_line.specs.Amounts.{convertible}
 use Rattle.scaled_line.specs.declared.Scale.{Scale}

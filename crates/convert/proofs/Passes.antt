@@ -8,8 +8,8 @@ use Prim.Native.Nat.{ℕ, ◌+◌, ◌-◌, ◌*◌, ◌%◌, ◌≤◌, ◌<◌
 use native.Mathlib.Omega.{arith}
 use lib.ListN.{length, take, drop, length-drop}
 use lib.Seq.{length-take-le}
-use Rattle.search.proofs.Picks.{never}
-use Rattle.search.proofs.Stretches.{Wrote, nothing, part}
+use Rattle.basics.proofs.Picks.{never}
+use Rattle.basics.proofs.Stretches.{Wrote, nothing, part}
 use Rattle.refusal.specs.Outcome.Outcome.{accepted, refused}
 use Rattle.refusal.specs.declared.Place.TheVariants as place
 use Rattle.codes.specs.Codes.{Key}
@@ -20,8 +20,7 @@ use Rattle.sheet_line.specs.declared.Entry.{Entry}
 use Rattle.std.specs.Prelude.{Result, Ok, Err}
 use Rattle.refusal.specs.declared.Rule.{Rule}
 use Rattle.refusal.specs.Outcome.{rule_number}
-use Rattle.order.specs.Marks.{Admits}
-use Rattle.order.specs.Order.{key_for}
+use Rattle.order.specs.Order.{Admits, key_for}
 use Rattle.order.specs.Reading.{line_after, read_from, outcome_of, print_by}
 use Rattle.order.specs.Reading.Reading.{complete}
 use Rattle.order.proofs.Lines as lines

@@ -5,10 +5,10 @@ use native.Mathlib.Omega.{arith}
 use Rattle.refusal.specs.Outcome.Outcome.{refused}
 use Rattle.refusal.specs.declared.Place.{Place}
 use Rattle.refusal.specs.declared.Place.TheVariants.{Nowhere}
-use Rattle.printing.specs.Lent.{TooLong}
-use Rattle.printing.specs.Lent.Text.{no_text}
-use Rattle.printing.specs.Printing.{ReadsRefusal, printout}
-use Rattle.printing.proofs.Lent as lent
+use Rattle.text_answer.specs.Lent.{TooLong}
+use Rattle.text_answer.specs.Lent.Text.{no_text}
+use Rattle.text_answer.specs.Printing.{ReadsRefusal, printout}
+use Rattle.text_answer.proofs.Lent as lent
 use Rattle.convert.specs.Call.{conversion, convert_call}
 use Rattle.convert.proofs.Back.{same_length}
 use Rattle.convert.proofs.Calls.{right_numbers}

@@ -9,8 +9,8 @@ use Rattle.refusal.specs.declared.Place.TheVariants.{Line}
 use Rattle.sheet_length.specs.Measured.{measured, after_length}
 use Rattle.order.specs.Reading.{Reading, reading_by, print_by}
 use Rattle.order.specs.Reading.Reading.{complete, stopped}
-use Rattle.printing.specs.Lent.{Text, Done, lent}
-use Rattle.printing.specs.Lent.Text.{no_text, bytes}
+use Rattle.text_answer.specs.Lent.{Text, Done, lent}
+use Rattle.text_answer.specs.Lent.Text.{no_text, bytes}
 use Rattle.scaled_line.specs.Scale.{scale_of, parse_in}
 use Rattle.scaled_line.specs.Amounts.{convertible}
 use Rattle.scaled_line.specs.Other.{other_line}

@@ -6,7 +6,7 @@ use Rattle.scaled_line.specs.Other.{other_line}
 use Rattle.scaled_line.specs.declared.Scale.{Scale}
 use Rattle.order.specs.Reading.{print_by}
 use Rattle.order.specs.Reading.Reading.{complete}
-use Rattle.printing.specs.Lent.{Done, lent}
+use Rattle.text_answer.specs.Lent.{Done, lent}
 use Rattle.convert.specs.Call.{reading_in, after_reading}
 
 -- the room after the lines of a sheet, where all are good, and before

@@ -6,16 +6,16 @@
 
 ghost use Rattle.std.specs.Prelude.{◌≡◌, [], ◌%◌, ◌≤◌, length};
 ghost use Rattle.layout.specs.Columns.{sheet_line_bytes};
-ghost use Rattle.order.specs.Marks.{marks_of};
+ghost use Rattle.places.specs.Marks.{marks_of};
 ghost use Rattle.order.specs.Reading.{outcome_of};
-ghost use Rattle.printing.specs.Lent.{stated, Done};
-ghost use Rattle.printing.specs.Printing.{printout, Printed};
+ghost use Rattle.text_answer.specs.Lent.{stated, Done};
+ghost use Rattle.text_answer.specs.Printing.{printout, Printed};
 ghost use Rattle.scaled_line.specs.Moved.{moved_line};
 ghost use Rattle.convert.specs.Call.{conversion, reading_in, convert_call, ConvertsBack};
 ghost use Rattle.convert.specs.Steps.{LinesWritten, lines_call};
 
 use layout::SHEET_LINE_BYTES;
-use order::PLACES;
+use places::PLACES;
 use refusal::{Place, Refusal, Rule};
 use scaled_line::Scale;
 use sheet_length::LONGEST_SHEET;
@@ -31,12 +31,12 @@ pub fn convert_call(sheet: &[u8], room: &mut [u8]) -> Result<usize, Refusal>
 
 // What tsav-convert prints of a sheet of any bytes, from the room's start on: the converted sheet, or the line of the refusal. It gives how many
 // bytes that is. There is room for every sheet, so that 14 never comes.
-// Kept: two lines in each of four calls, as `printing::print_answer` says.
+// Kept: two lines in each of four calls, as `text_answer::print_answer` says.
 pub fn print_converted(sheet: &[u8], room: &mut [u8; LONGEST_SHEET]) -> usize
     ensures { Printed (printout (conversion sheet.now)) result room.old room.new }
 {
     let answer = convert_call(sheet, room);
-    printing::print_answer(answer, room)
+    text_answer::print_answer(answer, room)
 }
 
 // A sheet of whole lines: they are tested, then comes rule 14, and then they are written.

@@ -6,10 +6,10 @@ use native.Mathlib.Nat.{mul-le-mul}
 use native.Mathlib.Omega.{arith}
 use lib.ListN.{get_or}
 use lib.IntN.{ℤ, pos, nat_abs, ◌+ℤ◌, ◌*ℤ◌}
-use Rattle.search.proofs.Eaches.{each_at}
+use Rattle.basics.proofs.Eaches.{each_at}
 use Rattle.integer.proofs.Integer.{abs_add, abs_mul}
 use Rattle.amount.specs.Amount.{limit}
-use Rattle.guideline.specs.Sizes.{risks}
+use Rattle.sizes.specs.Sizes.{risks}
 use Rattle.guideline.specs.Factors.{factor, so_far}
 use Rattle.guideline.proofs.Table.{factor_small}
 use Rattle.correlation.specs.Products.{SmallYs, SoFar}

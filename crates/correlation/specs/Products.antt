@@ -1,8 +1,8 @@
 -- What is held after some of the 49 products. Assumes nothing.
 use Rattle.std.specs.Prelude.{◌≡◌, List, ℕ, ◌+◌, ◌*◌, ◌^◌, ◌≤◌, ℤ, nat_abs}
-use Rattle.search.specs.Each.{Each}
+use Rattle.basics.specs.Each.{Each}
 use Rattle.amount.specs.Amount.{limit}
-use Rattle.guideline.specs.Sizes.{risks}
+use Rattle.sizes.specs.Sizes.{risks}
 use Rattle.guideline.specs.Factors.{factor, so_far}
 
 -- y(1) to y(7) of an accepted block: none is above twice the limit

@@ -3,11 +3,12 @@
 
 ghost use Rattle.std.specs.Prelude.{◌≡◌, ℕ, ◌+◌, ◌*◌, ◌<◌, pos};
 ghost use Rattle.guideline.specs.Factors.{factor, quarter_sum};
-ghost use Rattle.guideline.specs.Sizes.{risks};
+ghost use Rattle.sizes.specs.Sizes.{risks};
 ghost use Rattle.wide.specs.Value.{value};
 ghost use Rattle.correlation.specs.Products.{SmallYs, SoFar, Row};
 
-use guideline::{RISKS, factor_at as f};
+use guideline::factor_at as f;
+use sizes::RISKS;
 use wide::Wide;
 
 // 2^64, what one of a number's upper word counts.

@@ -6,10 +6,10 @@ use Prim.Native.Nat.{ℕ, ◌+◌, ◌≤◌}
 use native.Mathlib.Decide.{dec_le}
 use native.Mathlib.Omega.{arith}
 use borrow.Author.Tests.{ltb-false}
-use Rattle.search.specs.Each.{Each}
-use Rattle.search.specs.First.{any_to}
-use Rattle.search.proofs.Anys.{none_to}
-use Rattle.guideline.specs.Sizes.{non_participating}
+use Rattle.basics.specs.Each.{Each}
+use Rattle.basics.specs.First.{any_to}
+use Rattle.basics.proofs.Anys.{none_to}
+use Rattle.sizes.specs.Sizes.{non_participating}
 use Rattle.guideline.specs.Block.{lt, U, LT, AcceptedBlock}
 use Rattle.guideline.proofs.Figures.{accepted_of_lem}
 use Rattle.mortality.specs.Credit.{CreditDemand}

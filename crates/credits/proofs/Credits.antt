@@ -10,22 +10,21 @@ use lib.Dec.{ltb}
 use lib.ListN.{length, get_or, set, length-set}
 use lib.Seq.{get_or-set_same, get_or-set_other}
 use Rattle.amount.specs.Amount.{limit}
-use Rattle.guideline.specs.Sizes.{non_participating, adjustable_products}
-use Rattle.search.specs.Each.{Each}
-use Rattle.search.specs.Total.{sum_to}
-use Rattle.search.proofs.Totals.{sum_next}
+use Rattle.sizes.specs.Sizes.{non_participating, adjustable_products}
+use Rattle.basics.specs.Each.{Each}
+use Rattle.basics.specs.Total.{sum_to}
+use Rattle.basics.proofs.Totals.{sum_next}
 use Rattle.mortality.specs.Credit.{credit}
 use Rattle.mortality.proofs.Credits.{none_with_0}
 use Rattle.codes.specs.Codes.{Key}
 use Rattle.codes.specs.declared.Code.TheVariants.{Rsk, Mor, Crd}
 use Rattle.sheet_line.specs.declared.Entry.{Entry}
 use Rattle.sheet_line.specs.Rules.{AcceptedLine}
-use Rattle.order.specs.Entries.{has_line}
+use Rattle.places.specs.Entries.{has_line}
 use Rattle.ledger.specs.Numbers.{dividend_credit, adjustable_credit}
-use Rattle.order.specs.Places.{tabled}
+use Rattle.places.specs.Places.{tabled}
 use Rattle.ledger.proofs.Bounds.{first_most, second_most, none_outside, risk_at}
-use Rattle.credits.specs.Credits.{credit_of}
-use Rattle.credits.specs.Credits.{credit_above}
+use Rattle.credits.specs.Credits.{credit_of, credit_above}
 use Rattle.ledger.specs.Tables.{Held}
 use Rattle.ledger.proofs.Tables.{amount_is}
 

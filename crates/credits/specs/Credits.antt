@@ -1,7 +1,7 @@
 -- The credits of a sheet's blocks off its lines, section 11.1.1, and a block's numbers after its credit; what rule 16 tests, and what it leaves.
 -- Assumes nothing.
 use Rattle.std.specs.Prelude.{◌≡◌, Bool, List, ℕ, ◌+◌, ◌≤◌, ◌<◌, ltb, get_or}
-use Rattle.guideline.specs.Sizes.{non_participating}
+use Rattle.sizes.specs.Sizes.{non_participating}
 use Rattle.guideline.specs.Block.{lt}
 use Rattle.mortality.specs.Credit.{credit, lowered}
 use Rattle.sheet_line.specs.declared.Entry.{Entry}

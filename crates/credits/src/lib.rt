@@ -2,17 +2,18 @@
 #![tactic(auto)]
 
 ghost use Rattle.std.specs.Prelude.{◌≡◌, ◌≤◌, IfSome, is_none};
-ghost use Rattle.search.specs.First.{any_to};
-ghost use Rattle.search.specs.Total.{sum_to};
-ghost use Rattle.guideline.specs.Sizes.{non_participating, blocks, adjustable_products};
-ghost use Rattle.order.specs.Entries.{has_line};
+ghost use Rattle.basics.specs.First.{any_to};
+ghost use Rattle.basics.specs.Total.{sum_to};
+ghost use Rattle.sizes.specs.Sizes.{non_participating, blocks, adjustable_products};
+ghost use Rattle.places.specs.Entries.{has_line};
 ghost use Rattle.ledger.specs.Numbers.{dividend_credit, adjustable_credit};
 ghost use Rattle.ledger.specs.Lines.{OfLines};
 ghost use Rattle.credits.specs.Credits.{credit_of, after_credit, credit_above, Credits, Covered};
 
 use codes::Code;
-use guideline::{ADJUSTABLE_PRODUCTS, Block, NON_PARTICIPATING};
+use guideline::Block;
 use ledger::Ledger;
+use sizes::{ADJUSTABLE_PRODUCTS, NON_PARTICIPATING};
 
 // A ledger with the reported credits of blocks 1 to 16, none of them above its block's LT(1): so rule 16 lets them pass.
 #[derive(Clone, Copy)]

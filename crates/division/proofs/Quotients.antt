@@ -7,8 +7,8 @@ use native.Mathlib.Omega.{arith}
 use lib.Count.{count_leading_zeros, leading_length}
 use lib.Dec.{leb}
 use lib.Pow.{pow-add, pow_mono, mod-pow-add}
-use Rattle.search.specs.Least.{least}
-use Rattle.search.proofs.LeastOf.{ceil_eq}
+use Rattle.basics.specs.Least.{least}
+use Rattle.basics.proofs.LeastOf.{ceil_eq}
 
 -- ---- how many binary digits a step can bring down
 

@@ -2,7 +2,7 @@
 #![tactic(auto)]
 
 ghost use Rattle.std.specs.Prelude.{◌≡◌, ◌+◌, ◌-◌, ◌*◌, ◌/◌, ◌%◌, ◌^◌, ◌<◌, ◌≤◌, leb};
-ghost use Rattle.search.specs.Least.{least};
+ghost use Rattle.basics.specs.Least.{least};
 ghost use Rattle.wide.specs.Value.{value};
 
 use wide::Wide;

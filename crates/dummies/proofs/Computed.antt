@@ -1,10 +1,10 @@
 -- The table of small sheets holds, computed: the one place where the definitions of the sheet call are run. Assumes nothing.
 use mathlib.Core.Path.{refl}
-use Rattle.search.specs.Pick.{pick}
-use Rattle.search.specs.First.{any_to}
-use Rattle.search.specs.Least.{least_from}
-use Rattle.search.specs.Ascending.{ascending}
-use Rattle.search.specs.Total.{sum_to}
+use Rattle.basics.specs.Pick.{pick}
+use Rattle.basics.specs.First.{any_to}
+use Rattle.basics.specs.Least.{least_from}
+use Rattle.basics.specs.Ascending.{ascending}
+use Rattle.basics.specs.Total.{sum_to}
 use Rattle.field.specs.Field.{digits, field, digit_or_space, leading_digits, decimal}
 use Rattle.guideline.specs.Factors.{factors, sumℤ}
 use Rattle.guideline.specs.Block.{A, U, LT, Vh, y, ys, Q4, largest_of, largest, root, fine_i, a, fine_d, reported, I, D, requirement, K, figures_of}
@@ -15,20 +15,19 @@ use Rattle.report_line.specs.Line.{key, line_in, rows_in, equal_bytes, found_in,
 use Rattle.codes.specs.Codes.{is_code, code_among}
 use Rattle.layout.specs.Columns.{spaced, layout_of, lettered}
 use Rattle.sheet_line.specs.Rules as line
-use Rattle.order.specs.Entries.{has_key, lookup, exists}
+use Rattle.places.specs.Entries.{has_key, lookup, exists}
 use Rattle.ledger.specs.Numbers.{pairs, block_by, volumes_by}
 use Rattle.order.specs.Order.{key_of, rule19, rule11}
 use Rattle.order.specs.Reading.{on_line, read_from}
 use Rattle.report.specs.Rows.{items_from}
 use Rattle.sheet_length.specs.Measured.{layout_first, rule2, measured}
 use Rattle.credits.specs.Credits.{credit_of, after_credit, credit_above}
-use Rattle.sheet_blocks.specs.Blocks.{blocks_to}
+use Rattle.sheet_blocks.specs.Blocks.{blocks_to, dividend_barred}
 use Rattle.judgement.specs.Sheet.{sheet_of}
-use Rattle.sheet_blocks.specs.Blocks.{dividend_barred}
 use Rattle.judgement.specs.Judgement.{rule13, rule17, rule16, rule12, rule_lines, judgement}
-use Rattle.printing.specs.Lent.{lent}
-use Rattle.judged_text.specs.Judged.{text_of, judged_call}
-use Rattle.aggregate.specs.Call.{block_rows_of}
+use Rattle.text_answer.specs.Lent.{lent}
+use Rattle.sheet_answer.specs.Judged.{text_of, judged_call}
+use Rattle.sheet_call.specs.Call.{block_rows_of}
 use Rattle.dummies.specs.Dummies.{are_bytes}
 use Rattle.dummies.specs.Answers.{Answered, empty, guaranteed, two_blocks, another_second}
 

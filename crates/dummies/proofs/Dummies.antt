@@ -10,27 +10,26 @@ use native.Mathlib.Nat.{mul-le-mul_right}
 use native.Mathlib.Decide.{dec_le}
 use native.Mathlib.Omega.{arith}
 use lib.ListN.{get_or}
-use Rattle.search.proofs.Picks.{never}
+use Rattle.basics.proofs.Picks.{never}
 use Rattle.refusal.specs.Outcome.{Outcome}
 use Rattle.refusal.specs.Outcome.Outcome.{accepted}
-use Rattle.guideline.specs.Buffer.{Sheet, buffer, free, CreditsWithin, buffer_at, millionths, allowance, AcceptedSheet}
-use Rattle.guideline.specs.Demand.{BufferDemand}
-use Rattle.guideline.proofs.Demand.{buffer_demand}
+use Rattle.guideline.specs.Buffer.{Sheet, buffer, free, CreditsWithin, AcceptedSheet}
+use Rattle.accuracy.specs.ExactBuffer.{buffer_at, millionths, allowance}
+use Rattle.accuracy.specs.Demand.{BufferDemand}
+use Rattle.accuracy.proofs.Demand.{buffer_demand}
 use Rattle.std.specs.Prelude.{Some}
-use Rattle.search.specs.Pick.{pick}
+use Rattle.basics.specs.Pick.{pick}
 use Rattle.report_line.specs.Line.{number_at}
 use Rattle.report.specs.Rows.{TOT}
-use Rattle.order.specs.Entries.{exists}
+use Rattle.places.specs.Entries.{exists}
 use Rattle.sheet_line.specs.declared.Entry.{Entry}
 use Rattle.judgement.specs.Sheet.{sheet_of}
 use Rattle.judgement.specs.Judgement.{Judgement, judgement}
 use Rattle.judgement.specs.Judgement.Judgement.{turned_away, sound}
 use Rattle.judgement.proofs.Accepted.{sound_accepted}
-use Rattle.aggregate.specs.Call.{sheet_call}
-use Rattle.aggregate.specs.Demand.{ReportDemand, Demand3}
-use Rattle.dummies.specs.Dummies.{Lent, Call, MeetsContract, MeetsDemand3, TurnsAllAway, ConstantReport, WritesNothing, TooShortAtOnce}
-use Rattle.dummies.specs.Dummies.{FirstFilledIn, filled_in, BufferOfFirst, blanked, AlikeButOthers, OthersFilledIn, BufferWithoutOthers}
-use Rattle.dummies.specs.Dummies.{FarAbove, FarBelow}
+use Rattle.sheet_call.specs.Call.{sheet_call}
+use Rattle.sheet_call.specs.Demand.{ReportDemand, Demand3}
+use Rattle.dummies.specs.Dummies.{Lent, Call, MeetsContract, MeetsDemand3, TurnsAllAway, ConstantReport, WritesNothing, TooShortAtOnce, FirstFilledIn, filled_in, BufferOfFirst, blanked, AlikeButOthers, OthersFilledIn, BufferWithoutOthers, FarAbove, FarBelow}
 use Rattle.dummies.specs.Answers.{Amounts, amounts_of, lines_of, Facts, facts_of, Case, Answered, empty, guaranteed, two_blocks, another_second}
 use Rattle.dummies.proofs.Computed.{computed}
 

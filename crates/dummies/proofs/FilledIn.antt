@@ -8,16 +8,16 @@ use Prim.Native.Nat.{ℕ, suc, ◌<◌}
 use native.Mathlib.Omega.{arith}
 use lib.ListN.{length, get_or, drop, length-map}
 use lib.Seq.{take-append_seam}
-use Rattle.search.specs.Pick.{pick}
-use Rattle.search.specs.Each.{Each}
-use Rattle.search.specs.Ascending.{ascending}
-use Rattle.search.proofs.Picks.{never, by_test}
-use Rattle.search.proofs.Eaches.{each_append, each_at}
-use Rattle.search.proofs.Ascents.{each_ascending}
+use Rattle.basics.specs.Pick.{pick}
+use Rattle.basics.specs.Each.{Each}
+use Rattle.basics.specs.Ascending.{ascending}
+use Rattle.basics.proofs.Picks.{never, by_test}
+use Rattle.basics.proofs.Eaches.{each_append, each_at}
+use Rattle.basics.proofs.Ascents.{each_ascending}
 use Rattle.refusal.specs.Outcome.Outcome.{accepted}
 use Rattle.refusal.specs.declared.Place.{Place}
 use Rattle.std.specs.Prelude.{Some, None}
-use Rattle.guideline.specs.Sizes.{blocks, block_figures, FitsColumns}
+use Rattle.sizes.specs.Sizes.{blocks, block_figures, FitsColumns}
 use Rattle.guideline.specs.Block.{AcceptedBlock, K, figures_of}
 use Rattle.guideline.specs.Buffer.{Sheet, count, buffer, CreditsWithin, AcceptedSheet}
 use Rattle.guideline.proofs.Figures.{figures_fit, figures_long}
@@ -26,15 +26,15 @@ use Rattle.report_line.specs.declared.Row.{Row}
 use Rattle.report_line.specs.Line.{equal_bytes, found_in, found_at, number_at}
 use Rattle.report_line.proofs.ReadBack.{row_is, number_among, rows_read}
 use Rattle.sheet_line.specs.declared.Entry.{Entry}
-use Rattle.order.specs.Entries.{exists}
+use Rattle.places.specs.Entries.{exists}
 use Rattle.report.specs.Rows.{BLK, TOT, row, items_from, block_rows, report_length}
 use Rattle.report.proofs.Reread.{all_printable, buffer_read}
 use Rattle.credits.specs.Credits.{after_credit}
 use Rattle.sheet_blocks.specs.Blocks.{blocks_to}
 use Rattle.judgement.specs.Sheet.{sheet_of}
-use Rattle.printing.specs.Lent.{Done, untouched}
-use Rattle.printing.proofs.Lent.{filled}
-use Rattle.aggregate.proofs.Rows.{closed_long}
+use Rattle.text_answer.specs.Lent.{Done, untouched}
+use Rattle.text_answer.proofs.Lent.{filled}
+use Rattle.sheet_call.proofs.Rows.{closed_long}
 use Rattle.dummies.specs.Dummies.{claimed_report, first_for_all, filled_in}
 use Rattle.dummies.specs.Programs.{first_figures, filled_totals, filled_rows, filled_report}
 

@@ -8,14 +8,14 @@ use Prim.Native.Nat.{ℕ, zero, suc, ◌+◌}
 use native.Mathlib.Omega.{arith}
 use lib.ListN.{length, length-append, length-drop}
 use borrow.Author.Tests.{ltb-false}
-use Rattle.search.specs.Pick.{pick}
-use Rattle.search.specs.Ascending.{ascending}
-use Rattle.guideline.specs.Sizes.{blocks}
-use Rattle.order.specs.Entries.{exists}
+use Rattle.basics.specs.Pick.{pick}
+use Rattle.basics.specs.Ascending.{ascending}
+use Rattle.sizes.specs.Sizes.{blocks}
+use Rattle.places.specs.Entries.{exists}
 use Rattle.report.specs.Rows.{BLK, TOT, report_length}
 use Rattle.report_line.specs.Line.{number_at}
 use Rattle.sheet_blocks.specs.Blocks.{blocks_to}
-use Rattle.search.proofs.Picks.{by_test, if_ge}
+use Rattle.basics.proofs.Picks.{by_test, if_ge}
 use Rattle.refusal.specs.declared.Place.TheVariants.{Nowhere}
 use Rattle.guideline.specs.Buffer.{buffer, CreditsWithin}
 use Rattle.sheet_line.specs.declared.Entry.{Entry}
@@ -23,14 +23,12 @@ use Rattle.judgement.specs.Sheet.{sheet_of}
 use Rattle.judgement.specs.Judgement.{Judgement, judgement}
 use Rattle.judgement.specs.Judgement.Judgement.{turned_away, sound}
 use Rattle.judgement.proofs.Accepted.{sound_accepted}
-use Rattle.printing.specs.Lent.{Done, rule14, lent}
-use Rattle.judged_text.specs.Judged.{text_of, judged_call}
-use Rattle.aggregate.specs.Call.{report_of, sheet_call}
-use Rattle.aggregate.proofs.Rows as aggregate
-use Rattle.dummies.specs.Dummies.{TurnsAllAway, ConstantReport, WritesNothing, TooShortAtOnce, claimed_report, FirstFilledIn, filled_in}
-use Rattle.dummies.specs.Dummies.{BufferOfFirst, blanked, AlikeButOthers, OthersFilledIn, BufferWithoutOthers}
-use Rattle.dummies.specs.Programs.{turns_away, writes_constant, claims_success, says_too_short}
-use Rattle.dummies.specs.Programs.{filled_report, filled17, filled13, after_filling, fills_in, sees_first}
+use Rattle.text_answer.specs.Lent.{Done, rule14, lent}
+use Rattle.sheet_answer.specs.Judged.{text_of, judged_call}
+use Rattle.sheet_call.specs.Call.{report_of, sheet_call}
+use Rattle.sheet_call.proofs.Rows as aggregate
+use Rattle.dummies.specs.Dummies.{TurnsAllAway, ConstantReport, WritesNothing, TooShortAtOnce, claimed_report, FirstFilledIn, filled_in, BufferOfFirst, blanked, AlikeButOthers, OthersFilledIn, BufferWithoutOthers}
+use Rattle.dummies.specs.Programs.{turns_away, writes_constant, claims_success, says_too_short, filled_report, filled17, filled13, after_filling, fills_in, sees_first}
 use Rattle.dummies.proofs.FilledIn.{SameK, Reads, none_read, none_accepted, report_long, k_same, reads_filled}
 
 pub turns_away_met : TurnsAllAway turns_away

@@ -3,6 +3,7 @@ use Rattle.std.specs.Prelude.{◌≡◌, Bool, true, List, [], ◌∷◌, ◌++�
 use Rattle.refusal.specs.Outcome.{Outcome}
 use Rattle.refusal.specs.Outcome.Outcome.{accepted}
 use Rattle.guideline.specs.Buffer as Buffer
+use Rattle.accuracy.specs.ExactBuffer as ExactBuffer
 use Rattle.report_line.specs.Line.{number_at}
 use Rattle.sheet_line.specs.declared.Entry.{Entry}
 use Rattle.codes.specs.Codes.{guarantee_class, scalar_class}
@@ -12,8 +13,8 @@ use Rattle.report.specs.Rows.{BLK, TOT, report_length}
 use Rattle.judgement.specs.Sheet.{sheet_of}
 use Rattle.judgement.specs.Judgement.{Judgement, judgement}
 use Rattle.judgement.specs.Judgement.Judgement.{turned_away, sound}
-use Rattle.printing.specs.Lent.{Done}
-use Rattle.aggregate.specs.Call.{sheet_call}
+use Rattle.text_answer.specs.Lent.{Done}
+use Rattle.sheet_call.specs.Call.{sheet_call}
 use Rattle.dummies.specs.Dummies.{are_bytes, claimed_report, filled_in}
 
 -- GEN 0 4, a scalar of one
@@ -49,7 +50,7 @@ abbrev pub amounts_of : Judgement → Amounts
 amounts_of (turned_away n p) = record { allowance = 0; credits = 0; buffer = 0; filled_in = 0 }
 amounts_of (sound es) =
     let s = sheet_of es in
-    record { allowance = Buffer.allowance s; credits = s.CRᵢ + Buffer.free s; buffer = Buffer.buffer s; filled_in = Buffer.buffer (filled_in s) }
+    record { allowance = ExactBuffer.allowance s; credits = s.CRᵢ + Buffer.free s; buffer = Buffer.buffer s; filled_in = Buffer.buffer (filled_in s) }
 
 -- the lines of a sheet that was judged, the last one first
 abbrev pub lines_of : Judgement → List Entry

@@ -2,21 +2,22 @@
 -- program leaves open: a call is asked about sheets and rooms of bytes, and about its report where it accepts.
 -- Assumes nothing.
 use Rattle.std.specs.Prelude.{◌≡◌, Bool, true, ◌&&◌, List, [], ◌∷◌, ◌++◌, map, ℕ, ◌+◌, ◌*◌, ◌≤◌, ◌<◌, ltb, get_or, take, Some}
-use Rattle.search.specs.Pick.{pick}
+use Rattle.basics.specs.Pick.{pick}
 use Rattle.refusal.specs.Outcome.{Outcome}
 use Rattle.refusal.specs.Outcome.Outcome.{accepted, refused}
 use Rattle.refusal.specs.declared.Place.{Place}
-use Rattle.guideline.specs.Buffer.{Sheet, buffer, free, CreditsWithin, millionths, allowance}
+use Rattle.guideline.specs.Buffer.{Sheet, buffer, free, CreditsWithin}
+use Rattle.accuracy.specs.ExactBuffer.{millionths, allowance}
 use Rattle.report_line.specs.Line.{number_at}
 use Rattle.sheet_line.specs.declared.Entry.{Entry}
-use Rattle.order.specs.Entries.{of_block, exists}
+use Rattle.places.specs.Entries.{of_block, exists}
 use Rattle.report.specs.Rows.{BLK, TOT}
 use Rattle.judgement.specs.Sheet.{sheet_of}
 use Rattle.judgement.specs.Judgement.{judgement}
 use Rattle.judgement.specs.Judgement.Judgement.{sound}
-use Rattle.printing.specs.Lent.{Done}
-use Rattle.aggregate.specs.Call.{sheet_call}
-use Rattle.aggregate.specs.Demand.{Demand3}
+use Rattle.text_answer.specs.Lent.{Done}
+use Rattle.sheet_call.specs.Call.{sheet_call}
+use Rattle.sheet_call.specs.Demand.{Demand3}
 
 -- every number of a list is a byte
 unfoldable pub are_bytes : List ℕ → Bool

@@ -2,24 +2,24 @@
 -- of its kind, so that the theorems in proofs/Dummies are about programs that there are.
 -- Assumes nothing.
 use Rattle.std.specs.Prelude.{List, [], ◌∷◌, ◌++◌, map, ℕ, ltb, get_or}
-use Rattle.search.specs.Pick.{pick}
-use Rattle.search.specs.Ascending.{ascending}
+use Rattle.basics.specs.Pick.{pick}
+use Rattle.basics.specs.Ascending.{ascending}
 use Rattle.refusal.specs.Outcome.Outcome.{accepted}
 use Rattle.refusal.specs.declared.Place.TheVariants.{Nowhere}
-use Rattle.guideline.specs.Sizes.{blocks}
+use Rattle.sizes.specs.Sizes.{blocks}
 use Rattle.guideline.specs.Block.{figures_of}
 use Rattle.guideline.specs.Operational.{RO}
 use Rattle.guideline.specs.Buffer.{sum_k, free, available, buffer}
 use Rattle.report_line.specs.declared.Row.{Row}
 use Rattle.report_line.specs.Line.{print_rows}
 use Rattle.sheet_line.specs.declared.Entry.{Entry}
-use Rattle.order.specs.Entries.{exists}
+use Rattle.places.specs.Entries.{exists}
 use Rattle.report.specs.Rows.{TOT, items_from, block_rows, report_length}
 use Rattle.judgement.specs.Sheet.{sheet_of}
 use Rattle.judgement.specs.Judgement.{Judgement, judgement}
 use Rattle.judgement.specs.Judgement.Judgement.{turned_away, sound}
-use Rattle.printing.specs.Lent.{Done, untouched, rule14}
-use Rattle.judged_text.specs.Judged.{judged_call}
+use Rattle.text_answer.specs.Lent.{Done, untouched, rule14}
+use Rattle.sheet_answer.specs.Judged.{judged_call}
 use Rattle.dummies.specs.Dummies.{Call, filled_in, blanked}
 
 -- turns every sheet away, by rule 12

@@ -14,21 +14,24 @@ ghost use Rattle.fluctuation.specs.Call.{fluctuation_call};
 ghost use Rattle.fluctuation.specs.Accepted.{FluctuationDemand};
 ghost use Rattle.shares.specs.Call.{shares_call};
 ghost use Rattle.shares.specs.Accepted.{SharesDemand};
-ghost use Rattle.aggregate.specs.Call.{sheet_call};
-ghost use Rattle.aggregate.specs.Demand.{Demand3, PrintedWhole};
+ghost use Rattle.sheet_call.specs.Call.{sheet_call};
+ghost use Rattle.sheet_call.specs.Demand.{Demand3, PrintedWhole};
 ghost use Rattle.convert.specs.Call.{convert_call, ConvertsBack};
-ghost use Rattle.sheet_check.specs.Call.{check_call, ListsExactly};
-ghost use Rattle.answers.specs.Left.{Leaves};
+ghost use Rattle.check_call.specs.Call.{check_call, ListsExactly};
+ghost use Rattle.movement.specs.Call.{movement_call};
+ghost use Rattle.movement.specs.Swing.{Swing};
+ghost use Rattle.quarter.specs.Call.{quarter_call, SummarySays};
+ghost use Rattle.exported_answer.specs.Left.{Leaves};
 ghost use Rattle.exports.specs.Version.{interface_version};
 
 use figures::Worked;
-use guideline::{BLOCK_FIGURES, BLOCK_NUMBERS, GENERAL_FIGURES, PARTS};
+use sizes::{BLOCK_FIGURES, BLOCK_NUMBERS, GENERAL_FIGURES, PARTS};
 
 // What the block call gives: the figures, and the steps of its two roots.
 const BLOCK_VALUES: usize = BLOCK_FIGURES + 2;
 
 // Of the calls as they are declared here.
-const VERSION: u64 = 2;
+const VERSION: u64 = 3;
 
 // The version of these calls.
 #[unsafe(no_mangle)]
@@ -60,7 +63,7 @@ pub extern "C" fn tsav_block(
             [f.i, f.d, f.u, f.lt, f.k, s.i, s.d]
         },
     );
-    answers::leave(values, figures, place)
+    exported_answer::leave(values, figures, place)
 }
 
 // The figure is RO.
@@ -78,7 +81,7 @@ pub extern "C" fn tsav_operational(
             ensures { result ≡ ro ∷ [] }
         { [ro] },
     );
-    answers::leave(values, figure, place)
+    exported_answer::leave(values, figure, place)
 }
 
 // A row of section 11.1.2, the requirement and the face amount. The figure is the requirement times its factor; where 0 is given, it meets
@@ -99,7 +102,7 @@ pub extern "C" fn tsav_fluctuation(
             ensures { result ≡ product ∷ [] }
         { [product] },
     );
-    answers::leave(values, figure, place)
+    exported_answer::leave(values, figure, place)
 }
 
 // The shares of K in cents: risks 1 to 7, then PC, credit and market. Where 0 is given, they total K, and each is within a cent of its
@@ -113,12 +116,12 @@ pub extern "C" fn tsav_shares(
     ensures leaves { Leaves (shares_call numbers.now) result shares.old place.old shares.new place.new }
     ensures at_0 { result ≡ 0 → SharesDemand numbers.now (accepted shares.new) }
 {
-    answers::leave(shares::shares_call(numbers), shares, place)
+    exported_answer::leave(shares::shares_call(numbers), shares, place)
 }
 
 // Accepted, `written` holds how many bytes of the lent report are the report, from its start. Where 0 is given, the report meets demand 3, and none
 // of its numbers is cut.
-// Kept: this call and the two below have one shape and the same parameters, since the C interface has them: include/tsav.h names each.
+// Kept: this call and the four below have one shape and the same parameters, since the C interface has them: include/tsav.h names each.
 #[unsafe(no_mangle)]
 pub extern "C" fn tsav_sheet(
     sheet: &[u8],
@@ -130,7 +133,7 @@ pub extern "C" fn tsav_sheet(
     ensures leaves { Leaves (sheet_call sheet.now report.old).outcome result written.old place.old written.new place.new }
     ensures at_0 { result ≡ 0 → Demand3 sheet.now (accepted written.new) report.new × PrintedWhole sheet.now (accepted written.new) report.new }
 {
-    answers::tell(aggregate::sheet_call(sheet, report), written, place)
+    exported_answer::tell(sheet_call::sheet_call(sheet, report), written, place)
 }
 
 // Accepted, `written` holds how many bytes of the lent room are the converted sheet, from its start. Where 0 is given, it converts back.
@@ -146,7 +149,7 @@ pub extern "C" fn tsav_convert(
     ensures leaves { Leaves (convert_call sheet.now room.old).outcome result written.old place.old written.new place.new }
     ensures at_0 { result ≡ 0 → ConvertsBack sheet.now (accepted written.new) room.new }
 {
-    answers::tell(convert::convert_call(sheet, room), written, place)
+    exported_answer::tell(convert::convert_call(sheet, room), written, place)
 }
 
 // Accepted, `written` holds how many bytes of the lent room are the listing, from its start. Where 0 is given, a line of the sheet is listed exactly
@@ -163,5 +166,39 @@ pub extern "C" fn tsav_check(
     ensures leaves { Leaves (check_call sheet.now room.old).outcome result written.old place.old written.new place.new }
     ensures at_0 { result ≡ 0 → ListsExactly sheet.now (accepted written.new) room.new }
 {
-    answers::tell(sheet_check::check_call(sheet, room), written, place)
+    exported_answer::tell(check_call::check_call(sheet, room), written, place)
+}
+
+// Accepted, `written` holds how many bytes of the lent room are the movements, a line for each risk, from its start. Where 0 is given, a risk whose
+// raise is within the limit moves the exact K by at most t, and the reported K by less than t + 2.
+// Kept: of one shape with tsav_sheet, as the C interface has it.
+#[unsafe(no_mangle)]
+pub extern "C" fn tsav_movement(
+    input: &[u8],
+    room: &mut [u8],
+    written: &mut [u64; 1],
+    place: &mut [u64; 2],
+) -> u64
+    ensures room_after { room.new ≡ (movement_call input.now room.old).room }
+    ensures leaves { Leaves (movement_call input.now room.old).outcome result written.old place.old written.new place.new }
+    ensures at_0 { result ≡ 0 → Swing input.now (accepted written.new) room.new }
+{
+    exported_answer::tell(movement::movement_call(input, room), written, place)
+}
+
+// Accepted, `written` holds how many bytes of the lent room are the text of the sheets, from its start, a last line REF 24 or 25 included. Where 0 is
+// given, a summary that stands there says what it has to.
+// Kept: of one shape with tsav_sheet, as the C interface has it.
+#[unsafe(no_mangle)]
+pub extern "C" fn tsav_quarter(
+    sheets: &[u8],
+    room: &mut [u8],
+    written: &mut [u64; 1],
+    place: &mut [u64; 2],
+) -> u64
+    ensures room_after { room.new ≡ (quarter_call sheets.now room.old).room }
+    ensures leaves { Leaves (quarter_call sheets.now room.old).outcome result written.old place.old written.new place.new }
+    ensures at_0 { result ≡ 0 → SummarySays sheets.now (accepted written.new) room.new }
+{
+    exported_answer::tell(quarter::quarter_call(sheets, room), written, place)
 }

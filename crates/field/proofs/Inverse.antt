@@ -5,14 +5,14 @@ use mathlib.Core.Path.{◌≡◌, refl, sym, ap, ◌∙◌}
 use mathlib.Core.List.{List, [], ◌∷◌, ◌++◌, append-nil}
 use Prim.Native.Nat.{ℕ, zero, suc, ◌+◌, ◌-◌, ◌*◌, ◌/◌, ◌%◌, ◌^◌, ◌≤◌, ◌<◌}
 use native.Mathlib.Nat.{pow-le-pow_right, add-zero, zero-add, lt_of_lt_of_le, one-le-pow}
+use native.Mathlib.Numerals.{add-one}
 use native.Mathlib.Decide.{ℕ_discrete}
 use native.Mathlib.Omega.{arith}
 use lib.ListN.{length}
 use lib.Seq.{append_snoc}
 use borrow.Author.Tests.{ltb-false, eqb-true, eqb-false}
-use Rattle.search.proofs.Picks.{if_true, if_false, if_eq, if_ne, if_ge, by_test, never}
+use Rattle.basics.proofs.Picks.{if_true, if_false, if_eq, if_ne, if_ge, by_test, never}
 use Rattle.field.specs.Field.{field, digits, zero_only, digit_or_space, leading_digits, decimal}
-use Rattle.field.proofs.Reading.{grows}
 
 -- ---- a digit, and what no digit is
 
@@ -44,6 +44,10 @@ by_first P b bs space zeros digit =
     by_test P _ _ _ (λ x. space (eqb-true _ _ x)) λ x. by_test P _ _ _ (λ y. zeros (eqb-true _ _ y)) (λ y. digit (eqb-false _ _ y))
 
 -- ---- a field's number has no more digits than the field has columns
+
+-- one digit more
+grows : (v i d : ℕ) → v < 10 ^ i → d ≤ 57 → 10 * v + (d - 48) < 10 ^ (i + 1)
+grows v i d h k = rw add-one (omega arith)
 
 digits_bound : (s : List ℕ) (u m r : ℕ) → u < 10 ^ m → digits u s ≡ Some r → r < 10 ^ (m + length s)
 unfolding digits

@@ -1,6 +1,5 @@
--- A number field read and written column by column, and that reading is the inverse of writing. Assumes nothing.
-pub mod Reading
+-- A number field written two columns at a time, and that reading is the inverse of writing. Assumes nothing.
 pub mod Writing
 pub mod Inverse
-pub mod Put
+pub mod Pairs
 pub mod Minus

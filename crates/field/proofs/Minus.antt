@@ -10,7 +10,7 @@ use lib.Dec.{eqb}
 use lib.IntN.{ℤ, pos, negsuc, sub_ℕ}
 use lib.ListN.{length, get_or, set, take, drop, get_or-append, get_or-eq_default}
 use lib.Seq.{take-suc, drop-cons, set_split, append_snoc, get_or-drop}
-use Rattle.search.proofs.Picks.{if_eq, if_ne, by_test}
+use Rattle.basics.proofs.Picks.{if_eq, if_ne, by_test}
 use Rattle.integer.proofs.Integer.{above, below}
 use Rattle.field.specs.Field.{digit_or_space, leading_digits, decimal}
 use Rattle.field.specs.Signed.{with_minus, signed, MinusBefore}

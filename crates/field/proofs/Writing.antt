@@ -1,4 +1,4 @@
--- A field written column by column, the last first. Assumes nothing.
+-- A field written from its last column on, two columns at a time. Assumes nothing.
 use mathlib.Core.Path.{◌≡◌, refl, sym, ap, ◌∙◌}
 use mathlib.Core.List.{List, ◌∷◌, ◌++◌}
 use Prim.Native.Nat.{ℕ, zero, suc, ◌+◌, ◌-◌, ◌/◌, ◌%◌, ◌≤◌, ◌<◌}
@@ -45,7 +45,7 @@ next_digit : (l : List ℕ) (j w : ℕ) → j < length l
 unfolding leading_digits
 next_digit l j w h = rw (drop_set l j (digit_or_space w)) (sym (append_snoc (leading_digits j (w / 10)) (digit_or_space w) (drop (suc j) l)))
 
-pub next_written : {n v : ℕ} {l : List ℕ} {i w : ℕ} → Written n v l i w → 0 < i → Written n v (set l (i - 1) (digit_or_space w)) (i - 1) (w / 10)
+next_written : {n v : ℕ} {l : List ℕ} {i w : ℕ} → Written n v l i w → 0 < i → Written n v (set l (i - 1) (digit_or_space w)) (i - 1) (w / 10)
 next_written {n} {v} {l} {i} {w} W p =
     let e : suc (i - 1) ≡ i = omega arith in
     let k = length-set l (i - 1) (digit_or_space w) in
@@ -58,6 +58,19 @@ next_written {n} {v} {l} {i} {w} W p =
 pub all_written : {n v : ℕ} {l : List ℕ} {i w : ℕ} → Written n v l i w → i ≤ 0 → l ≡ decimal n v
 unfolding leading_digits
 all_written {i = i} W h = let e : i ≡ 0 = omega arith in rw e at W.text
+
+-- two columns, the later one first
+pub two_written : {n v : ℕ} {l : List ℕ} {i w : ℕ} → Written n v l i w → 2 ≤ i
+    → Written n v (set (set l (i - 2 + 1) (digit_or_space w)) (i - 2) (digit_or_space (w / 10))) (i - 2) (w / 100)
+two_written {n} {v} {l} {i} {w} W h =
+    let j : i - 1 ≡ i - 2 + 1 = omega arith in
+    let k : i - 2 + 1 - 1 ≡ i - 2 = omega arith in
+    let q : w / 10 / 10 ≡ w / 100 = omega arith in
+    rw (k, q) at (next_written (rw j at (next_written W (omega arith))) (omega arith))
+
+-- where one column is left, it is the first
+pub one_written : {n v : ℕ} {l : List ℕ} {i w : ℕ} → Written n v l i w → i ≡ 1 → set l 0 (digit_or_space w) ≡ decimal n v
+one_written W h = all_written (next_written (rw h at W) (omega arith)) (omega arith)
 
 pub length_leading : (w v : ℕ) → length (leading_digits w v) ≡ w
 unfolding leading_digits

@@ -2,11 +2,7 @@
 -- and the report: 'Numbers are decimal, right-justified, spaces before, at least one digit, no leading zero except 0
 -- itself.' Bytes are numbers: a space is 32, the digits are 48 to 57. Assumes nothing.
 use Rattle.std.specs.Prelude.{Option, Some, None, ℕ, zero, suc, ◌+◌, ◌-◌, ◌*◌, ◌/◌, ◌%◌, List, [], ◌∷◌, ◌++◌, ltb, eqb}
-use Rattle.search.specs.Pick.{pick}
-
--- the most columns that a field is read off: what they hold fits 64 bits
-abbrev pub most_columns : ℕ
-most_columns = 18
+use Rattle.basics.specs.Pick.{pick}
 
 -- the number that decimal digits spell after v; none where another byte stands among them
 unfoldable pub digits : ℕ → List ℕ → Option ℕ

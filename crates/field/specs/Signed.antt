@@ -1,7 +1,7 @@
 -- A number field that may be below 0. Document 02, #111: the number of a report line, 'a minus right before a fall'. Bytes are numbers: a space is
 -- 32, a minus 45. Assumes nothing.
 use Rattle.std.specs.Prelude.{◌≡◌, List, [], ◌∷◌, ◌++◌, ℕ, suc, ◌+◌, ◌*◌, ◌^◌, ◌≤◌, ◌<◌, eqb, ℤ, pos, negsuc, get_or, replicate}
-use Rattle.search.specs.Pick.{pick}
+use Rattle.basics.specs.Pick.{pick}
 use Rattle.field.specs.Field.{decimal}
 
 -- a field with a minus right before its digits: in the last of the spaces before them, which no space follows

@@ -1,42 +1,11 @@
-// A decimal number in columns: read and written.
+// A decimal number in columns: written, and a digit of it read.
 #![tactic(auto)]
 
 // A number that may be below 0.
 pub mod signed;
 
-ghost use Rattle.std.specs.Prelude.{◌≡◌, ◌+◌, ◌-◌, ◌*◌, ◌%◌, ◌≤◌, ◌<◌, length, MatchOption};
-ghost use Rattle.field.specs.Field.{most_columns, digits, field, digit_or_space, decimal};
-
-// The number in the columns of s; none where they break the form of a field.
-pub fn read_field(s: &[u8]) -> Option<u64>
-    requires { length s.now ≤ most_columns }
-    ensures { result ≡ field s.now }
-{
-    for (i, &b) in s.iter().enumerate() {
-        if b != b' ' {
-            if b == b'0' {
-                if i + 1 == s.len() {
-                    return Some(0);
-                }
-                return None;
-            }
-            return digits_from(&s[i..]);
-        }
-    }
-    None
-}
-
-// The number that the columns of s spell, digits alone.
-fn digits_from(s: &[u8]) -> Option<u64>
-    requires { length s.now ≤ most_columns }
-    ensures { result ≡ digits 0 s.now }
-{
-    let mut v = 0;
-    for &b in s {
-        v = 10 * v + digit_of(b)?;
-    }
-    Some(v)
-}
+ghost use Rattle.std.specs.Prelude.{◌≡◌, ◌+◌, ◌-◌, ◌/◌, ◌%◌, ◌≤◌, ◌<◌, length, MatchOption};
+ghost use Rattle.field.specs.Field.{digit_or_space, decimal};
 
 // The number of a digit.
 pub fn digit_of(b: u8) -> Option<u64>
@@ -48,6 +17,16 @@ pub fn digit_of(b: u8) -> Option<u64>
     }
 }
 
+// The last two columns of each number below 200: from 100 on two digits, below that spaces before the number.
+static LAST_TWO: [u8; 400] = *b"   1 2 3 4 5 6 7 8 9101112131415161718192021222324\
+    25262728293031323334353637383940414243444546474849\
+    50515253545556575859606162636465666768697071727374\
+    75767778798081828384858687888990919293949596979899\
+    00010203040506070809101112131415161718192021222324\
+    25262728293031323334353637383940414243444546474849\
+    50515253545556575859606162636465666768697071727374\
+    75767778798081828384858687888990919293949596979899";
+
 // The number v, right-justified in the columns of out.
 pub fn write_field(out: &mut [u8], v: u64)
     requires { 0 < length out.old }
@@ -57,10 +36,45 @@ pub fn write_field(out: &mut [u8], v: u64)
     // 0 has a digit too, so the last column never holds a space
     out[last] = digit(v);
     let mut left = v / 10;
-    for i in (0..last).rev() {
-        out[i] = digit_or_space(left);
-        left /= 10;
+    let mut at = last;
+    while at >= 2 {
+        at -= 2;
+        let (tens, ones) = last_two(left);
+        out[at + 1] = ones;
+        out[at] = tens;
+        left /= 100;
     }
+    if at == 1 {
+        out[0] = digit_or_space(left);
+    }
+}
+
+// A number's last two columns, which a number that has ended leaves to spaces.
+fn last_two(v: u64) -> (u8, u8)
+    ensures { (result.0 ≡ digit_or_space (v / 10)) × (result.1 ≡ digit_or_space v) }
+{
+    let at = 2 * below_200(v);
+    (LAST_TWO[at], LAST_TWO[at + 1])
+}
+
+// The number below 200 that has a number's last two columns.
+fn below_200(v: u64) -> usize
+    ensures within { result < 200 }
+    ensures tens { digit_or_space (result / 10) ≡ digit_or_space (v / 10) }
+    ensures ones { digit_or_space result ≡ digit_or_space v }
+{
+    if v < 100 {
+        return v as usize;
+    }
+    (100 + v % 100) as usize
+}
+
+// The number v in two columns.
+#[tactic(auto, unfolding(crate::specs::Field::decimal, crate::specs::Field::leading_digits))]
+pub fn two_columns(v: u64) -> [u8; 2]
+    ensures { result ≡ decimal 2 v }
+{
+    [digit_or_space(v / 10), digit(v)]
 }
 
 // The last digit of a number, or a space before a number that has ended.

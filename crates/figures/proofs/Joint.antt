@@ -5,9 +5,9 @@ use mathlib.Core.List.{List}
 use Prim.Native.Nat.{ℕ, ◌+◌, ◌-◌, ◌*◌, ◌/◌, ◌^◌, ◌≤◌, ◌<◌}
 use native.Mathlib.Omega.{arith}
 use lib.Dec.{leb}
-use Rattle.search.specs.Least.{least}
-use Rattle.search.proofs.LeastOf.{ceil_eq}
-use Rattle.guideline.specs.Sizes.{fineness, most_steps}
+use Rattle.basics.specs.Least.{least}
+use Rattle.basics.proofs.LeastOf.{ceil_eq}
+use Rattle.sizes.specs.Sizes.{fineness, most_steps}
 use Rattle.guideline.specs.Block.{AcceptedBlock, A, fine_i, a, radicand, fine_d, reported, I, D}
 use Rattle.guideline.proofs.Bounds.{radicand_most}
 use Rattle.guideline.proofs.Figures.{v_fits, fine_i_high, fine_d_high}

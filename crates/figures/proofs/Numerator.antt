@@ -5,10 +5,10 @@ use Prim.Native.Nat.{ℕ, ◌+◌, ◌-◌, ◌*◌, ◌/◌, ◌^◌, ◌≤◌
 use native.Mathlib.Nat.{mul-le-mul, mul-le-mul_left, le_of_mul-le-mul_left}
 use native.Mathlib.Omega.{arith}
 use lib.Dec.{leb}
-use Rattle.search.specs.Least.{least}
-use Rattle.search.proofs.LeastOf.{LeastOf, least_of, ceil_eq}
-use Rattle.search.proofs.Tests.{leb_same}
-use Rattle.guideline.specs.Sizes.{fineness}
+use Rattle.basics.specs.Least.{least}
+use Rattle.basics.proofs.LeastOf.{LeastOf, least_of, ceil_eq}
+use Rattle.basics.proofs.Tests.{leb_same}
+use Rattle.sizes.specs.Sizes.{fineness}
 use Rattle.guideline.specs.Block.{AcceptedBlock, U, LT, Vh, fine_d, K, M, fine_numerator, requirement}
 use Rattle.guideline.proofs.Bounds.{factored}
 use Rattle.guideline.proofs.Figures.{requirement_some, v_is, u_high, u_fits, fine_d_high, fine_d_third}

@@ -1,7 +1,7 @@
 -- What the steps to a block's figures hand on to one another. Assumes nothing.
 use Rattle.std.specs.Prelude.{◌≡◌, List, [], ◌∷◌, ℕ, ◌-◌, ◌*◌, ◌≤◌}
 use Rattle.amount.specs.Amount.{limit}
-use Rattle.guideline.specs.Sizes.{fineness}
+use Rattle.sizes.specs.Sizes.{fineness}
 use Rattle.guideline.specs.Block.{I, D, U, LT, K, figures_of}
 use Rattle.figures.specs.declared.Figures.{Figures}
 use Rattle.figures.specs.declared.NumberedFigures.{NumberedFigures}

@@ -1,7 +1,7 @@
 -- The steps of a block's two roots, after document 02, #107: 'the block call gives after K those for I, then those for D'; since #109 those of the
 -- finer roots. Assumes nothing.
 use Rattle.std.specs.Prelude.{List, [], ◌∷◌, ℕ, ◌*◌}
-use Rattle.guideline.specs.Sizes.{fineness}
+use Rattle.sizes.specs.Sizes.{fineness}
 use Rattle.guideline.specs.Block.{fine_i, a, radicand}
 use Rattle.root.specs.Steps.{steps}
 use Rattle.insurance.specs.Radicand.{radicand_i}

@@ -2,16 +2,17 @@
 #![tactic(auto)]
 
 ghost use Rattle.std.specs.Prelude.{◌≡◌, ◌+◌, ◌-◌, ◌*◌, ◌^◌, ◌≤◌, ◌<◌, leb};
-ghost use Rattle.search.specs.Least.{least};
+ghost use Rattle.basics.specs.Least.{least};
 ghost use Rattle.amount.specs.Amount.{limit};
-ghost use Rattle.guideline.specs.Sizes.{fineness};
+ghost use Rattle.sizes.specs.Sizes.{fineness};
 ghost use Rattle.guideline.specs.Block.{A, U, LT, radicand, reported, requirement, figures_of};
 ghost use Rattle.root.specs.Steps.{steps};
 ghost use Rattle.figures.specs.Parts.{figure_list, step_list, FigureBounds};
 ghost use Rattle.figures.specs.RootSteps.{steps_of};
 
-use guideline::{Block, FINENESS};
+use guideline::Block;
 use root::Root;
+use sizes::FINENESS;
 use wide::Wide;
 
 // 60 × V in hundredths, as it is beside D, is so many times V in cents.

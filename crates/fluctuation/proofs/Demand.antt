@@ -4,10 +4,10 @@ use Prim.Native.Nat.{ℕ, ◌+◌, ◌-◌, ◌*◌, ◌≤◌, ◌<◌}
 use native.Mathlib.Decide.{dec_le}
 use native.Mathlib.Omega.{arith}
 use lib.Dec.{T}
-use Rattle.search.specs.Least.{Least}
+use Rattle.basics.specs.Least.{Least}
 use Rattle.amount.specs.Amount.{limit}
-use Rattle.guideline.specs.Fraction.{◌≤ᶠ◌, whole, square_less}
-use Rattle.guideline.proofs.Fractions.{square_is}
+use Rattle.accuracy.specs.Fraction.{◌≤ᶠ◌, whole, square_less}
+use Rattle.accuracy.proofs.Fractions.{square_is}
 use Rattle.fluctuation.specs.Rows.{Row, row_of, base_of}
 use Rattle.fluctuation.specs.Result.{reaches, factored_requirement}
 use Rattle.fluctuation.specs.Exact.{twentieths, less_twentieths, times_dollars, AtOrAbove}

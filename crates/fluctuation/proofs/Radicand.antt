@@ -4,9 +4,9 @@ use Prim.Native.Nat.{ℕ, suc, ◌+◌, ◌*◌, ◌^◌, ◌≤◌, ◌<◌}
 use native.Mathlib.Nat.{mul-le-mul_left, mul-le-mul_right, lt_of_mul-lt-mul_right, lt_of_le_of_lt}
 use native.Mathlib.Omega.{arith}
 use lib.Dec.{leb, lit<}
-use Rattle.search.specs.Least.{least}
-use Rattle.search.proofs.LeastOf.{LeastOf, least_of, least_ceil}
-use Rattle.search.proofs.Tests.{leb_same}
+use Rattle.basics.specs.Least.{least}
+use Rattle.basics.proofs.LeastOf.{LeastOf, least_of, least_ceil}
+use Rattle.basics.proofs.Tests.{leb_same}
 use Rattle.fluctuation.specs.Result.{scale}
 use Rattle.fluctuation.specs.Parts.{most_twentieths}
 

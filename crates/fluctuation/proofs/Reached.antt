@@ -6,9 +6,9 @@ use native.Mathlib.Nat.{mul-le-mul, mul-le-mul_right}
 use native.Mathlib.Omega.{arith}
 use lib.Dec.{T, leb, leb→le, le→leb}
 use lib.Ieee.Fits.{and_i, and_l, and_r}
-use Rattle.search.specs.Least.{Least, least}
-use Rattle.search.proofs.Halving.{least_law}
-use Rattle.search.proofs.LeastOf.{LeastOf, least_of}
+use Rattle.basics.specs.Least.{Least, least}
+use Rattle.basics.proofs.Halving.{least_law}
+use Rattle.basics.proofs.LeastOf.{LeastOf, least_of}
 use Rattle.fluctuation.specs.Result.{scale, reaches}
 use Rattle.fluctuation.specs.Parts.{Falls, most_twentieths}
 

@@ -5,10 +5,10 @@ use Prim.Native.Nat.{ℕ, suc, ◌-◌, ◌*◌, ◌≤◌, ◌<◌}
 use native.Mathlib.Nat.{mul-le-mul_left}
 use native.Mathlib.Omega.{arith}
 use lib.Dec.{leb, ltb}
-use Rattle.search.specs.Pick.{pick}
-use Rattle.search.specs.Least.{least}
-use Rattle.search.proofs.Picks.{if_lt, if_ge, by_test}
-use Rattle.search.proofs.Values.{values, values_same}
+use Rattle.basics.specs.Pick.{pick}
+use Rattle.basics.specs.Least.{least}
+use Rattle.basics.proofs.Picks.{if_lt, if_ge, by_test}
+use Rattle.basics.proofs.Values.{values, values_same}
 use Rattle.amount.specs.Amount.{limit}
 use borrow.Author.Tests.{leb-true, ltb-true}
 use Rattle.fluctuation.specs.Rows.{Base, Row, rows, row_count, row_of, amount_of, base_of}

@@ -1,7 +1,7 @@
 -- The fluctuation call, after document 02, #104: 'It refuses, as number 18 with no place, a row outside 1–7, before 7, at position 0 for B
 -- and 1 for the face'. Assumes nothing.
 use Rattle.std.specs.Prelude.{Result, [], ◌∷◌, ℕ, ltb, length}
-use Rattle.search.specs.Pick.{pick}
+use Rattle.basics.specs.Pick.{pick}
 use Rattle.amount.specs.Amount.{first_above}
 use Rattle.refusal.specs.Outcome.{Outcome, stated_by}
 use Rattle.refusal.specs.Outcome.Outcome.{accepted, refused}

@@ -1,6 +1,6 @@
 -- What the fluctuation call's steps hand on to one another. Assumes nothing.
 use Rattle.std.specs.Prelude.{Option, Some, None, ℕ, ◌+◌, ◌-◌, ◌*◌, ◌≤◌, ◌<◌, ltb}
-use Rattle.search.specs.Pick.{pick}
+use Rattle.basics.specs.Pick.{pick}
 use Rattle.amount.specs.Amount.{limit}
 use Rattle.fluctuation.specs.Rows.{Row, base_of}
 use Rattle.fluctuation.specs.Result.{scale}

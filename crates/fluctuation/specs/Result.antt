@@ -2,8 +2,8 @@
 -- The exact result is in Exact, and proofs/Demand shows that this is the least whole number at or above it.
 -- Assumes nothing.
 use Rattle.std.specs.Prelude.{Bool, ◌&&◌, ℕ, ◌-◌, ◌*◌, leb, ltb}
-use Rattle.search.specs.Pick.{pick}
-use Rattle.search.specs.Least.{least}
+use Rattle.basics.specs.Pick.{pick}
+use Rattle.basics.specs.Least.{least}
 use Rattle.fluctuation.specs.Rows.{Row, base_of}
 
 -- 20², for a first number in twentieths, times 100, for a base in cents

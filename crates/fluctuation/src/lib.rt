@@ -1,9 +1,9 @@
 // The fluctuation call: the factors of section 11.1.2, which reduce a large requirement.
 #![tactic(auto)]
 
-ghost use Rattle.std.specs.Prelude.{◌≡◌, ◌*◌, ◌≤◌, leb};
+ghost use Rattle.std.specs.Prelude.{◌≡◌, ◌*◌, ◌<◌, ◌≤◌, leb};
 ghost use Rattle.amount.specs.Amount.{limit};
-ghost use Rattle.search.specs.Least.{least};
+ghost use Rattle.basics.specs.Least.{least};
 ghost use Rattle.fluctuation.specs.Rows.{row_count, row_of};
 ghost use Rattle.fluctuation.specs.Result.{scale, reaches, factored_requirement};
 ghost use Rattle.fluctuation.specs.Call.{stated, fluctuation_call};
@@ -126,7 +126,7 @@ fn over_root(requirement: u64, second: u64, base: u64) -> u64
 
 // Where the base is the requirement, as in rows 1 to 6: c² over the base is then the base times the second number's square, and nothing is divided.
 fn over_own_root(second: u64, base: u64) -> u64
-    requires { (second ≤ most_second) × InReach (base * second) base }
+    requires { (second ≤ most_second) × (0 < base) × (base ≤ limit) }
     ensures { result ≡ least (λ x. leb (scale * (base * second * (base * second))) (x * x * base)) }
 {
     root::root_up(Wide::product(SCALE * (second * second), base))

@@ -9,9 +9,9 @@ use native.Mathlib.Omega.{arith}
 use lib.Dec.{leb}
 use lib.ListN.{length, get_or}
 use borrow.Author.Tests.{leb-true}
-use Rattle.search.proofs.Values.{values, values_same}
+use Rattle.basics.proofs.Values.{values, values_same}
 use Rattle.amount.specs.Amount.{limit}
-use Rattle.guideline.specs.Sizes.{territories, volume_classes, volume_pairs}
+use Rattle.sizes.specs.Sizes.{territories, volume_classes, volume_pairs}
 use Rattle.guideline.specs.Operational.{OperationalAmounts, volume_factors, largest_factor, factor_of, current, excess, total, volume, growth, general_requirement, operational_numerator}
 
 -- five volumes and the growth of the first k pairs: their part of the numerator of RO

@@ -10,17 +10,16 @@ use lib.Dec.{leb}
 use lib.ListN.{length, get_or}
 use lib.IntN.{ℤ, pos, ◌*ℤ◌}
 use lib.Signed.{le_z}
-use Rattle.search.specs.Each.{Each}
-use Rattle.search.specs.Pick.{pick}
-use Rattle.search.specs.Least.{least}
-use Rattle.search.proofs.Picks.{if_ne}
-use Rattle.search.proofs.LeastOf.{LeastOf, Rising, least_of}
-use Rattle.search.proofs.Roots.{le_of_squares}
-use Rattle.search.proofs.Tests.{leb_same}
+use Rattle.basics.specs.Each.{Each}
+use Rattle.basics.specs.Pick.{pick}
+use Rattle.basics.specs.Least.{least}
+use Rattle.basics.proofs.Picks.{if_ne}
+use Rattle.basics.proofs.LeastOf.{LeastOf, Rising, least_of}
+use Rattle.basics.proofs.Roots.{le_of_squares}
+use Rattle.basics.proofs.Tests.{leb_same}
 use Rattle.amount.specs.Amount.{limit}
-use Rattle.guideline.specs.Sizes.{risks, block_figures, FitsColumns, fineness}
-use Rattle.guideline.specs.Block.{ir, lt, PC, A, seven, U, LT, Vh, y, ys, Q4, largest_of, largest, root, fine_i, a, radicand, fine_d, reported, I, D}
-use Rattle.guideline.specs.Block.{fine_numerator, requirement, K, EachRisk, AcceptedBlock, figures_of}
+use Rattle.sizes.specs.Sizes.{risks, block_figures, FitsColumns, fineness}
+use Rattle.guideline.specs.Block.{ir, lt, PC, A, seven, U, LT, Vh, y, ys, Q4, largest_of, largest, root, fine_i, a, radicand, fine_d, reported, I, D, fine_numerator, requirement, K, EachRisk, AcceptedBlock, figures_of}
 use Rattle.guideline.proofs.Sums.{sum}
 use Rattle.guideline.proofs.Table.{form, form_least, form_most, quarter_form, quarter_natural}
 use Rattle.guideline.proofs.Bounds.{radicand_most, root_thrice, m_rises, k_least, u_passes}

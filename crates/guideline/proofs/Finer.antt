@@ -3,9 +3,9 @@
 use mathlib.Core.Path.{◌≡◌, refl}
 use mathlib.Core.List.{List, [], ◌∷◌}
 use Prim.Native.Nat.{ℕ, ◌*◌}
-use Rattle.search.specs.Pick.{pick}
-use Rattle.search.specs.Least.{least_from}
-use Rattle.guideline.specs.Sizes.{fineness}
+use Rattle.basics.specs.Pick.{pick}
+use Rattle.basics.specs.Least.{least_from}
+use Rattle.sizes.specs.Sizes.{fineness}
 use Rattle.guideline.specs.Factors.{factors, sumℤ}
 use Rattle.guideline.specs.Block.{A, U, LT, Vh, y, ys, Q4, largest_of, largest, root, fine_i, a, fine_d, reported, I, D, requirement, K}
 

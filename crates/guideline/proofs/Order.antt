@@ -5,7 +5,7 @@ use mathlib.Core.List.{List}
 use Prim.Native.Nat.{ℕ, zero, suc, ◌+◌, ◌*◌, ◌≤◌, ◌<◌}
 use native.Mathlib.Omega.{arith}
 use lib.IntN.{ℤ, ◌+ℤ◌}
-use Rattle.guideline.specs.Sizes.{risks}
+use Rattle.sizes.specs.Sizes.{risks}
 use Rattle.guideline.specs.Factors.{term, sumℤ, row_sum, row_of, column_of, so_far, InOrder}
 use Rattle.guideline.proofs.Sums.{sum, sum_same, sum_on}
 

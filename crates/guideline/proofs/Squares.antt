@@ -6,7 +6,7 @@ use Prim.Native.Nat.{ℕ, ◌+◌, ◌*◌, ◌/◌, ◌%◌}
 use lib.ListN.{get_or}
 use lib.IntN.{ℤ, pos, negsuc, nat_abs, ◌+ℤ◌, ◌*ℤ◌, zero-*ℤ}
 use Rattle.integer.proofs.Integer.{ring}
-use Rattle.guideline.specs.Sizes.{risks, products}
+use Rattle.sizes.specs.Sizes.{risks, products}
 use Rattle.guideline.proofs.Sums.{sum, sum_same, sum_add, sum_times, sum_square}
 
 -- the k-th product of two values, row by row

@@ -5,7 +5,7 @@ use native.Mathlib.Nat.{add-zero, add-suc, zero-mul, suc-mul}
 use native.Mathlib.Omega.{arith}
 use lib.IntN.{ℤ, pos, ◌+ℤ◌, ◌*ℤ◌, +ℤ_idr, +ℤ_assoc, *ℤ-zero, *ℤ_comm}
 use Rattle.integer.proofs.Integer.{ring, *ℤ-+ℤ}
-use Rattle.guideline.specs.Sizes.{risks, products}
+use Rattle.sizes.specs.Sizes.{risks, products}
 
 -- f 0 + .. + f (n − 1)
 unfoldable pub sum : ℕ → (ℕ → ℤ) → ℤ

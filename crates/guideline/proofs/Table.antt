@@ -12,10 +12,10 @@ use lib.IntN.{ℤ, pos, negsuc, neg_ℤ, nat_abs, ◌+ℤ◌, ◌*ℤ◌}
 use mir.Syntax.{w8, w64}
 use mir.Val.{SFits}
 use borrow.Author.Tests.{leb-true}
-use Rattle.search.proofs.Picks.{never}
-use Rattle.search.proofs.Values.{values, values_same}
+use Rattle.basics.proofs.Picks.{never}
+use Rattle.basics.proofs.Values.{values, values_same}
 use Rattle.integer.proofs.Integer.{ring, *ℤ-+ℤ, *ℤ_assoc, +ℤ-*ℤ, natural_diff}
-use Rattle.guideline.specs.Sizes.{risks, products}
+use Rattle.sizes.specs.Sizes.{risks, products}
 use Rattle.guideline.specs.Factors.{factors, factor, quarter_sum}
 use Rattle.guideline.proofs.Sums.{sum, sum_same, sum_add, sum_times, sum_square}
 use Rattle.guideline.proofs.Order.{so_far_sum, in_order}

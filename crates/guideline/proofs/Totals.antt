@@ -6,11 +6,11 @@ use native.Mathlib.Nat.{mul-le-mul_right}
 use native.Mathlib.Omega.{arith}
 use lib.Dec.{leb}
 use lib.ListN.{length}
-use Rattle.search.specs.Least.{least}
-use Rattle.search.proofs.LeastOf.{LeastOf, least_of, ceil_eq}
+use Rattle.basics.specs.Least.{least}
+use Rattle.basics.proofs.LeastOf.{LeastOf, least_of, ceil_eq}
 use Rattle.amount.specs.Amount.{limit}
-use Rattle.search.specs.Each.{Each}
-use Rattle.guideline.specs.Sizes.{blocks, FitsColumns, ten_thousandths, largest_scalar}
+use Rattle.basics.specs.Each.{Each}
+use Rattle.sizes.specs.Sizes.{blocks, FitsColumns, ten_thousandths, largest_scalar}
 use Rattle.guideline.specs.Block.{K, AcceptedBlock}
 use Rattle.guideline.specs.Operational.{OperationalAmounts, operational_numerator, operational_denominator, RO}
 use Rattle.guideline.specs.Buffer.{Sheet, count, GFD, RO_of, sum_k, free, available, bracket, buffer, AcceptedSheet, most_available}

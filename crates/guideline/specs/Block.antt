@@ -8,9 +8,9 @@ use Rattle.std.proofs.Common.{sym, ap, ◌∙◌, arith}
 use Rattle.std.specs.Int.Signed.{le_z}
 use Rattle.integer.proofs.Integer.{as_diff, diff_eq, diff_add}
 use Rattle.amount.specs.Amount.{limit}
-use Rattle.search.specs.Pick.{pick}
-use Rattle.search.specs.Least.{least}
-use Rattle.guideline.specs.Sizes.{fineness}
+use Rattle.basics.specs.Pick.{pick}
+use Rattle.basics.specs.Least.{least}
+use Rattle.sizes.specs.Sizes.{fineness}
 use Rattle.guideline.specs.Factors.{quarter_sum}
 use Rattle.guideline.specs.Difference.{larger, cut_larger, less_diff, uncut}
 

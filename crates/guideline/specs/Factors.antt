@@ -1,6 +1,6 @@
 -- The correlation factors of section 11.2.1 and the sum over all pairs of risks, after document 01, 'A block'. Assumes nothing.
 use Rattle.std.specs.Prelude.{◌≡◌, List, [], ◌∷◌, ℕ, zero, suc, ◌+◌, ◌*◌, ◌/◌, ◌%◌, ◌≤◌, get_or, ℤ, pos, negsuc, ◌+ℤ◌, ◌*ℤ◌}
-use Rattle.guideline.specs.Sizes.{risks, products}
+use Rattle.sizes.specs.Sizes.{risks, products}
 
 -- 'The correlation factors, in quarters, rows and columns 1 to 7'; negsuc n is −(n + 1)
 unfoldable pub factors : List (List ℤ)

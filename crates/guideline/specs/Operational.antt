@@ -7,8 +7,8 @@ use Rattle.std.proofs.Math.Nat.{mul-sub}
 use Rattle.std.proofs.Common.{sym, ap, ◌∙◌, mul-le-mul_left, arith}
 use Rattle.std.proofs.Math.Decide.{ℕ_discrete}
 use Rattle.amount.specs.Amount.{limit}
-use Rattle.search.specs.Least.{least}
-use Rattle.guideline.specs.Sizes.{volume_classes, volume_numbers, ten_thousandths}
+use Rattle.basics.specs.Least.{least}
+use Rattle.sizes.specs.Sizes.{volume_classes, volume_numbers, ten_thousandths}
 use Rattle.guideline.specs.Difference.{larger, cut_larger, less_diff}
 
 -- 'Eight volume classes .. with factors in ten-thousandths' (8.2.1). Direct premiums: individual life, group life, other, annuities

@@ -7,9 +7,9 @@ use native.Mathlib.Nat.{mul-le-mul, lt_of_le_of_lt}
 use native.Mathlib.Omega.{arith}
 use lib.Dec.{leb, lit<}
 use lib.IntN.{pos, nat_abs, ◌*ℤ◌}
-use Rattle.search.specs.Least.{least}
+use Rattle.basics.specs.Least.{least}
 use Rattle.amount.specs.Amount.{limit}
-use Rattle.guideline.specs.Sizes.{fineness, most_steps}
+use Rattle.sizes.specs.Sizes.{fineness, most_steps}
 use Rattle.guideline.specs.Factors.{quarter_sum}
 use Rattle.guideline.specs.Block.{AcceptedBlock, PC, seven, y, ys, Q4, largest_of, largest, root, fine_i}
 use Rattle.guideline.proofs.Figures.{q, q_is, q_most, y_fits, v_fits, v_sum, fine_i_high, root_is}

@@ -7,13 +7,14 @@
 #![tactic(auto)]
 
 ghost use Rattle.std.specs.Prelude.{◌≡◌, ◌+◌, ◌*◌, ◌^◌, ◌<◌, max};
-ghost use Rattle.guideline.specs.Sizes.{fineness};
+ghost use Rattle.sizes.specs.Sizes.{fineness};
 ghost use Rattle.guideline.specs.Block.{ys, largest_of, fine_i};
 ghost use Rattle.root.specs.Steps.{steps};
 ghost use Rattle.insurance.specs.Radicand.{radicand_i};
 
-use guideline::{Block, FINENESS, RISKS};
+use guideline::Block;
 use root::Root;
+use sizes::{FINENESS, RISKS};
 
 // 2,500: what 10,000 × Q is of the sum in quarters.
 const RADICAND_OF_SUM: u64 = FINENESS * FINENESS / 4;

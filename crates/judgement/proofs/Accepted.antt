@@ -9,18 +9,18 @@ use native.Mathlib.Omega.{arith}
 use lib.Dec.{eqb, ltb}
 use lib.ListN.{length}
 use borrow.Author.Tests.{ltb-true, ltb-false, eqb-true}
-use Rattle.search.specs.Each.{Each}
-use Rattle.search.specs.First.{any_to}
-use Rattle.search.specs.Ascending.{ascending}
-use Rattle.search.specs.Total.{sum_to}
-use Rattle.search.proofs.Picks.{if_true, if_false, by_test, never}
-use Rattle.search.proofs.Totals.{sum_most}
+use Rattle.basics.specs.Each.{Each}
+use Rattle.basics.specs.First.{any_to}
+use Rattle.basics.specs.Ascending.{ascending}
+use Rattle.basics.specs.Total.{sum_to}
+use Rattle.basics.proofs.Picks.{if_true, if_false, by_test, never}
+use Rattle.basics.proofs.Totals.{sum_most}
 use Rattle.amount.specs.Amount.{limit}
-use Rattle.search.proofs.Anys.{none_before, none_to}
+use Rattle.basics.proofs.Anys.{none_before, none_to}
 use Rattle.refusal.specs.Outcome.{rule_number, printed, Judging, judging}
 use Rattle.refusal.specs.declared.Place.{Place}
 use Rattle.refusal.specs.declared.Place.TheVariants.{Line, Nowhere}
-use Rattle.guideline.specs.Sizes.{blocks, adjustable_products, largest_scalar}
+use Rattle.sizes.specs.Sizes.{blocks, adjustable_products, largest_scalar}
 use Rattle.guideline.specs.Block.{K}
 use Rattle.guideline.specs.Operational.{OperationalAmounts}
 use Rattle.guideline.specs.Buffer.{sum_k, free, available, AcceptedSheet, most_available}
@@ -33,7 +33,7 @@ use Rattle.codes.specs.declared.Code.{Code}
 use Rattle.codes.specs.declared.Code.TheVariants.{Rsk, Oth, Mor, Vol, Acq, Gen, Crd}
 use Rattle.sheet_line.specs.declared.Entry.{Entry}
 use Rattle.sheet_line.specs.Rules.{AcceptedLine}
-use Rattle.order.specs.Entries.{lookup, mark_of, of_block, exists, has_line, DistinctKeys}
+use Rattle.places.specs.Entries.{lookup, mark_of, of_block, exists, has_line, DistinctKeys}
 use Rattle.ledger.specs.Numbers.{dividend_credit, adjustable_credit}
 use Rattle.order.specs.Reading.{Reading, reading}
 use Rattle.order.specs.Reading.Reading.{complete, stopped}

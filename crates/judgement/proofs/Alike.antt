@@ -3,8 +3,7 @@ use mathlib.Core.Path.{◌≡◌, sym, ◌∙◌}
 use mathlib.Core.List.{List}
 use Prim.Native.Nat.{ℕ}
 use Rattle.sheet_line.specs.declared.Entry.{Entry}
-use Rattle.order.specs.Entries.{SameFigures}
-use Rattle.order.specs.Order.{Ascending, Ordered}
+use Rattle.order.specs.Order.{SameFigures, Ascending, Ordered}
 use Rattle.order.specs.Reading.{print_lines}
 use Rattle.order.proofs.Ascent.{ascending_ordered}
 use Rattle.order.proofs.Lines.{reading_ascending}

@@ -4,8 +4,8 @@ use mathlib.Core.List.{List}
 use Prim.Native.Nat.{ℕ, ◌+◌, ◌-◌, ◌*◌}
 use lib.Dec.{leb}
 use Rattle.codes.specs.Codes.{guarantee_class, scalar_class}
-use Rattle.search.specs.Least.{least}
-use Rattle.guideline.specs.Sizes.{ten_thousandths}
+use Rattle.basics.specs.Least.{least}
+use Rattle.sizes.specs.Sizes.{ten_thousandths}
 use Rattle.guideline.specs.Operational.{RO}
 use Rattle.guideline.specs.Buffer.{sum_k, free, available, bracket, buffer}
 use Rattle.sheet_line.specs.declared.Entry.{Entry}

@@ -6,15 +6,15 @@ use mathlib.Core.Bool.{Bool, true, not}
 use mathlib.Core.List.{List, [], ◌∷◌}
 use Prim.Native.Nat.{ℕ}
 use lib.Dec.{ltb}
-use Rattle.search.specs.Pick.{pick}
-use Rattle.search.specs.First.{any_to}
-use Rattle.search.specs.Least.{least_from}
-use Rattle.search.specs.Ascending.{ascending}
-use Rattle.search.specs.Total.{sum_to}
+use Rattle.basics.specs.Pick.{pick}
+use Rattle.basics.specs.First.{any_to}
+use Rattle.basics.specs.Least.{least_from}
+use Rattle.basics.specs.Ascending.{ascending}
+use Rattle.basics.specs.Total.{sum_to}
 use Rattle.field.specs.Field.{digits, field, digit_or_space, leading_digits, decimal}
 use Rattle.refusal.specs.Outcome.{place_of}
 use Rattle.refusal.specs.declared.Place.TheVariants.{Nowhere}
-use Rattle.guideline.specs.Sizes.{non_participating, blocks}
+use Rattle.sizes.specs.Sizes.{non_participating, blocks}
 use Rattle.guideline.specs.Factors.{factors, sumℤ}
 use Rattle.guideline.specs.Block.{A, U, LT, Vh, y, ys, Q4, largest_of, largest, root, fine_i, a, fine_d, requirement, K}
 use Rattle.guideline.specs.Operational.{total, volume, growth, operational_numerator, RO}
@@ -26,7 +26,7 @@ use Rattle.layout.specs.Columns.{spaced, layout_of, lettered}
 use Rattle.sheet_length.specs.Measured.{rule2, measured}
 use Rattle.sheet_line.specs.declared.Entry.{Entry}
 use Rattle.sheet_line.specs.Rules as line
-use Rattle.order.specs.Entries.{has_key, lookup, has_line, exists}
+use Rattle.places.specs.Entries.{has_key, lookup, has_line, exists}
 use Rattle.order.specs.Order.{key_of, rule19, rule11}
 use Rattle.order.specs.Reading.{on_line, read_from, print_by, print_lines}
 use Rattle.order.proofs.InOrder.{bytes_of}

@@ -6,7 +6,7 @@ use mathlib.Core.List.{List}
 use Prim.Native.Nat.{ℕ, ◌+◌, ◌%◌, ◌≤◌, ◌<◌}
 use native.Mathlib.Omega.{arith}
 use lib.ListN.{length}
-use Rattle.search.proofs.Firsts.{sought_found, sought_none}
+use Rattle.basics.proofs.Firsts.{sought_found, sought_none}
 use Rattle.refusal.specs.declared.Place.TheVariants as place
 use Rattle.layout.specs.Columns.{sheet_line_bytes}
 use Rattle.layout.specs.Whole.{whole_lines, breaks_at, lines_kept}

@@ -4,20 +4,20 @@ use mathlib.Core.Path.{◌≡◌, refl, sym, ap, ◌∙◌, subst}
 use mathlib.Core.Bool.{true, false}
 use mathlib.Core.List.{List}
 use Prim.Native.Nat.{ℕ, ◌≤◌, ◌<◌}
-use Rattle.search.specs.First.{any_to}
-use Rattle.search.proofs.Picks.{if_true, if_false, if_lt, if_ge, never}
+use Rattle.basics.specs.First.{any_to}
+use Rattle.basics.proofs.Picks.{if_true, if_false, if_lt, if_ge, never}
 use Rattle.refusal.specs.Outcome.{rule_number}
 use Rattle.refusal.specs.declared.Refusal.{Refusal}
 use Rattle.refusal.specs.declared.Place.{Place}
 use Rattle.refusal.specs.declared.Place.TheVariants as place
-use Rattle.guideline.specs.Sizes.{non_participating, blocks}
+use Rattle.sizes.specs.Sizes.{non_participating, blocks}
 use Rattle.guideline.specs.Operational.{RO}
 use Rattle.guideline.specs.Buffer.{count, sum_k, free, available, buffer}
 use Rattle.sheet_length.specs.Measured.{measured}
 use Rattle.codes.specs.Codes.{scalar_class}
 use Rattle.codes.specs.declared.Code.TheVariants.{Gen}
 use Rattle.sheet_line.specs.declared.Entry.{Entry}
-use Rattle.order.specs.Entries.{has_line}
+use Rattle.places.specs.Entries.{has_line}
 use Rattle.order.specs.Reading.{Reading, reading, entries_of, outcome_of}
 use Rattle.order.specs.Reading.Reading.{complete, stopped}
 use Rattle.ledger.specs.Lines.{Holds}

@@ -2,13 +2,13 @@
 -- 10, 11; then 12, 13', and document 02's 3 of a whole line before 2, 19 in a line, 'tested after 11', 16, 'after 12 and before 13', and 17, 'after
 -- 16 and before 13'. Each rule ends in the next one. Assumes nothing.
 use Rattle.std.specs.Prelude.{Result, Ok, Err, List, ℕ, ltb, map, take}
-use Rattle.search.specs.Pick.{pick}
-use Rattle.search.specs.First.{any_to}
+use Rattle.basics.specs.Pick.{pick}
+use Rattle.basics.specs.First.{any_to}
 use Rattle.refusal.specs.Outcome.{rule_number}
 use Rattle.refusal.specs.declared.Refusal.{Refusal}
 use Rattle.refusal.specs.declared.Place.{Place}
 use Rattle.refusal.specs.declared.Place.TheVariants as place
-use Rattle.guideline.specs.Sizes.{non_participating, blocks}
+use Rattle.sizes.specs.Sizes.{non_participating, blocks}
 use Rattle.guideline.specs.Operational.{RO}
 use Rattle.guideline.specs.Buffer.{count, sum_k, free, available, buffer}
 use Rattle.figures.specs.Parts.{numbered_figures}
@@ -17,7 +17,7 @@ use Rattle.sheet_length.specs.Measured.{measured, after_length}
 use Rattle.codes.specs.Codes.{scalar_class}
 use Rattle.codes.specs.declared.Code.TheVariants.{Gen}
 use Rattle.sheet_line.specs.declared.Entry.{Entry}
-use Rattle.order.specs.Entries.{has_line}
+use Rattle.places.specs.Entries.{has_line}
 use Rattle.order.specs.Reading.{Reading, reading}
 use Rattle.order.specs.Reading.Reading.{complete, stopped}
 use Rattle.credits.specs.Credits.{credit_above}

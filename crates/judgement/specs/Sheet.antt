@@ -1,8 +1,8 @@
 -- A sheet's amounts off its lines: 'An absent line means zeros'. Assumes nothing.
 use Rattle.std.specs.Prelude.{List, [], ◌∷◌}
 use Rattle.codes.specs.Codes.{gross_class, guarantee_class, ceded_class, scalar_class, credits_class}
-use Rattle.search.specs.Total.{sum_to}
-use Rattle.guideline.specs.Sizes.{blocks, adjustable_products}
+use Rattle.basics.specs.Total.{sum_to}
+use Rattle.sizes.specs.Sizes.{blocks, adjustable_products}
 use Rattle.guideline.specs.Buffer.{Sheet}
 use Rattle.sheet_line.specs.declared.Entry.{Entry}
 use Rattle.ledger.specs.Numbers.{volumes_of, general_amount, dividend_credit, adjustable_credit}

@@ -3,8 +3,8 @@
 
 ghost use Rattle.std.specs.Prelude.{◌≡◌, ◌*◌, ◌≤◌, leb};
 ghost use Rattle.guideline.specs.Buffer.{most_available};
-ghost use Rattle.search.specs.Least.{least};
-ghost use Rattle.guideline.specs.Sizes.{ten_thousandths, largest_scalar};
+ghost use Rattle.basics.specs.Least.{least};
+ghost use Rattle.sizes.specs.Sizes.{ten_thousandths, largest_scalar};
 ghost use Rattle.guideline.specs.Operational.{RO};
 ghost use Rattle.ledger.specs.Lines.{Empty, OfLines};
 ghost use Rattle.judgement.specs.Judgement.{judgement, rule12, rule17, findings, stated};
@@ -14,9 +14,9 @@ ghost use Rattle.judgement.specs.Steps.{LinesOf, BehindRows};
 use codes::{CEDED_CLASS, CREDITS_CLASS, GROSS_CLASS, GUARANTEE_CLASS, SCALAR_CLASS};
 use credits::CreditedLedger;
 use figures::NumberedFigures;
-use guideline::{BLOCKS, TEN_THOUSANDTHS};
 use ledger::Ledger;
 use refusal::{Place, Refusal, Rule};
+use sizes::{BLOCKS, TEN_THOUSANDTHS};
 
 // What a sheet comes to: how many blocks exist, the sum of their K, RO and the buffer.
 #[derive(Clone, Copy)]

@@ -10,9 +10,9 @@ use lib.Dec.{eqb}
 use lib.ListN.{length, take, drop, length-append, length-drop}
 use lib.Seq.{length-take-le}
 use borrow.Author.Tests.{eqb-true}
-use Rattle.search.specs.Pick.{pick}
-use Rattle.search.proofs.Picks.{if_true, by_test, never, both}
-use Rattle.search.proofs.Values.{values, is_values}
+use Rattle.basics.specs.Pick.{pick}
+use Rattle.basics.proofs.Picks.{if_true, by_test, never, both}
+use Rattle.basics.proofs.Values.{values, is_values}
 use Rattle.field.specs.Field.{field, leading_digits, decimal}
 use Rattle.field.proofs.Writing.{length_decimal}
 use Rattle.field.proofs.Inverse.{field_bound, read_back, written_back}

@@ -11,8 +11,8 @@ use native.Mathlib.Omega.{arith}
 use lib.ListN.{length, take, drop, length-drop}
 use lib.Seq.{drop-drop, length-take-le}
 use Rattle.std.proofs.Common.{slice_index_or}
-use Rattle.search.specs.First.{FoundAt}
-use Rattle.search.proofs.Firsts.{sought_found, sought_none}
+use Rattle.basics.specs.First.{FoundAt}
+use Rattle.basics.proofs.Firsts.{sought_found, sought_none}
 use Rattle.layout.specs.Columns.{sheet_line_bytes, layout_of}
 use Rattle.layout.specs.Whole.{whole_lines, line_at, is_broken, breaks_at, lines_kept}
 

@@ -2,8 +2,9 @@
 -- 26–39, a line feed last, spaces between.' How columns 4 to 40 are read, and how they are printed behind three letters. Bytes are numbers:
 -- a space is 32, a line feed 10. Assumes nothing.
 use Rattle.std.specs.Prelude.{Option, Some, None, ℕ, ◌+◌, ◌-◌, List, [], ◌∷◌, ◌++◌, Bool, false, eqb, get_or, take, drop}
-use Rattle.search.specs.Pick.{pick}
+use Rattle.basics.specs.Pick.{pick}
 use Rattle.field.specs.Field.{field, decimal}
+use Rattle.line_fields.specs.Words.{amount_columns}
 use Rattle.layout.specs.declared.Numbers.{Numbers}
 
 -- the bytes of a line, its line feed with them
@@ -46,4 +47,4 @@ layout_of s =
 unfoldable pub lettered : List ℕ → Numbers → List ℕ
 lettered w n =
     w ++ (32 ∷ decimal 2 n.block) ++ (32 ∷ decimal 2 n.class)
-    ++ (32 ∷ decimal 14 n.first) ++ (32 ∷ decimal 14 n.second) ++ (10 ∷ [])
+    ++ (32 ∷ decimal amount_columns n.first) ++ (32 ∷ decimal amount_columns n.second) ++ (10 ∷ [])

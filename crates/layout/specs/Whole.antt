@@ -1,7 +1,7 @@
 -- The whole lines of a sheet tested for rule 3, 'columns 4–40 break the layout'. Document 02, #108: 'the whole lines are tested for rule 3 first.
 -- It gives 3 with the first bad whole line'. Assumes nothing.
 use Rattle.std.specs.Prelude.{Option, Some, None, Bool, true, false, List, ℕ, ◌*◌, ◌/◌, length, take, drop}
-use Rattle.search.specs.First.{first}
+use Rattle.basics.specs.First.{first}
 use Rattle.layout.specs.Columns.{sheet_line_bytes, layout_of}
 use Rattle.layout.specs.declared.Numbers.{Numbers}
 

@@ -2,12 +2,31 @@
 #![tactic(auto)]
 
 ghost use Rattle.std.specs.Prelude.{◌≡◌};
-ghost use Rattle.search.specs.First.{FoundAt};
+ghost use Rattle.basics.specs.First.{FoundAt};
 ghost use Rattle.layout.specs.Columns.{separated_of, layout_of};
 ghost use Rattle.layout.specs.Whole.{whole_lines, lines_kept};
 
 // The bytes of a line, its line feed with them.
 pub const SHEET_LINE_BYTES: usize = 40;
+
+// Where the columns of the code end, and where those of the block, the class and the two amounts begin and end.
+const CODE_END: usize = 3;
+
+const BLOCK: usize = 4;
+
+const BLOCK_END: usize = 6;
+
+const CLASS: usize = 7;
+
+const CLASS_END: usize = 9;
+
+pub const FIRST: usize = 10;
+
+pub const FIRST_END: usize = 24;
+
+pub const SECOND: usize = 25;
+
+pub const SECOND_END: usize = 39;
 
 // The four numbers of a line.
 #[derive(Clone, Copy)]
@@ -19,17 +38,17 @@ pub struct Numbers {
 }
 
 // Reads the four numbers, where nothing breaks the layout.
-#[tactic(auto, unfolding(crate::specs::Columns::layout_of, search::specs::Pick::pick))]
+#[tactic(auto, unfolding(crate::specs::Columns::layout_of, basics::specs::Pick::pick))]
 pub fn read_layout(s: &[u8; SHEET_LINE_BYTES]) -> Option<Numbers>
     ensures { result ≡ layout_of s.now }
 {
     if !separated(s) {
         return None;
     }
-    let block = line_fields::read_pair(s[4..6].as_array()?)?;
-    let class = line_fields::read_pair(s[7..9].as_array()?)?;
-    let first = line_fields::read_amount(s[10..24].as_array()?)?;
-    let second = line_fields::read_amount(s[25..39].as_array()?)?;
+    let block = line_fields::read_pair(s[BLOCK..BLOCK_END].as_array()?)?;
+    let class = line_fields::read_pair(s[CLASS..CLASS_END].as_array()?)?;
+    let first = line_fields::read_amount(s[FIRST..FIRST_END].as_array()?)?;
+    let second = line_fields::read_amount(s[SECOND..SECOND_END].as_array()?)?;
     Some(Numbers {
         block,
         class,
@@ -39,11 +58,15 @@ pub fn read_layout(s: &[u8; SHEET_LINE_BYTES]) -> Option<Numbers>
 }
 
 // The bytes between the fields: spaces, and a line feed last.
-#[tactic(auto, unfolding(crate::specs::Columns::spaced, search::specs::Pick::pick))]
+#[tactic(auto, unfolding(crate::specs::Columns::spaced, basics::specs::Pick::pick))]
 fn separated(s: &[u8; SHEET_LINE_BYTES]) -> bool
     ensures { result ≡ separated_of s.now }
 {
-    s[3] == b' ' && s[6] == b' ' && s[9] == b' ' && s[24] == b' ' && s[39] == b'\n'
+    s[CODE_END] == b' '
+        && s[BLOCK_END] == b' '
+        && s[CLASS_END] == b' '
+        && s[FIRST_END] == b' '
+        && s[SECOND_END] == b'\n'
 }
 
 // The first whole line of a sheet whose layout is broken, by how many stand before it; none where no layout is broken. What stands behind the last

@@ -8,18 +8,18 @@ use native.Mathlib.Omega.{arith}
 use lib.ListN.{length, get_or, length-append, get_or-eq_default}
 use lib.Seq.{append_snoc, get_or-append_seam, get_or-append-add}
 use Rattle.amount.specs.Amount.{limit}
-use Rattle.search.specs.Pick.{pick}
-use Rattle.search.specs.Each.{Each}
-use Rattle.search.proofs.Eaches.{each_at}
-use Rattle.guideline.specs.Sizes.{block_numbers, volume_classes, volume_numbers, largest_scalar, volume_pairs}
+use Rattle.basics.specs.Pick.{pick}
+use Rattle.basics.specs.Each.{Each}
+use Rattle.basics.proofs.Eaches.{each_at}
+use Rattle.sizes.specs.Sizes.{block_numbers, volume_classes, volume_numbers, largest_scalar, volume_pairs}
 use Rattle.guideline.specs.Operational.{current, prior}
 use Rattle.codes.specs.Codes.{risk_classes, expenses_class, scalar_class, Key}
 use Rattle.codes.specs.declared.Code.{Code}
 use Rattle.codes.specs.declared.Code.TheVariants.{Rsk, Oth, Vol, Acq, Gen}
 use Rattle.sheet_line.specs.declared.Entry.{Entry}
 use Rattle.sheet_line.specs.Rules.{AcceptedLine, AcceptedAmounts}
-use Rattle.order.specs.Entries.{has_key, lookup, first_of, second_of, mark_of}
-use Rattle.order.proofs.Keys.{same_key}
+use Rattle.places.specs.Entries.{has_key, lookup, first_of, second_of, mark_of}
+use Rattle.places.proofs.Keys.{same_key}
 use Rattle.ledger.specs.Numbers.{pairs, block_by, volumes_by, block_of, volumes_of, general_amount}
 
 -- ---- what is looked up is 0, or is in a line with that code and class

@@ -7,17 +7,17 @@ use Prim.Native.Nat.{ℕ, zero, suc, ◌+◌, ◌-◌, ◌*◌, ◌/◌, ◌%◌
 use native.Mathlib.Numerals.{add-one}
 use native.Mathlib.Omega.{arith}
 use lib.ListN.{length, get_or, set}
-use Rattle.search.specs.Each.{Each}
-use Rattle.search.proofs.Stretches.{Wrote, nothing, next, lent_part, all_written}
-use Rattle.guideline.specs.Sizes.{blocks, territories, block_numbers, volume_classes, territory_numbers, volume_numbers, volume_pairs}
+use Rattle.basics.specs.Each.{Each}
+use Rattle.basics.proofs.Stretches.{Wrote, nothing, next, lent_part, all_written}
+use Rattle.sizes.specs.Sizes.{blocks, territories, block_numbers, volume_classes, territory_numbers, volume_numbers, volume_pairs}
 use Rattle.codes.specs.Codes.{risk_classes, other_classes, general_classes, range_of}
 use Rattle.sheet_line.specs.Rules.{AcceptedLine}
 use Rattle.codes.specs.declared.Code.{Code}
 use Rattle.codes.specs.declared.Code.TheVariants.{Rsk, Oth, Vol, Acq, Gen}
 use Rattle.sheet_line.specs.declared.Entry.{Entry}
-use Rattle.order.specs.Entries.{lookup, first_of, second_of}
-use Rattle.order.specs.Places.{index_of, table, tabled}
-use Rattle.order.proofs.Indexes.{lookup_table}
+use Rattle.places.specs.Entries.{lookup, first_of, second_of}
+use Rattle.places.specs.Places.{index_of, table, tabled}
+use Rattle.places.proofs.Indexes.{lookup_table}
 use Rattle.ledger.proofs.Bounds.{length_pairs}
 use Rattle.ledger.specs.Numbers.{pairs, block_by, volumes_by, territory_by, joined_by, block_of, volumes_of, general_amount}
 

@@ -7,21 +7,22 @@ use Rattle.std.proofs.Math.Logic.{∥∥₁_elim}
 use Prim.Native.Nat.{ℕ, ◌≤◌}
 use native.Mathlib.Omega.{arith}
 use lib.ListN.{replicate, set}
-use Rattle.guideline.specs.Sizes.{blocks}
+use Rattle.sizes.specs.Sizes.{blocks}
 use Rattle.codes.specs.Codes.{general_classes, scalar_class, Key}
 use Rattle.codes.specs.declared.Code.{Code}
 use Rattle.codes.specs.declared.Code.TheVariants.{Vol, Acq, Gen}
 use Rattle.sheet_line.specs.Rules.{AcceptedLine}
 use Rattle.sheet_line.specs.declared.Entry.{Entry}
 use Rattle.refusal.specs.declared.Rule.{Rule}
-use Rattle.order.specs.Entries.{lookup, first_of, second_of, exists, has_line}
+use Rattle.places.specs.Entries.{lookup, first_of, second_of, exists, has_line}
 use Rattle.ledger.specs.Numbers.{block_by, joined_by, block_of, volumes_of, general_amount}
-use Rattle.order.specs.Places.{places, index_for, table, tabled}
-use Rattle.order.specs.Marks.{Admits, marks_of, has_mark, block_marked}
+use Rattle.places.specs.Places.{places, index_for, table, tabled}
+use Rattle.order.specs.Order.{Admits}
+use Rattle.places.specs.Marks.{marks_of, has_mark, block_marked}
 use Rattle.order.proofs.Admission.{good_admitted}
 use Rattle.ledger.proofs.Bounds.{first_most, second_most}
-use Rattle.order.proofs.Indexes.{lookup_table}
-use Rattle.order.proofs.Marks.{mark_table, exists_table}
+use Rattle.places.proofs.Indexes.{lookup_table}
+use Rattle.places.proofs.Marks.{mark_table, exists_table}
 use Rattle.ledger.proofs.Numbers.{block_table, volumes_table, general_table}
 use Rattle.ledger.specs.Tables.{TablesOf, Held, JoinedFits}
 use Rattle.ledger.specs.Lines.{Holds, Sound}

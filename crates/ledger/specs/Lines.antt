@@ -3,8 +3,8 @@ use Rattle.std.specs.Prelude.{◌≡◌, ℕ, Result, Ok, Err, List, [], set}
 use Rattle.refusal.specs.declared.Rule.{Rule}
 use Rattle.sheet_line.specs.Rules.{AcceptedLine}
 use Rattle.sheet_line.specs.declared.Entry.{Entry}
-use Rattle.order.specs.Marks.{Admits}
-use Rattle.order.specs.Places.{index_for}
+use Rattle.order.specs.Order.{Admits}
+use Rattle.places.specs.Places.{index_for}
 use Rattle.ledger.specs.Tables.{TablesOf, Held}
 use Rattle.ledger.specs.declared.Ledger.{Ledger}
 

@@ -1,11 +1,11 @@
 -- The numbers that are taken off a sheet's lines, in the order of the calls that take them: 'An absent line means zeros'. Assumes nothing.
 use Rattle.std.specs.Prelude.{ℕ, zero, suc, ◌+◌, ◌/◌, ◌%◌, List, [], ◌∷◌, ◌++◌}
-use Rattle.guideline.specs.Sizes.{volume_classes, volume_pairs}
+use Rattle.sizes.specs.Sizes.{volume_classes, volume_pairs}
 use Rattle.codes.specs.Codes.{risk_classes}
 use Rattle.codes.specs.declared.Code.{Code}
 use Rattle.codes.specs.declared.Code.TheVariants.{Rsk, Oth, Mor, Vol, Acq, Gen, Crd}
 use Rattle.sheet_line.specs.declared.Entry.{Entry}
-use Rattle.order.specs.Entries.{lookup, first_of, second_of}
+use Rattle.places.specs.Entries.{lookup, first_of, second_of}
 
 -- n pairs: f 0, g 0, f 1, g 1 and so on
 unfoldable pub pairs : (ℕ → ℕ) → (ℕ → ℕ) → ℕ → List ℕ
@@ -28,7 +28,7 @@ volumes_by first second =
 abbrev pub joined_by : (Code → ℕ → ℕ → ℕ) → (Code → ℕ → ℕ → ℕ) → List ℕ
 joined_by first second = volumes_by first (λ k b c. second k b c + first Acq b c)
 
--- the eight pairs of a territory among them
+-- the eight pairs of a territory among them, which serve a private contract alone
 abbrev pub territory_by : (Code → ℕ → ℕ → ℕ) → (Code → ℕ → ℕ → ℕ) → ℕ → List ℕ
 territory_by first second t = pairs (λ k. first Vol t (k + 1)) (λ k. second Vol t (k + 1) + first Acq t (k + 1)) volume_classes
 

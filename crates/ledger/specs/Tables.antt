@@ -1,13 +1,13 @@
 -- The tables that hold a sheet's entries: first amounts, second amounts and marks have a table each. Assumes nothing.
 use Rattle.std.specs.Prelude.{◌≡◌, ℕ, ◌+◌, ◌^◌, ◌<◌, List, Bool}
-use Rattle.search.specs.Each.{Each}
+use Rattle.basics.specs.Each.{Each}
 use Rattle.codes.specs.Codes.{Key}
 use Rattle.sheet_line.specs.Rules.{AcceptedLine}
 use Rattle.codes.specs.declared.Code.TheVariants.{Vol, Acq}
 use Rattle.sheet_line.specs.declared.Entry.{Entry}
-use Rattle.order.specs.Entries.{first_of, second_of}
-use Rattle.order.specs.Places.{table, tabled}
-use Rattle.order.specs.Marks.{marks_of}
+use Rattle.places.specs.Entries.{first_of, second_of}
+use Rattle.places.specs.Places.{table, tabled}
+use Rattle.places.specs.Marks.{marks_of}
 
 -- all that the three tables hold of some entries
 pub record TablesOf (es : List Entry) (firsts seconds : List ℕ) (marks : List Bool) : Type 0 where

@@ -5,16 +5,16 @@
 
 ghost use Rattle.std.specs.Prelude.{◌≡◌, ◌≤◌, length};
 ghost use Rattle.codes.specs.Codes.{general_classes, Key};
-ghost use Rattle.guideline.specs.Sizes.{blocks, territories, territory_numbers};
-ghost use Rattle.order.specs.Places.{tabled};
+ghost use Rattle.sizes.specs.Sizes.{blocks, territories, territory_numbers};
+ghost use Rattle.places.specs.Places.{tabled};
 ghost use Rattle.ledger.specs.Numbers.{block_by, joined_by, territory_by};
 ghost use Rattle.ledger.specs.Tables.{HoldSome, JoinedFits};
 
 use codes::{Code, RISK_CLASSES};
-use guideline::{BLOCK_NUMBERS, TERRITORIES, TERRITORY_NUMBERS, VOLUME_CLASSES, VOLUME_NUMBERS};
-use order::PLACES;
+use places::PLACES;
 use refusal::Rule;
 use sheet_line::Entry;
+use sizes::{BLOCK_NUMBERS, TERRITORIES, TERRITORY_NUMBERS, VOLUME_CLASSES, VOLUME_NUMBERS};
 
 // The lines of a sheet in three tables. The tables of every ledger hold some lines, which no rule of a line turns away.
 // Kept: no table of structs, in fixed memory: it would take 24 bytes a place where these take 17, and a converted sheet holds the marks alone.
@@ -36,9 +36,9 @@ pub struct Amounts {
 impl Ledger {
     ghost use Rattle.std.specs.Prelude.{◌≡◌, ◌≤◌};
     ghost use Rattle.codes.specs.Codes.{general_classes, scalar_class, Key};
-    ghost use Rattle.guideline.specs.Sizes.{blocks};
-    ghost use Rattle.order.specs.Places.{tabled};
-    ghost use Rattle.order.specs.Marks.{has_mark, block_marked};
+    ghost use Rattle.sizes.specs.Sizes.{blocks};
+    ghost use Rattle.places.specs.Places.{tabled};
+    ghost use Rattle.places.specs.Marks.{has_mark, block_marked};
     ghost use Rattle.ledger.specs.Numbers.{block_by, joined_by};
     ghost use Rattle.ledger.specs.Tables.{HoldSome};
     ghost use Rattle.ledger.specs.Lines.{Empty, Sound, Entered};
@@ -73,7 +73,7 @@ impl Ledger {
     {
         let admitted = order::admit(line, last, &mut self.marks);
         if let Ok(e) = admitted {
-            let at = order::index_for(e);
+            let at = places::index_for(e);
             self.firsts[at] = e.first;
             self.seconds[at] = e.second;
         }
@@ -135,7 +135,7 @@ impl Ledger {
         requires { Key code block class }
         ensures { result ≡ has_mark self.now.marks code block class }
     {
-        order::has_mark(&self.marks, code, block, class)
+        places::has_mark(&self.marks, code, block, class)
     }
 
     // Whether a block has an RSK or OTH line.
@@ -143,14 +143,14 @@ impl Ledger {
         requires { (1 ≤ block) × (block ≤ blocks) }
         ensures { result ≡ block_marked self.now.marks block }
     {
-        order::block_exists(&self.marks, block)
+        places::block_exists(&self.marks, block)
     }
 
     // Whether the sheet has the scalar's line.
     pub fn has_scalar(&self) -> bool
         ensures { result ≡ has_mark self.now.marks Code.Gen 0 scalar_class }
     {
-        order::has_scalar(&self.marks)
+        places::has_scalar(&self.marks)
     }
 }
 
@@ -166,13 +166,13 @@ pub fn block_numbers(
 {
     let mut numbers = [0u64; BLOCK_NUMBERS];
     for i in 0..RISK_CLASSES {
-        let at = order::index_of(Code::Rsk, block, i + 1);
+        let at = places::index_of(Code::Rsk, block, i + 1);
         numbers[2 * i] = firsts[at];
         numbers[2 * i + 1] = seconds[at];
     }
-    numbers[14] = firsts[order::index_of(Code::Oth, block, 1)];
-    numbers[15] = firsts[order::index_of(Code::Oth, block, 2)];
-    numbers[16] = firsts[order::index_of(Code::Oth, block, 3)];
+    numbers[14] = firsts[places::index_of(Code::Oth, block, 1)];
+    numbers[15] = firsts[places::index_of(Code::Oth, block, 2)];
+    numbers[16] = firsts[places::index_of(Code::Oth, block, 3)];
     numbers
 }
 
@@ -193,7 +193,7 @@ pub fn volume_numbers(firsts: &[u64; PLACES], seconds: &[u64; PLACES]) -> [u64; 
 // The eight pairs of a territory, into its own stretch of the numbers. The columns of a code's classes follow one another, so that two indexes serve
 // all eight. The compiler unrolls the loop.
 // Kept: not inlined. With the unrolled stores in its caller the compiler clears and copies the 256 numbers at each function that hands them on.
-#[tactic(auto, unfolding(order::specs::Places::index_of))]
+#[tactic(auto, unfolding(places::specs::Places::index_of))]
 #[inline(never)]
 fn territory_numbers(
     firsts: &[u64; PLACES],
@@ -206,8 +206,8 @@ fn territory_numbers(
     requires room { length numbers.old ≡ territory_numbers }
     ensures { numbers.new ≡ territory_by (tabled firsts.now) (tabled seconds.now) territory }
 {
-    let current = order::index_of(Code::Vol, territory, 1);
-    let acquired = order::index_of(Code::Acq, territory, 1);
+    let current = places::index_of(Code::Vol, territory, 1);
+    let acquired = places::index_of(Code::Acq, territory, 1);
     for k in 0..VOLUME_CLASSES {
         numbers[2 * k] = firsts[current + k];
         numbers[2 * k + 1] = seconds[current + k] + firsts[acquired + k];
@@ -227,5 +227,5 @@ pub fn amount_of(table: &[u64; PLACES], code: Code, block: usize, class: usize) 
     requires { Key code block class }
     ensures { result ≡ tabled table.now code block class }
 {
-    table[order::index_of(code, block, class)]
+    table[places::index_of(code, block, class)]
 }

@@ -26,12 +26,16 @@ none (suc a) p r h e = absurd (omega arith)
 
 -- ---- digits
 
-half : (b : ℕ) → b < 256 → bit_and b 128 ≡ 0 → b < 128
-half b h e =
+-- a byte's highest bit
+pub highest : (b : ℕ) → bit_and b 128 ≡ 128 * (b / 128 % 2)
+highest b =
     let s : b / 128 * 2 ^ 7 + b % 128 ≡ b = div-add-mod' b 128 in
     let k : bit_and (b / 128 * 2 ^ 7 + b % 128) (1 * 2 ^ 7 + 0) ≡ bit_and (b / 128) 1 * 2 ^ 7 + bit_and (b % 128) 0 =
     and_block 7 (b / 128) 1 (b % 128) 0 (omega arith) (omega arith) in
-    omega (arith, sym (ap (λ (x : ℕ). bit_and x 128) s) ∙ k, and_mask (b / 128) 1)
+    omega (arith, sym (ap (λ (x : ℕ). bit_and x 128) s) ∙ k, and_mask (b / 128) 1, and_zero_r (b % 128))
+
+half : (b : ℕ) → b < 256 → bit_and b 128 ≡ 0 → b < 128
+half b h e = omega (arith, e, highest b)
 
 -- no byte reaches its upper half
 pub lower_halves : (n y : ℕ) → y < 256 ^ n → bit_and y (lanes 128 n) ≡ 0 → Within 127 n y
@@ -66,7 +70,7 @@ digits_within (suc n) y h w e =
 -- ---- marks
 
 -- a byte's mark is 16 or 0
-mark : (b : ℕ) → bit_and b 16 ≡ 16 * (b / 16 % 2)
+pub mark : (b : ℕ) → bit_and b 16 ≡ 16 * (b / 16 % 2)
 mark b =
     let s : b / 16 * 2 ^ 4 + b % 16 ≡ b = div-add-mod' b 16 in
     let k : bit_and (b / 16 * 2 ^ 4 + b % 16) (1 * 2 ^ 4 + 0) ≡ bit_and (b / 16) 1 * 2 ^ 4 + bit_and (b % 16) 0 =

@@ -5,7 +5,7 @@ use Prim.Native.Nat.{ℕ, ◌+◌, ◌*◌, ◌^◌}
 use native.Mathlib.Omega.{arith}
 use lib.ListN.{length, get_or}
 use Rattle.std.specs.Int.{from_be_bytes, w16, w32, w64}
-use Rattle.search.proofs.Values.{values, is_values}
+use Rattle.basics.proofs.Values.{values, is_values}
 use Rattle.line_fields.specs.Words.{word}
 
 -- the n bytes from i on

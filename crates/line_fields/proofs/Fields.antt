@@ -9,7 +9,7 @@ use native.Mathlib.Omega.{arith}
 use lib.Arith.{digits_div}
 use lib.ListN.{length}
 use Rattle.std.proofs.lemmas.Nat.{div-add-mod'}
-use Rattle.search.proofs.Picks.{if_eq, if_ne, if_ge}
+use Rattle.basics.proofs.Picks.{if_eq, if_ne, if_ge}
 use Rattle.field.specs.Field.{digits, field}
 use Rattle.line_fields.specs.Words.{word, Bytes, Within, number, Holds}
 use Rattle.line_fields.proofs.Bytes.{lanes, some, unique, lanes_all, within_all, room, word_lt, lanes_sum, lanes_last}
@@ -155,7 +155,7 @@ bytes_behind a s h b zero = h
 bytes_behind a s h b (suc i) = b i
 
 -- the marks of all digits but the first
-marks_behind : (m : ℕ) → lanes 16 (suc m) / 256 ≡ lanes 16 m
+pub marks_behind : (m : ℕ) → lanes 16 (suc m) / 256 ≡ lanes 16 m
 marks_behind m = ap (λ (x : ℕ). x / 256) (sym (lanes_last 16 m)) ∙ digits_div (lanes 16 m) (omega arith)
 
 some_digit : (w y : ℕ) → lanes 32 14 < w → w ≡ lanes 32 14 + (lanes 16 0 + y) → y ≤ lanes 16 0 → ⊥

@@ -4,3 +4,4 @@ pub mod Columns
 pub mod Bits
 pub mod Numbers
 pub mod Fields
+pub mod Spelled

@@ -1,7 +1,11 @@
--- Columns as words: bytes are digits in base 256, the first column's the highest. Bytes are numbers: a space is 32, the digits are 48 to 57. Assumes
--- nothing.
-use Rattle.std.specs.Prelude.{◌≡◌, Some, List, [], ◌∷◌, ℕ, zero, suc, ◌+◌, ◌*◌, ◌/◌, ◌%◌, ◌^◌, ◌≤◌, ◌<◌, ⊤, length, get_or}
+-- The columns of an amount; and columns as words, which serve private contracts alone: bytes are digits in base 256, the first column's the highest.
+-- Bytes are numbers: a space is 32, the digits are 48 to 57. Assumes nothing.
+use Rattle.std.specs.Prelude.{◌≡◌, Some, None, List, [], ◌∷◌, ℕ, zero, suc, ◌+◌, ◌*◌, ◌/◌, ◌%◌, ◌^◌, ◌≤◌, ◌<◌, ⊤, length, get_or}
 use Rattle.field.specs.Field.{field}
+
+-- the columns of an amount: 'first amount in 11–24, second in 26–39'
+abbrev pub amount_columns : ℕ
+amount_columns = 14
 
 -- columns as a word
 unfoldable pub word : List ℕ → ℕ
@@ -26,6 +30,10 @@ unfoldable pub number : ℕ → ℕ → ℕ
 number zero y = 0
 number (suc n) y = y / 256 ^ n * 10 ^ n + number n (y % 256 ^ n)
 
--- fourteen columns that are this word hold the number v
+-- an amount's columns that are this word hold the number v
 abbrev pub Holds : ℕ → ℕ → Type 0
-Holds w v = (s : List ℕ) → length s ≡ 14 → Bytes s → word s ≡ w → field s ≡ Some v
+Holds w v = (s : List ℕ) → length s ≡ amount_columns → Bytes s → word s ≡ w → field s ≡ Some v
+
+-- .. hold none
+abbrev pub HoldsNone : ℕ → Type 0
+HoldsNone w = (s : List ℕ) → length s ≡ amount_columns → word s ≡ w → field s ≡ None

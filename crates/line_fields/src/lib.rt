@@ -1,10 +1,10 @@
-// The number fields of a sheet's line: two columns as two digits, and fourteen as one word, without a loop where they are plainly a number. What a
-// field holds is told by the crate field.
+// The number fields of a sheet's line: two columns as two digits, and fourteen as one word, without a loop. What a field holds is told by the
+// crate field.
 #![tactic(auto)]
 
-ghost use Rattle.std.specs.Prelude.{◌≡◌, [], ◌∷◌, ◌<◌, ◌^◌, ⊤, MatchOption, true};
+ghost use Rattle.std.specs.Prelude.{◌≡◌, [], ◌∷◌, ◌<◌, ◌^◌, MatchOption};
 ghost use Rattle.field.specs.Field.{field};
-ghost use Rattle.line_fields.specs.Words.{word, AllDigits, number, Holds};
+ghost use Rattle.line_fields.specs.Words.{word, AllDigits, number, Holds, HoldsNone};
 
 // The columns of a block and of a class.
 pub const PAIR_COLUMNS: usize = 2;
@@ -45,7 +45,7 @@ pub fn read_pair(s: &[u8; PAIR_COLUMNS]) -> Option<u64>
 }
 
 // A digit behind a space, or two digits of which the first is not 0.
-#[tactic(auto, unfolding(field::specs::Field::field, field::specs::Field::digits, search::specs::Pick::pick))]
+#[tactic(auto, unfolding(field::specs::Field::field, field::specs::Field::digits, basics::specs::Pick::pick))]
 fn pair_of(tens: u8, ones: u8) -> Option<u64>
     ensures { result ≡ field (tens ∷ ones ∷ []) }
 {
@@ -59,15 +59,13 @@ fn pair_of(tens: u8, ones: u8) -> Option<u64>
     Some(10 * field::digit_of(tens)? + last)
 }
 
-// The number in the columns of an amount. Columns that aren't plainly spaces and a number are read one by one, for the proof: it then needn't say
-// that those hold none.
+// The number in the columns of an amount.
+#[inline]
 pub fn read_amount(s: &[u8; AMOUNT_COLUMNS]) -> Option<u64>
     ensures { result ≡ field s.now }
 {
-    match digits_in(word_of(s)) {
-        Some(digits) => Some(number_of(digits)),
-        None => field::read_field(s),
-    }
+    let digits = digits_in(word_of(s))?;
+    Some(number_of(digits))
 }
 
 // The columns as one word, the first as its highest byte.
@@ -81,10 +79,10 @@ fn word_of(s: &[u8; AMOUNT_COLUMNS]) -> u128
     u128::from(six) * EIGHT_BYTES + u128::from(eight)
 }
 
-// The digits, a byte each, of a word that is spaces and then a number; none where it may be something else. Of a space 0 is left, and of a digit its
-// number with a mark, so the marks tell where digits stand.
+// The digits, a byte each, of a word that is spaces and then a number; none where it is not. Of a space 0 is left, and of a digit its number with a
+// mark, so the marks tell where digits stand.
 fn digits_in(w: u128) -> Option<u128>
-    ensures { MatchOption result ⊤ (λ y. AllDigits 16 y × Holds w (number 16 y)) }
+    ensures { MatchOption result (HoldsNone w) (λ y. AllDigits 16 y × Holds w (number 16 y)) }
 {
     if w <= SPACES {
         return None;
@@ -101,20 +99,14 @@ fn digits_in(w: u128) -> Option<u128>
     if y < behind || marks < y {
         return None;
     }
-    if !all_digits(y) {
+    // a byte above 9
+    if y & UPPER_HALVES != 0 {
+        return None;
+    }
+    if (y + TO_UPPER_HALF) & UPPER_HALVES != 0 {
         return None;
     }
     Some(y)
-}
-
-// Whether each byte is one of the numbers 0 to 9.
-fn all_digits(y: u128) -> bool
-    ensures { result ≡ true → AllDigits 16 y }
-{
-    if y & UPPER_HALVES != 0 {
-        return false;
-    }
-    (y + TO_UPPER_HALF) & UPPER_HALVES == 0
 }
 
 // The number whose decimal digits the bytes are.

@@ -6,14 +6,14 @@ use native.Mathlib.Nat.{mul-le-mul}
 use native.Mathlib.Decide.{dec_le}
 use native.Mathlib.Omega.{arith}
 use lib.Dec.{leb}
-use Rattle.search.specs.Least.{least}
-use Rattle.search.proofs.LeastOf.{LeastOf, least_of}
-use Rattle.search.proofs.Roots.{le_of_squares}
-use Rattle.search.proofs.Tests.{leb_same}
+use Rattle.basics.specs.Least.{least}
+use Rattle.basics.proofs.LeastOf.{LeastOf, least_of}
+use Rattle.basics.proofs.Roots.{le_of_squares}
+use Rattle.basics.proofs.Tests.{leb_same}
 use Rattle.amount.specs.Amount.{limit}
-use Rattle.guideline.specs.Fraction.{whole}
+use Rattle.accuracy.specs.Fraction.{whole}
 use Rattle.guideline.proofs.Bounds.{twice}
-use Rattle.guideline.proofs.Fractions.{square_is}
+use Rattle.accuracy.proofs.Fractions.{square_is}
 use Rattle.mortality.specs.Credit.{twice_radicand, aggregated, AggregateLeast, credit, AtOrBelowCredit, CreditDemand}
 
 -- twice the radicand and 3 × S × T are 2S² + 2T²

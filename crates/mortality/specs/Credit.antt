@@ -2,10 +2,10 @@
 -- diversification, reported and exact. S and T are 'the level and trend sums for survival and death products', in cents. Assumes nothing.
 use Rattle.std.specs.Prelude.{◌≡◌, List, ℕ, ◌+◌, ◌-◌, ◌*◌, ◌≤◌, leb, pos, ◌-ℤ◌, set}
 use Rattle.std.proofs.Common.{arith}
-use Rattle.search.specs.Least.{least, LeastWith}
+use Rattle.basics.specs.Least.{least, LeastWith}
 use Rattle.guideline.specs.Block.{ir, lt}
 use Rattle.guideline.specs.Difference.{uncut}
-use Rattle.guideline.specs.Fraction.{Fraction, ◌≤ᶠ◌, whole, ratio, square_less, ≤ᶠ_trans, square_falls}
+use Rattle.accuracy.specs.Fraction.{Fraction, ◌≤ᶠ◌, whole, ratio, square_less, ≤ᶠ_trans, square_falls}
 use Rattle.guideline.proofs.Bounds.{twice}
 
 -- twice S² + T² − 1.5 × S × T, which is a whole number

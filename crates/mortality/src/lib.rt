@@ -6,7 +6,7 @@ ghost use Rattle.amount.specs.Amount.{limit};
 ghost use Rattle.guideline.specs.Block.{ir, lt};
 ghost use Rattle.mortality.specs.Credit.{aggregated, credit, lowered};
 
-use guideline::BLOCK_NUMBERS;
+use sizes::BLOCK_NUMBERS;
 use wide::Wide;
 
 // The credit for S and T, the level and trend sums of the survival and of the death products. It can pass the largest amount.

@@ -1,15 +1,15 @@
 -- What the call gives: by the input's length, then by its lines, then by what the block call says. What an accepted call has written meets the
 -- theorem of one moved input, and the room has the length of the lines. Assumes nothing.
 use mathlib.Core.Path.{◌≡◌, refl, sym, ap, ◌∙◌, subst, subst⁻¹}
-use mathlib.Core.List.{List, [], ◌∷◌, ◌++◌, append_assoc, append-nil}
+use mathlib.Core.List.{List, [], ◌∷◌, ◌++◌, append_assoc}
 use Prim.Native.Nat.{ℕ, zero, suc, ◌+◌, ◌-◌, ◌*◌, ◌^◌, ◌≤◌, ◌<◌}
 use native.Mathlib.Decide.{dec_le, dec_lt}
 use native.Mathlib.Nat.{lt_of_not-le}
 use native.Mathlib.Omega.{arith}
 use lib.IntN.{nat_abs, sub_ℕ}
-use lib.ListN.{length, take, drop, drop_of_length-le}
+use lib.ListN.{length, take, drop}
 use lib.Seq.{take_at, drop_at}
-use Rattle.search.proofs.Picks.{if_eq, if_ne, if_lt, if_ge, by_test, never}
+use Rattle.basics.proofs.Picks.{if_eq, if_ne, if_lt, if_ge, by_test, never}
 use Rattle.integer.proofs.Integer.{above, below}
 use borrow.Author.Tests.{ltb-true}
 use Rattle.refusal.specs.Outcome.{Outcome, Judging, judging, printed}
@@ -18,7 +18,7 @@ use Rattle.refusal.specs.declared.Place.{Place}
 use Rattle.refusal.specs.declared.Place.TheVariants.{Line, Nowhere}
 use Rattle.amount.specs.Amount.{limit}
 use Rattle.amount.proofs.Amounts.{all_within}
-use Rattle.guideline.specs.Sizes.{risks, block_numbers, number_columns, FitsColumns}
+use Rattle.sizes.specs.Sizes.{risks, block_numbers, number_columns, FitsColumns}
 use Rattle.guideline.specs.Block.{ir, K, AcceptedBlock}
 use Rattle.guideline.specs.Difference.{less_diff}
 use Rattle.guideline.proofs.Figures.{u_fits, k_high}
@@ -30,11 +30,11 @@ use Rattle.block.proofs.Accepted.{accepts_block}
 use Rattle.report_line.specs.Line.{report_line_bytes}
 use Rattle.std.specs.Prelude.{Result}
 use Rattle.refusal.specs.declared.Refusal.{Refusal}
-use Rattle.printing.specs.Lent.{Text, Done, stated, untouched}
-use Rattle.printing.specs.Lent.Text.{no_text, bytes}
-use Rattle.printing.specs.Printing.{printout, Printed, Shown}
-use Rattle.printing.proofs.Lent as lent
-use Rattle.printing.proofs.Lent.{RoomFor}
+use Rattle.text_answer.specs.Lent.{Text, Done, stated, untouched}
+use Rattle.text_answer.specs.Lent.Text.{no_text, bytes}
+use Rattle.text_answer.specs.Printing.{printout, Printed, Shown}
+use Rattle.text_answer.proofs.Lent as lent
+use Rattle.text_answer.proofs.Lent.{RoomFor}
 use Rattle.movement_input.specs.Reading.{input_bytes, input_lines, lines_kept, block_of, raise_of}
 use Rattle.movement.specs.Call.{risk_line, risk_lines, after_block, rule3, movements, movement_call}
 use Rattle.movement.specs.Swing.{Moved, Swing}
@@ -64,17 +64,24 @@ module _ (s r : List ℕ) where
       unfolding movement_call
       block_refused q = lent.lent_turned _ r (by_block ∙ ap (after_block (block_of s) (raise_of s)) (sym q))
 
-      pub all_told :
-          {vs : List ℕ} → accepted vs ≡ block_call (block_of s) → length r ≡ report_line_bytes * risks → {b r' : List ℕ} {t : ℕ} →
-          b ≡ block_of s → t ≡ raise_of s → r' ≡ risk_lines b t risks →
-          ◌≡◌ {A = Done} (record { outcome = accepted (report_line_bytes * risks ∷ []); room = r' }) (movement_call s r)
-      unfolding movement_call
-      all_told q long b-is t-is e =
-          let t = risk_lines (block_of s) (raise_of s) risks in
-          let over : length r ≤ report_line_bytes * risks = omega arith in
-          let full : t ≡ t ++ drop (report_line_bytes * risks) r = sym (ap (λ (x : List ℕ). t ++ x) (drop_of_length-le r over) ∙ append-nil t) in
-          lent.lent_filled _ r (by_block ∙ ap (after_block (block_of s) (raise_of s)) (sym q)) (sym (length_lines (block_of s) (raise_of s) risks)) (omega arith)
-          (e ∙ (λ i. risk_lines (b-is i) (t-is i) risks) ∙ full)
+      module _ {vs : List ℕ} (q : accepted vs ≡ block_call (block_of s)) where
+        says_lines : movements s ≡ bytes (risk_lines (block_of s) (raise_of s) risks)
+        says_lines = by_block ∙ ap (after_block (block_of s) (raise_of s)) (sym q)
+
+        long : report_line_bytes * risks ≡ length (risk_lines (block_of s) (raise_of s) risks)
+        long = sym (length_lines (block_of s) (raise_of s) risks)
+
+        pub no_room : length r < report_line_bytes * risks → untouched 14 Nowhere r ≡ movement_call s r
+        unfolding movement_call
+        no_room = lent.lent_short _ r says_lines long
+
+        pub all_told :
+            report_line_bytes * risks ≤ length r → {b r' : List ℕ} {t : ℕ} → b ≡ block_of s → t ≡ raise_of s →
+            r' ≡ risk_lines b t risks ++ drop (report_line_bytes * risks) r →
+            ◌≡◌ {A = Done} (record { outcome = accepted (report_line_bytes * risks ∷ []); room = r' }) (movement_call s r)
+        unfolding movement_call
+        all_told h b-is t-is e =
+            lent.lent_filled _ r says_lines long h (e ∙ (λ i. risk_lines (b-is i) (t-is i) risks ++ drop (report_line_bytes * risks) r))
 
 -- ---- the text of an input that is accepted
 
@@ -93,8 +100,8 @@ told s t =
     after (refused n p) e q = never (cc)
     after (accepted vs) e q = record { block = (accepts_block (block_of s)).accepted_only vs e; text = cc }
 
--- the room has the length of the lines
-pub room_for : (s r : List ℕ) → length r ≡ report_line_bytes * risks → RoomFor (movements s) r
+-- a room that has the length of the lines, or more
+pub room_for : (s r : List ℕ) → report_line_bytes * risks ≤ length r → RoomFor (movements s) r
 room_for s r long t e = omega (arith, long, ap length (told s t e).text, length_lines (block_of s) (raise_of s) risks)
 
 -- ---- the numbers of its refusals
@@ -188,9 +195,9 @@ module _ (s r : List ℕ) where
 
 -- what is printed is the lines, or the line of the refusal: the room that the call leaves is as long as it was
 pub printed_movements :
-    (s r : List ℕ) (a : Result ℕ Refusal) {r' r'' : List ℕ} {g : ℕ} → length r' ≡ report_line_bytes * risks →
+    (s r : List ℕ) (a : Result ℕ Refusal) {r' r'' : List ℕ} {g : ℕ} → report_line_bytes * risks ≤ length r' →
     ◌≡◌ {A = Done} (record { outcome = stated a; room = r' }) (movement_call s r) → Shown a g r' r'' → Printed (printout (movements s)) g r r''
 unfolding movement_call
 printed_movements s r a long e =
     let same = ap (λ (d : Done). length d.room) e ∙ lent.lent_long (movements s) r in
-    lent.printed_answer _ r (room_for s r (sym same ∙ long)) a e
+    lent.printed_answer _ r (room_for s r (omega (arith, same, long))) a e

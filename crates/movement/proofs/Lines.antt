@@ -1,17 +1,17 @@
 -- The line of a risk, and the lines of the risks one after the other. Assumes nothing.
 use borrow.Rule.Slice.PartMut.{put_mid}
 use mathlib.Core.Path.{◌≡◌, refl, sym, ap, ◌∙◌}
-use mathlib.Core.List.{List}
+use mathlib.Core.List.{List, ◌++◌}
 use Prim.Native.Nat.{ℕ, zero, suc, ◌+◌, ◌-◌, ◌*◌, ◌≤◌, ◌<◌}
 use native.Mathlib.Numerals.{add-one}
 use native.Mathlib.Omega.{arith}
 use lib.IntN.{ℤ, sub_ℕ}
 use lib.ListN.{length, get_or, set, take, drop, length-append}
-use Rattle.search.proofs.Picks.{if_lt, if_ge, by_test}
-use Rattle.search.proofs.Stretches.{Wrote, nothing, lent_part, all_written}
+use Rattle.basics.proofs.Picks.{if_lt, if_ge, by_test}
+use Rattle.basics.proofs.Stretches.{Wrote, nothing, lent_part}
 use Rattle.refusal.specs.declared.Place.TheVariants.{Risk}
 use Rattle.amount.specs.Amount.{limit}
-use Rattle.guideline.specs.Sizes.{risks, number_columns}
+use Rattle.sizes.specs.Sizes.{risks, number_columns}
 use Rattle.guideline.specs.Block.{ir, K, AcceptedBlock}
 use Rattle.guideline.specs.Difference.{less_diff}
 use Rattle.sensitivity.specs.Movement.{raised}
@@ -22,7 +22,7 @@ use Rattle.field.proofs.Minus.{length_signed}
 use Rattle.field.proofs.Writing.{length_decimal}
 use Rattle.report_line.specs.Line.{report_line_bytes, key, line_in, report_line, row_in}
 use Rattle.report_line.proofs.ReadBack.{length_line}
-use Rattle.printing.specs.Printing.{REF, refusal_row, refusal_line}
+use Rattle.text_answer.specs.Printing.{REF, refusal_row, refusal_line}
 use Rattle.movement.specs.Call.{MOV, signed_line, movement, risk_line, risk_lines}
 
 -- ---- a line whose number may be below 0
@@ -91,7 +91,7 @@ module _ (b : List ℕ) (t : ℕ) where
   unfolding risk_lines
   no_line l = (omega arith, nothing l)
 
-  module _ {l₀ l : List ℕ} {i : ℕ} (w : Lines b t l₀ i l) (long : length l₀ ≡ report_line_bytes * risks) where
+  module _ {l₀ l : List ℕ} {i : ℕ} (w : Lines b t l₀ i l) (long : report_line_bytes * risks ≤ length l₀) where
     -- one line more, put back as the code lends its stretch
     pub next_line :
         {ys : List ℕ} → i < risks → ys ≡ risk_line b t (suc i) →
@@ -102,7 +102,7 @@ module _ (b : List ℕ) (t : ℕ) where
         let n : length (risk_line b t (suc i)) ≡ report_line_bytes = length_risk_line b t (suc i) in
         (omega arith, rw (add-one, a, e) (lent_part w.1 report_line_bytes (risk_line b t (suc i)) (omega arith) n))
 
-    pub all_lines : risks ≤ i → l ≡ risk_lines b t risks
+    pub all_lines : risks ≤ i → l ≡ risk_lines b t risks ++ drop (report_line_bytes * risks) l₀
     all_lines h =
         let e : i ≡ risks = omega (arith, w.0) in
-        all_written w.1 (omega arith) ∙ ap (risk_lines b t) e
+        w.1.text ∙ ap (λ (n : ℕ). risk_lines b t n ++ drop (report_line_bytes * n) l₀) e

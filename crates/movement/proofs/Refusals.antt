@@ -1,22 +1,41 @@
--- The refusals of the movement call: the number and the place of each are read back off its line, of the whole input and of one risk.
--- Assumes nothing.
-use Rattle.std.specs.Prelude.{◌≡◌, List, ℕ, ◌+◌, ◌≤◌, ◌<◌}
+-- The refusals of the movement call: the number and the place of each are read back off its line, of the whole input and of one risk; and when 14
+-- comes. Assumes nothing.
+use Rattle.std.specs.Prelude.{◌≡◌, List, ℕ, ◌+◌, ◌*◌, ◌≤◌, ◌<◌, length}
 use native.Mathlib.Omega.{arith}
-use Rattle.search.proofs.Picks.{if_lt}
+use Rattle.basics.proofs.Picks.{if_lt}
+use Rattle.refusal.specs.Outcome.{Judging, printed}
+use Rattle.refusal.specs.Outcome.Outcome.{refused}
 use Rattle.refusal.specs.declared.Place.{Place}
-use Rattle.refusal.specs.declared.Place.TheVariants.{Risk}
+use Rattle.refusal.specs.declared.Place.TheVariants.{Risk, Nowhere}
 use Rattle.amount.specs.Amount.{limit}
-use Rattle.guideline.specs.Sizes.{risks, number_columns}
+use Rattle.sizes.specs.Sizes.{risks, number_columns, FitsColumns}
 use Rattle.guideline.specs.Block.{ir}
-use Rattle.printing.specs.Lent.Text.{no_text}
-use Rattle.printing.specs.Printing.{ReadsRefusal, printout}
-use Rattle.printing.proofs.Lent.{refusal_row_fits, line_read}
-use Rattle.printing.proofs.Lent as lent
-use Rattle.movement.specs.Call.{risk_line, movements}
-use Rattle.movement.proofs.Calls.{right_numbers}
+use Rattle.report_line.specs.Line.{report_line_bytes}
+use Rattle.text_answer.specs.Lent.{TooLong}
+use Rattle.text_answer.specs.Lent.Text.{no_text}
+use Rattle.text_answer.specs.Printing.{ReadsRefusal, printout}
+use Rattle.text_answer.proofs.Lent.{refusal_row_fits, line_read}
+use Rattle.text_answer.proofs.Lent as lent
+use Rattle.movement.specs.Call.{risk_line, movements, movement_call}
+use Rattle.movement.proofs.Calls.{right_numbers, room_for}
 
-pub refusal_read : (s : List ℕ) (n : ℕ) (p : Place) → movements s ≡ no_text n p → ReadsRefusal n p (printout (movements s))
-refusal_read s = lent.refusal_read _ (λ n p e. let w = right_numbers s n p e in (w.1, w.2))
+module _ (s : List ℕ) where
+  numbered : (n : ℕ) (p : Place) → movements s ≡ no_text n p → Judging n × FitsColumns (printed p)
+  numbered n p e = let w = right_numbers s n p e in (w.1, w.2)
+
+  pub refusal_read : (n : ℕ) (p : Place) → movements s ≡ no_text n p → ReadsRefusal n p (printout (movements s))
+  refusal_read = lent.refusal_read _ numbered
+
+  module _ (r : List ℕ) (p : Place) where
+    -- with room for the lines it never answers 14
+    pub never_14 : report_line_bytes * risks ≤ length r → (movement_call s r).outcome ≡ refused 14 p → ⊥
+    unfolding movement_call
+    never_14 long = lent.never_14 _ r numbered (room_for s r long) p
+
+    -- where it does, there are lines, and they are longer than the room
+    pub refused_by_14 : (movement_call s r).outcome ≡ refused 14 p → (p ≡ Nowhere) × TooLong (movement_call s) (movements s) r
+    unfolding movement_call
+    refused_by_14 = lent.refused_by_14 _ r numbered p
 
 -- 'as number 22 with its risk', in the place of the risk's line
 pub risk_read : (b : List ℕ) (t i : ℕ) → i ≤ risks → limit < ir b i + t → ReadsRefusal 22 (Risk i) (risk_line b t i)

@@ -1,21 +1,21 @@
 -- The movement call, document 02, #111: what it answers, and every byte of the lent room afterwards. 'Another length is refused as 2, a broken line
--- as 3, then what the block call refuses'; accepted, 'the reported movements of risks 1 to 7 in order, each as a report line'. The room has the length
--- of the lines, so that there is no 14. Assumes nothing.
+-- as 3, then what the block call refuses'; last 14, as of every call that writes into lent room. Accepted, 'the reported movements of risks 1 to 7 in
+-- order, each as a report line'. 22 stands in a risk's line and refuses no input. Assumes nothing.
 use Rattle.std.specs.Prelude.{◌≡◌, refl, List, [], ◌∷◌, ◌++◌, ℕ, zero, suc, ◌+◌, eqb, ltb, ℤ, pos, ◌-ℤ◌, length}
-use Rattle.search.specs.Pick.{pick}
+use Rattle.basics.specs.Pick.{pick}
 use Rattle.refusal.specs.Outcome.{Outcome}
 use Rattle.refusal.specs.Outcome.Outcome.{accepted, refused}
 use Rattle.refusal.specs.declared.Place.TheVariants.{Line, Risk, Nowhere}
 use Rattle.amount.specs.Amount.{limit}
-use Rattle.guideline.specs.Sizes.{risks, number_columns}
+use Rattle.sizes.specs.Sizes.{risks, number_columns}
 use Rattle.guideline.specs.Block.{ir, K}
 use Rattle.sensitivity.specs.Movement.{raised}
 use Rattle.block.specs.Call.{block_call}
 use Rattle.field.specs.Signed.{signed}
 use Rattle.report_line.specs.Line.{key, line_in, report_line}
-use Rattle.printing.specs.Lent.{Text, Done, lent}
-use Rattle.printing.specs.Lent.Text.{no_text, bytes}
-use Rattle.printing.specs.Printing.{refusal_line}
+use Rattle.text_answer.specs.Lent.{Text, Done, lent}
+use Rattle.text_answer.specs.Lent.Text.{no_text, bytes}
+use Rattle.text_answer.specs.Printing.{refusal_line}
 use Rattle.movement_input.specs.Reading.{input_bytes, input_lines, lines_kept, block_of, raise_of}
 
 -- ---- the lines

@@ -4,7 +4,7 @@ use Rattle.std.specs.Prelude.{◌≡◌, List, ℕ, suc, ◌+◌, ◌-◌, ◌*�
 use Rattle.refusal.specs.Outcome.{Outcome}
 use Rattle.refusal.specs.Outcome.Outcome.{accepted, refused}
 use Rattle.amount.specs.Amount.{limit}
-use Rattle.guideline.specs.Sizes.{risks, number_columns}
+use Rattle.sizes.specs.Sizes.{risks, number_columns}
 use Rattle.guideline.specs.Block.{ir, AcceptedBlock}
 use Rattle.sensitivity.specs.Movement.{raised, Movement}
 use Rattle.report_line.specs.Line.{report_line_bytes}

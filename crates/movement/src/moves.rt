@@ -1,25 +1,26 @@
 // The lines of the risks: how far K moves as one component is raised by t, or that it would pass the limit.
-ghost use Rattle.std.specs.Prelude.{◌≡◌, suc, ◌+◌, ◌*◌, ◌≤◌, ◌<◌, length};
+ghost use Rattle.std.specs.Prelude.{◌≡◌, suc, ◌++◌, ◌+◌, ◌*◌, ◌≤◌, ◌<◌, length, drop};
 ghost use Rattle.std.proofs.Math.IntN.{sub_ℕ};
 ghost use Rattle.amount.specs.Amount.{limit};
-ghost use Rattle.guideline.specs.Sizes.{risks, block_numbers};
+ghost use Rattle.sizes.specs.Sizes.{risks, block_numbers};
 ghost use Rattle.guideline.specs.Block.{ir, K};
 ghost use Rattle.sensitivity.specs.Movement.{raised};
 ghost use Rattle.report_line.specs.Line.{report_line_bytes};
 ghost use Rattle.movement.specs.Call.{signed_line, MOV, risk_line, risk_lines};
 
 use amount::LARGEST_AMOUNT;
-use guideline::{Block, RISKS};
+use guideline::Block;
 use refusal::{Place, Refusal, Rule};
-use report_line::{REPORT_LINE_BYTES, Row};
+use report_line::{NUMBER, NUMBER_END, REPORT_LINE_BYTES, Row};
+use sizes::RISKS;
 
-// A line for each risk, of a block whose reported K is k, each into its own stretch of the room.
+// A line for each risk, of a block whose reported K is k, each into its own stretch of the room, from its start on.
 // Kept: the block and its raise as two parameters, here and in two below; a struct of them would be filled here and opened at once.
 // Kept: how many numbers the block has stays a clause, here and in two below. `Block` can't say it, as one is made of any array of 17 numbers
 // (`block::accepted_block`), and a law gets no length of an array from its type; here it is known of what was read.
 pub(crate) fn write_movements(block: &Block, k: u64, raise: u64, room: &mut [u8])
-    requires { (length block.now.numbers ≡ block_numbers) × (k ≡ K block.now.numbers) × (length room.old ≡ report_line_bytes * risks) }
-    ensures { room.new ≡ risk_lines block.now.numbers raise risks }
+    requires { (length block.now.numbers ≡ block_numbers) × (k ≡ K block.now.numbers) × (report_line_bytes * risks ≤ length room.old) }
+    ensures { room.new ≡ risk_lines block.now.numbers raise risks ++ drop (report_line_bytes * risks) room.old }
 {
     for i in 0..RISKS {
         let at = REPORT_LINE_BYTES * i;
@@ -34,7 +35,7 @@ fn write_movement(block: &Block, k: u64, raise: u64, i: usize, out: &mut [u8])
 {
     let component = block.ir(i + 1);
     if LARGEST_AMOUNT - component < raise {
-        printing::write_refusal(out, Refusal(Rule::RaiseAboveLimit, Place::Risk(i + 1)));
+        text_answer::write_refusal(out, Refusal(Rule::RaiseAboveLimit, Place::Risk(i + 1)));
         return;
     }
     let figures = figures::figures_of(&raised(block, raise, i));
@@ -63,5 +64,5 @@ fn write_signed(out: &mut [u8], risk: u64, to: u64, from: u64)
         number: 0,
     };
     row.write(out);
-    field::signed::write_difference(&mut out[10..28], to, from);
+    field::signed::write_difference(&mut out[NUMBER..NUMBER_END], to, from);
 }

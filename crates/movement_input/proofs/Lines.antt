@@ -10,8 +10,8 @@ use native.Mathlib.Omega.{arith}
 use lib.ListN.{length, take, drop}
 use lib.Seq.{drop-drop}
 use Rattle.std.proofs.Common.{slice_index_or}
-use Rattle.search.specs.First.{FoundAt}
-use Rattle.search.proofs.Firsts.{sought_found, sought_none}
+use Rattle.basics.specs.First.{FoundAt}
+use Rattle.basics.proofs.Firsts.{sought_found, sought_none}
 use Rattle.movement_input.specs.Reading.{input_line_bytes, input_lines, input_bytes, amount_of, amount_at, is_bad, lines_kept}
 
 length_cut : (k : ℕ) (s : List ℕ) → length (first_chunks input_line_bytes k s) ≡ k

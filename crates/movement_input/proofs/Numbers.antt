@@ -9,13 +9,14 @@ use native.Mathlib.Numerals.{add-one}
 use native.Mathlib.Omega.{arith}
 use lib.ListN.{length, get_or, set, take, length-append, length-take, get_or-append}
 use lib.Seq.{get_or-append-add}
-use Rattle.search.proofs.Picks.{by_test}
-use Rattle.search.proofs.Stretches.{Wrote, next}
+use Rattle.basics.proofs.Picks.{by_test}
+use Rattle.basics.proofs.Stretches.{Wrote, next}
 use Rattle.amount.specs.Amount.{limit}
-use Rattle.guideline.specs.Sizes.{block_numbers}
+use Rattle.sizes.specs.Sizes.{block_numbers}
 use Rattle.field.specs.Field.{field}
 use Rattle.field.proofs.Inverse.{field_bound}
-use Rattle.movement_input.specs.Reading.{amount_columns, amount_of, amount_at, number_in, number_at, numbers_to}
+use Rattle.line_fields.specs.Words.{amount_columns}
+use Rattle.movement_input.specs.Reading.{amount_of, amount_at, number_in, number_at, numbers_to}
 
 -- a line's amount is its number
 pub good_number : (s : List ℕ) (i : ℕ) {a : Option ℕ} → a ≡ amount_at s i → {n : ℕ} → a ≡ Some n → n ≡ number_at s i

@@ -1,16 +1,13 @@
 -- The input of the movement call, document 02, #111: 'reads 18 lines, each an amount in 14 columns and a line feed, the block call's 17 numbers and
 -- then t'. Bytes are numbers: a line feed is 10. Assumes nothing.
 use Rattle.std.specs.Prelude.{Option, Some, None, Bool, true, false, List, [], ◌∷◌, ◌++◌, ℕ, zero, suc, ◌+◌, ◌*◌, eqb, get_or, take, drop}
-use Rattle.search.specs.Pick.{pick}
-use Rattle.search.specs.First.{first}
-use Rattle.guideline.specs.Sizes.{block_numbers}
+use Rattle.basics.specs.Pick.{pick}
+use Rattle.basics.specs.First.{first}
+use Rattle.sizes.specs.Sizes.{block_numbers}
 use Rattle.field.specs.Field.{field}
+use Rattle.line_fields.specs.Words.{amount_columns}
 
--- 'an amount in 14 columns'
-abbrev pub amount_columns : ℕ
-amount_columns = 14
-
--- 'and a line feed'
+-- 'an amount in 14 columns and a line feed'
 abbrev pub input_line_bytes : ℕ
 input_line_bytes = amount_columns + 1
 

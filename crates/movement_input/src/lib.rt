@@ -2,11 +2,11 @@
 #![tactic(auto)]
 
 ghost use Rattle.std.specs.Prelude.{◌≡◌, ◌<◌};
-ghost use Rattle.search.specs.First.{FoundAt};
+ghost use Rattle.basics.specs.First.{FoundAt};
 ghost use Rattle.movement_input.specs.Reading.{input_lines, amount_of, lines_kept, number_at, block_of};
 
-use guideline::BLOCK_NUMBERS;
 use line_fields::AMOUNT_COLUMNS;
+use sizes::BLOCK_NUMBERS;
 
 // They and the line feed.
 const INPUT_LINE_BYTES: usize = AMOUNT_COLUMNS + 1;
@@ -47,7 +47,7 @@ pub fn number_at(input: &[u8; INPUT_BYTES], i: usize) -> u64
 }
 
 // A line's amount; none where the line is broken.
-#[tactic(auto, unfolding(crate::specs::Reading::amount_of, search::specs::Pick::pick))]
+#[tactic(auto, unfolding(crate::specs::Reading::amount_of, basics::specs::Pick::pick))]
 fn read_amount(line: &[u8; INPUT_LINE_BYTES]) -> Option<u64>
     ensures { result ≡ amount_of line.now }
 {

@@ -10,22 +10,22 @@ use native.Mathlib.Omega.{arith}
 use lib.Dec.{ltb}
 use lib.ListN.{length, take, drop, length-append, length-drop}
 use lib.Seq.{take-append-le, drop-append-le, take_all, take_at, drop_at}
-use Rattle.search.specs.Pick.{pick}
-use Rattle.search.specs.Each.{Each}
-use Rattle.search.proofs.Picks.{if_true, if_false, if_lt, if_ge, by_test, never}
+use Rattle.basics.specs.Pick.{pick}
+use Rattle.basics.specs.Each.{Each}
+use Rattle.basics.proofs.Picks.{if_true, if_false, if_lt, if_ge, by_test, never}
 use Rattle.codes.specs.Codes.{letters_of, is_code, code_among, code_of}
 use Rattle.codes.specs.declared.Code.{Code}
 use Rattle.codes.specs.declared.Code.TheVariants.{Rsk, Oth, Mor, Vol, Acq, Gen, Crd}
 use Rattle.report_line.specs.declared.Row.{Row}
-use Rattle.guideline.specs.Sizes.{number_columns}
+use Rattle.sizes.specs.Sizes.{number_columns}
 use Rattle.report_line.proofs.ReadBack.{Printable, key_parts}
 use Rattle.sheet_line.specs.Rules.{AcceptedLine}
 use Rattle.sheet_line.specs.declared.Entry.{Entry}
 use Rattle.sheet_line.proofs.Printed.{three_letters, key_small}
-use Rattle.order.specs.Entries.{lookup, first_of, SameKey}
+use Rattle.places.specs.Entries.{lookup, first_of, SameKey}
 use Rattle.order.specs.Order.{key_for, last_key, Ascending, BelowBase, key_precedes}
 use Rattle.order.specs.Reading.{print_by}
-use Rattle.order.proofs.Keys.{has_key_lem, no_key, own_key}
+use Rattle.places.proofs.Keys.{has_key_lem, no_key, own_key}
 use Rattle.order.proofs.Ascent.{below_base}
 use Rattle.needs.specs.Needs.{label_for, need_of, unmet}
 use Rattle.needs.specs.Listing.{label_bytes, listed_bytes, label_of, listed_line, listed_for, line_for, listing}

@@ -8,20 +8,20 @@ use native.Mathlib.Decide.{ℕ_discrete}
 use native.Mathlib.Omega.{arith}
 use lib.Dec.{ltb}
 use lib.ListN.{length}
-use Rattle.search.specs.Pick.{pick}
-use Rattle.search.specs.Each.{Each}
-use Rattle.search.specs.Ascending.{ascending}
-use Rattle.search.proofs.Ascents.{most_ascending}
-use Rattle.search.proofs.Picks.{if_true, if_false, by_test, never}
+use Rattle.basics.specs.Pick.{pick}
+use Rattle.basics.specs.Each.{Each}
+use Rattle.basics.specs.Ascending.{ascending}
+use Rattle.basics.proofs.Ascents.{most_ascending}
+use Rattle.basics.proofs.Picks.{if_true, if_false, by_test, never}
 use Rattle.codes.specs.declared.Code.{Code}
 use Rattle.codes.specs.declared.Code.TheVariants.{Rsk, Oth, Mor, Vol, Acq, Gen, Crd}
 use Rattle.sheet_line.specs.Rules.{AcceptedLine}
 use Rattle.sheet_line.specs.declared.Entry.{Entry}
-use Rattle.order.specs.Entries.{rank, has_key, lookup, first_of, second_of}
+use Rattle.places.specs.Entries.{rank, has_key, lookup, first_of, second_of}
 use Rattle.order.specs.Order.{key_of, key_for, last_key, Ascending}
 use Rattle.order.specs.Reading.{print_by}
-use Rattle.order.proofs.Keys.{same_key, has_key_lem, no_key, own_key}
-use Rattle.order.proofs.Indexes.{block_most}
+use Rattle.places.proofs.Keys.{same_key, has_key_lem, no_key, own_key}
+use Rattle.places.proofs.Indexes.{block_most}
 use Rattle.order.proofs.Ascent.{none_above, below_base}
 use Rattle.needs.specs.Needs.{label, label_for, need_of, met, all_zero, unmet_with, unmet}
 use Rattle.needs.specs.Listing.{listed_bytes, listed_for, line_for, listing}

@@ -7,15 +7,15 @@ use native.Mathlib.Decide.{dec_lt, ℕ_discrete}
 use native.Mathlib.Omega.{arith}
 use lib.Dec.{ltb}
 use borrow.Author.Tests.{ltb-true, ltb-false, eqb-true}
-use Rattle.search.specs.Pick.{pick}
-use Rattle.search.proofs.Picks.{if_lt, if_ge, by_test, never}
-use Rattle.search.proofs.Values.{values, values_same}
-use Rattle.guideline.specs.Sizes.{non_participating, volume_classes}
-use Rattle.codes.specs.Codes.{Key}
+use Rattle.basics.specs.Pick.{pick}
+use Rattle.basics.proofs.Picks.{if_ne, if_lt, if_ge, by_test, never}
+use Rattle.basics.proofs.Values.{values, values_same}
+use Rattle.sizes.specs.Sizes.{non_participating, volume_classes}
+use Rattle.codes.specs.Codes.{guarantee_class, Key}
 use Rattle.codes.specs.declared.Code.{Code}
 use Rattle.codes.specs.declared.Code.TheVariants.{Rsk, Oth, Mor, Vol, Acq, Gen, Crd}
 use Rattle.order.specs.Order.{key_of}
-use Rattle.order.proofs.Keys.{dividend_key}
+use Rattle.places.proofs.Keys.{dividend_key}
 use Rattle.needs.specs.Needs.{label, segregated_class, volume_need, credit_need, need_of}
 use Rattle.needs.specs.Needing.{last_mor, last_vol, last_acq, most_listed, needing}
 use Rattle.needs.specs.declared.Label.{Label}
@@ -68,6 +68,16 @@ keyed n l h =
     by_test Keyed _ _ _ (λ t. record { low = omega (arith, ltb-true last_mor n t); high = omega (arith, ltb-false last_vol n g); one = omega arith; most = omega arith })
     (λ e. record { low = omega arith; high = omega (arith, ltb-false last_mor n e); one = omega arith; most = omega arith })))
 
+-- ---- what two of them need
+
+pub segregated_need : volume_need segregated_class ≡ Some (label Gen 0 guarantee_class)
+unfolding volume_need pick
+segregated_need = refl
+
+pub block_need : (b : ℕ) → (b ≡ 0 → ⊥) → credit_need b ≡ Some (label Rsk b 0)
+unfolding credit_need
+block_need b h = if_ne _ h
+
 -- ---- every line that needs something is one of them
 
 -- a line of a code, block and class, by its number
@@ -79,24 +89,24 @@ unfolding volume_need
 segregated c {m} = by_test (λ x. x ≡ Some m → c ≡ segregated_class) _ _ _ (λ t q. eqb-true _ _ t) (λ f q. never (cc))
 
 module _ (n : ℕ) where
-  is_mor : n ≤ last_mor → needing n ≡ label Mor n 1
+  pub is_mor : n ≤ last_mor → needing n ≡ label Mor n 1
   unfolding needing
   is_mor h =
       let x : n ≤ last_acq = omega arith in
       let y : n ≤ last_vol = omega arith in
       if_ge _ x ∙ if_ge _ y ∙ if_ge _ h
 
-  is_vol : last_mor < n → n ≤ last_vol → needing n ≡ label Vol (n - last_mor) segregated_class
+  pub is_vol : last_mor < n → n ≤ last_vol → needing n ≡ label Vol (n - last_mor) segregated_class
   unfolding needing
   is_vol l h =
       let x : n ≤ last_acq = omega arith in
       if_ge _ x ∙ if_ge _ h ∙ if_lt _ l
 
-  is_acq : last_vol < n → n ≤ last_acq → needing n ≡ label Acq ((n - last_vol - 1) / volume_classes + 1) ((n - last_vol - 1) % volume_classes + 1)
+  pub is_acq : last_vol < n → n ≤ last_acq → needing n ≡ label Acq ((n - last_vol - 1) / volume_classes + 1) ((n - last_vol - 1) % volume_classes + 1)
   unfolding needing
   is_acq l h = if_ge _ h ∙ if_lt _ l
 
-  is_crd : last_acq < n → needing n ≡ label Crd (n - last_acq + non_participating) 1
+  pub is_crd : last_acq < n → needing n ≡ label Crd (n - last_acq + non_participating) 1
   unfolding needing
   is_crd l = if_lt _ l
 

@@ -1,7 +1,7 @@
 -- The listing of the lines whose needs are unmet. Document 02, #113: 'The listing follows the sheet's order, 20 bytes a line: code, block and class in
 -- the sheet's columns, the companion's in 11–13, 15–16, 18–19 (class 0 for a CRD line), a line feed.' Assumes nothing.
 use Rattle.std.specs.Prelude.{Option, Some, None, List, [], ◌∷◌, ◌++◌, ℕ, ◌+◌, ◌*◌}
-use Rattle.search.specs.Pick.{pick}
+use Rattle.basics.specs.Pick.{pick}
 use Rattle.codes.specs.Codes.{letters_of}
 use Rattle.report_line.specs.Line.{key}
 use Rattle.sheet_line.specs.declared.Entry.{Entry}

@@ -1,9 +1,9 @@
 -- The lines that can need another, in the order of lines: every MOR line, the VOL lines of class 5, every ACQ line, and the CRD lines of blocks. The
 -- call goes through these. Assumes nothing.
 use Rattle.std.specs.Prelude.{List, ℕ, ◌+◌, ◌-◌, ◌*◌, ◌/◌, ◌%◌, ltb}
-use Rattle.search.specs.Pick.{pick}
-use Rattle.search.specs.Ascending.{ascending}
-use Rattle.guideline.specs.Sizes.{non_participating, participating, territories, volume_classes, volume_pairs}
+use Rattle.basics.specs.Pick.{pick}
+use Rattle.basics.specs.Ascending.{ascending}
+use Rattle.sizes.specs.Sizes.{non_participating, participating, territories, volume_classes, volume_pairs}
 use Rattle.codes.specs.declared.Code.{Code}
 use Rattle.codes.specs.declared.Code.TheVariants.{Mor, Vol, Acq, Crd}
 use Rattle.needs.specs.Needs.{label, segregated_class, need_of, unmet_by}

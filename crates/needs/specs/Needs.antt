@@ -2,13 +2,13 @@
 -- block needs an RSK line of it. A line with amounts all zero needs nothing.' A need is unmet where the line's 'companion is absent or has first
 -- amount 0': an absent line's amounts are zeros, so that both are one test. Assumes nothing.
 use Rattle.std.specs.Prelude.{Bool, true, false, not, List, ℕ, Option, Some, None, ltb, eqb}
-use Rattle.search.specs.Pick.{pick}
-use Rattle.search.specs.First.{any_to}
+use Rattle.basics.specs.Pick.{pick}
+use Rattle.basics.specs.First.{any_to}
 use Rattle.codes.specs.Codes.{risk_classes, guarantee_class}
 use Rattle.codes.specs.declared.Code.{Code}
 use Rattle.codes.specs.declared.Code.TheVariants.{Rsk, Oth, Mor, Vol, Acq, Gen, Crd}
 use Rattle.sheet_line.specs.declared.Entry.{Entry}
-use Rattle.order.specs.Entries.{lookup, first_of}
+use Rattle.places.specs.Entries.{lookup, first_of}
 use Rattle.needs.specs.declared.Label.{Label}
 
 -- the line of a code, block and class

@@ -1,12 +1,13 @@
 // What a line of a sheet needs, the lines that can need another, and how long their listing can be.
 #![tactic(auto)]
 
-ghost use Rattle.std.specs.Prelude.{◌≡◌, ◌≤◌};
-ghost use Rattle.needs.specs.Needs.{volume_need, credit_need, need_of};
+ghost use Rattle.std.specs.Prelude.{◌≡◌, ◌≤◌, Some};
+ghost use Rattle.codes.specs.Codes.{Key};
+ghost use Rattle.needs.specs.Needs.{need_of};
 ghost use Rattle.needs.specs.Needing.{most_listed, needing};
 
 use codes::{Code, GUARANTEE_CLASS};
-use guideline::{NON_PARTICIPATING, PARTICIPATING, TERRITORIES, VOLUME_CLASSES, VOLUME_PAIRS};
+use sizes::{NON_PARTICIPATING, PARTICIPATING, TERRITORIES, VOLUME_CLASSES, VOLUME_PAIRS};
 
 // A line's code, block and class.
 #[derive(Clone, Copy)]
@@ -14,6 +15,26 @@ pub struct Label {
     pub code: Code,
     pub block: usize,
     pub class: usize,
+}
+
+impl Label {
+    ghost use Rattle.std.specs.Prelude.{◌≡◌};
+    ghost use Rattle.needs.specs.Needs.{label};
+
+    fn new(code: Code, block: usize, class: usize) -> Label
+        ensures { result ≡ label code block class }
+    {
+        Label { code, block, class }
+    }
+}
+
+// A line that can need another, and what it needs, where its amounts aren't all zero: its companion.
+#[derive(Clone, Copy)]
+pub struct Need {
+    pub line: Label,
+    pub companion: Label,
+    pub ghost key: { Key line.code line.block line.class },
+    pub ghost needed: { need_of line ≡ Some companion },
 }
 
 // RSK's class of mortality, which MOR needs.
@@ -46,87 +67,37 @@ pub const MOST_LISTED: usize = LAST_ACQ + PARTICIPATING;
 // A line for each of them.
 pub const LONGEST_LISTING: usize = LISTED_BYTES * MOST_LISTED;
 
-// What the line of a code, block and class needs, where its amounts aren't all zero: a companion, or nothing. Class 0 of a companion is whichever
+// The lines that can need another, in the order of lines, by their number from 1 on, each with what it needs. Class 0 of a companion is whichever
 // class there is.
 // Kept: class 0 for that, and no enum, which would be no plainer: the listing prints class 0 there, so that it would be turned back into it.
-pub fn need_of(l: Label) -> Option<Label>
-    ensures { result ≡ need_of l }
-{
-    match l.code {
-        Code::Rsk | Code::Oth | Code::Gen => None,
-        Code::Mor => Some(Label {
-            code: Code::Rsk,
-            class: MORTALITY_CLASS,
-            ..l
-        }),
-        Code::Vol => volume_need(l.class),
-        Code::Acq => Some(Label {
-            code: Code::Vol,
-            ..l
-        }),
-        Code::Crd => credit_need(l.block),
-    }
-}
-
-// VOL of segregated funds with guarantees needs their guarantee requirement.
-fn volume_need(class: usize) -> Option<Label>
-    ensures { result ≡ volume_need class }
-{
-    if class == SEGREGATED_CLASS {
-        Some(Label {
-            code: Code::Gen,
-            block: 0,
-            class: GUARANTEE_CLASS,
-        })
-    } else {
-        None
-    }
-}
-
-// CRD of a block needs an RSK line of it, of whichever class; CRD of block 0 belongs to no block.
-fn credit_need(block: usize) -> Option<Label>
-    ensures { result ≡ credit_need block }
-{
-    if block == 0 {
-        None
-    } else {
-        Some(Label {
-            code: Code::Rsk,
-            block,
-            class: 0,
-        })
-    }
-}
-
-// The lines that can need another, in the order of lines, by their number from 1 on.
-pub fn needing(n: usize) -> Label
+pub fn needing(n: usize) -> Need
     requires { (1 ≤ n) × (n ≤ most_listed) }
-    ensures { result ≡ needing n }
+    ensures { result.line ≡ needing n }
 {
     if n > LAST_ACQ {
-        Label {
-            code: Code::Crd,
-            block: n - LAST_ACQ + NON_PARTICIPATING,
-            class: ONLY_CLASS,
-        }
-    } else if n > LAST_VOL {
-        let before = n - LAST_VOL - 1;
-        Label {
-            code: Code::Acq,
-            block: before / VOLUME_CLASSES + 1,
-            class: before % VOLUME_CLASSES + 1,
-        }
-    } else if n > LAST_MOR {
-        Label {
-            code: Code::Vol,
-            block: n - LAST_MOR,
-            class: SEGREGATED_CLASS,
-        }
-    } else {
-        Label {
-            code: Code::Mor,
-            block: n,
-            class: ONLY_CLASS,
-        }
+        // CRD of a block needs an RSK line of it, of whichever class
+        let block = n - LAST_ACQ + NON_PARTICIPATING;
+        let line = Label::new(Code::Crd, block, ONLY_CLASS);
+        let companion = Label::new(Code::Rsk, block, 0);
+        return Need { line, companion };
     }
+    if n > LAST_VOL {
+        // ACQ needs VOL of its block and class
+        let before = n - LAST_VOL - 1;
+        let block = before / VOLUME_CLASSES + 1;
+        let class = before % VOLUME_CLASSES + 1;
+        let line = Label::new(Code::Acq, block, class);
+        let companion = Label::new(Code::Vol, block, class);
+        return Need { line, companion };
+    }
+    if n > LAST_MOR {
+        // VOL of segregated funds with guarantees needs their guarantee requirement
+        let line = Label::new(Code::Vol, n - LAST_MOR, SEGREGATED_CLASS);
+        let companion = Label::new(Code::Gen, 0, GUARANTEE_CLASS);
+        return Need { line, companion };
+    }
+    // MOR needs RSK of mortality of its block
+    let line = Label::new(Code::Mor, n, ONLY_CLASS);
+    let companion = Label::new(Code::Rsk, n, MORTALITY_CLASS);
+    Need { line, companion }
 }

@@ -8,12 +8,12 @@ use native.Mathlib.Omega.{arith}
 use lib.ListN.{length, get_or, get_or-append, get_or-eq_default}
 use lib.Seq.{get_or-append-add}
 use borrow.Author.Tests.{ltb-false, eqb-true}
-use Rattle.search.proofs.Picks.{by_test}
+use Rattle.basics.proofs.Picks.{by_test}
 use Rattle.refusal.specs.Outcome.{Outcome}
 use Rattle.refusal.specs.Outcome.Outcome.{accepted, refused}
 use Rattle.amount.specs.Amount.{limit}
 use Rattle.amount.proofs.Amounts.{none_above, all_within}
-use Rattle.guideline.specs.Sizes.{territory_numbers, volume_numbers}
+use Rattle.sizes.specs.Sizes.{territory_numbers, volume_numbers}
 use Rattle.guideline.specs.Operational.{RO}
 use Rattle.operational.specs.Call.{rule7, operational_call}
 use Rattle.operational.specs.Accepted.{AcceptedOperational, AcceptsOperational}

@@ -4,12 +4,12 @@ use mathlib.Core.List.{List, [], ◌∷◌, ◌++◌}
 use Prim.Native.Nat.{ℕ, ◌+◌, ◌*◌, ◌%◌, ◌≤◌, ◌<◌}
 use native.Mathlib.Omega.{arith}
 use lib.ListN.{length, length-append}
-use Rattle.search.proofs.Picks.{if_lt, if_ge, if_eq}
+use Rattle.basics.proofs.Picks.{if_lt, if_ge, if_eq}
 use Rattle.refusal.specs.Outcome.Outcome.{accepted, refused}
 use Rattle.refusal.specs.declared.Place.TheVariants.{Position}
 use Rattle.amount.specs.Amount.{first_above}
 use Rattle.amount.proofs.Amounts.{none_above, first_in, first_after}
-use Rattle.guideline.specs.Sizes.{territory_numbers, volume_numbers}
+use Rattle.sizes.specs.Sizes.{territory_numbers, volume_numbers}
 use Rattle.guideline.specs.Operational.{OperationalAmounts, RO}
 use Rattle.operational.specs.Call.{rule7, operational_call}
 

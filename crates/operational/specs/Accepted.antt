@@ -4,7 +4,7 @@ use Rattle.std.specs.Prelude.{◌≡◌, List, [], ◌∷◌, ℕ, ◌%◌, ◌�
 use Rattle.amount.specs.Amount.{limit}
 use Rattle.refusal.specs.Outcome.Outcome.{accepted, refused}
 use Rattle.refusal.specs.declared.Place.{Place}
-use Rattle.guideline.specs.Sizes.{territory_numbers, volume_numbers}
+use Rattle.sizes.specs.Sizes.{territory_numbers, volume_numbers}
 use Rattle.guideline.specs.Operational.{RO}
 use Rattle.operational.specs.Call.{operational_call}
 

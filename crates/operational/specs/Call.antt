@@ -1,13 +1,13 @@
 -- The operational call of document 01, 'What is turned away': 'it tests 15, then 7, positions running through both', and 'Accepted ..
 -- the operational call RO'. Assumes nothing.
 use Rattle.std.specs.Prelude.{Result, List, [], ◌∷◌, ◌++◌, ℕ, ◌%◌, ltb, eqb, length}
-use Rattle.search.specs.Pick.{pick}
+use Rattle.basics.specs.Pick.{pick}
 use Rattle.amount.specs.Amount.{first_above}
 use Rattle.refusal.specs.Outcome.{Outcome, stated_by}
 use Rattle.refusal.specs.Outcome.Outcome.{accepted, refused}
 use Rattle.refusal.specs.declared.Place.TheVariants.{Position, Nowhere}
 use Rattle.refusal.specs.declared.Refusal.{Refusal}
-use Rattle.guideline.specs.Sizes.{territory_numbers, volume_numbers}
+use Rattle.sizes.specs.Sizes.{territory_numbers, volume_numbers}
 use Rattle.guideline.specs.Operational.{RO}
 
 -- what the result says in document 01's numbers: RO, or the refusal's number and place

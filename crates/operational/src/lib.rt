@@ -2,16 +2,15 @@
 #![tactic(auto)]
 
 ghost use Rattle.std.specs.Prelude.{◌≡◌, ℕ, ◌+◌, ◌-◌, ◌*◌, ◌≤◌, leb, length, get_or};
-ghost use Rattle.search.specs.Least.{least};
+ghost use Rattle.basics.specs.Least.{least};
 ghost use Rattle.amount.specs.Amount.{limit};
-ghost use Rattle.guideline.specs.Sizes.{volume_numbers};
+ghost use Rattle.sizes.specs.Sizes.{volume_numbers};
 ghost use Rattle.guideline.specs.Operational.{OperationalAmounts, largest_factor, current, prior, volume, growth, general_requirement, operational_denominator, RO};
 ghost use Rattle.operational.specs.Call.{stated, operational_call};
 
-use guideline::{
-    GENERAL_FIGURES, OPERATIONAL_DENOMINATOR, TERRITORY_NUMBERS, VOLUME_CLASSES, VOLUME_NUMBERS,
-};
+use guideline::OPERATIONAL_DENOMINATOR;
 use refusal::{Place, Refusal, Rule};
+use sizes::{GENERAL_FIGURES, TERRITORY_NUMBERS, VOLUME_CLASSES, VOLUME_NUMBERS};
 
 // RO, of volumes of any length, 16 numbers a territory, then gross components, guarantee requirement and ceded premiums.
 // Kept: volumes and general figures as two parameters, which the C interface has; a struct of both would be taken apart at once in `operational`.

@@ -7,14 +7,13 @@ use mathlib.Core.List.{List}
 use Prim.Native.Nat.{ℕ, ◌≤◌, ◌<◌}
 use lib.ListN.{get_or, set}
 use borrow.Author.Tests.{ltb-true}
-use Rattle.search.proofs.Picks.{if_true, if_false, if_lt, if_ge, by_test, never}
+use Rattle.basics.proofs.Picks.{if_true, if_false, if_lt, if_ge, by_test, never}
 use Rattle.refusal.specs.Outcome.{rule_number, Judging, judging}
 use Rattle.refusal.specs.declared.Rule.{Rule}
 use Rattle.refusal.specs.declared.Rule.TheVariants as rule
 use Rattle.sheet_line.specs.declared.Entry.{Entry}
-use Rattle.order.specs.Order.{key_for, rule11, rule19, admitted}
-use Rattle.order.specs.Places.{index_for}
-use Rattle.order.specs.Marks.{Admits}
+use Rattle.order.specs.Order.{key_for, rule11, rule19, admitted, Admits}
+use Rattle.places.specs.Places.{index_for}
 
 module _ (stood : Entry → Bool) (last : ℕ) where
   -- what an admitted line says of the one that was read: it is that one, did not stand before and comes after the last

@@ -5,16 +5,16 @@ use mathlib.Core.Bool.{Bool, true, false}
 use Prim.Native.Nat.{ℕ, ◌<◌}
 use native.Mathlib.Omega.{arith}
 use lib.Dec.{ltb}
-use Rattle.search.specs.Each.{Each}
-use Rattle.search.proofs.Picks.{if_true, if_false, never}
+use Rattle.basics.specs.Each.{Each}
+use Rattle.basics.proofs.Picks.{if_true, if_false, never}
 use Rattle.codes.specs.Codes.{Key}
 use Rattle.sheet_line.specs.Rules.{AcceptedLine}
 use Rattle.codes.specs.declared.Code.{Code}
 use Rattle.sheet_line.specs.declared.Entry.{Entry}
 use Rattle.sheet_line.proofs.Printed.{key_small}
-use Rattle.order.specs.Entries.{rank, has_key, lookup, first_of, second_of, mark_of, has_line, SameKey, SameFigures}
-use Rattle.order.specs.Order.{key_of, key_for, key_above_0, last_key, Ascending, Ordered, BelowBase, key_precedes}
-use Rattle.order.proofs.Keys.{rank_one, same_key, has_key_lem, no_key, own_key}
+use Rattle.places.specs.Entries.{rank, has_key, lookup, first_of, second_of, mark_of, has_line, SameKey}
+use Rattle.order.specs.Order.{SameFigures, key_of, key_for, key_above_0, last_key, Ascending, Ordered, BelowBase, key_precedes}
+use Rattle.places.proofs.Keys.{rank_one, same_key, has_key_lem, no_key, own_key}
 
 -- ---- a key above the last one's
 

@@ -3,7 +3,7 @@
 use mathlib.Core.Path.{◌≡◌, refl}
 use mathlib.Core.List.{List, [], ◌∷◌, ◌++◌}
 use Prim.Native.Nat.{ℕ}
-use Rattle.search.specs.Pick.{pick}
+use Rattle.basics.specs.Pick.{pick}
 use Rattle.field.specs.Field.{digits, field, digit_or_space, leading_digits, decimal}
 use Rattle.codes.specs.Codes.{is_code, code_among}
 use Rattle.codes.specs.declared.Code.{Code}
@@ -12,7 +12,7 @@ use Rattle.layout.specs.Columns.{spaced, layout_of, lettered}
 use Rattle.sheet_line.specs.declared.Entry.{Entry}
 use Rattle.sheet_line.specs.Line.{print_line}
 use Rattle.sheet_line.specs.Rules.{outside, second_barred, trend_above, scalar_outside, rule10, rule9, rule8, rule6, rule5, parse_line}
-use Rattle.order.specs.Entries.{has_key, lookup}
+use Rattle.places.specs.Entries.{has_key, lookup}
 use Rattle.order.specs.Order.{key_of, rule19, rule11}
 use Rattle.order.specs.Reading.{Reading, on_line, read_from, reading}
 use Rattle.order.specs.Reading.Reading.{complete, stopped}

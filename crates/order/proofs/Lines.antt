@@ -9,8 +9,8 @@ use native.Mathlib.Numerals.{add-one}
 use native.Mathlib.Omega.{arith}
 use lib.ListN.{length, take, drop, length-drop}
 use lib.Seq.{drop-drop, length-take-le}
-use Rattle.search.specs.Each.{Each}
-use Rattle.search.proofs.Picks.{never}
+use Rattle.basics.specs.Each.{Each}
+use Rattle.basics.proofs.Picks.{never}
 use Rattle.refusal.specs.Outcome.{rule_number, Judging}
 use Rattle.layout.specs.Columns.{sheet_line_bytes}
 use Rattle.layout.specs.Whole.{whole_lines, line_at}
@@ -20,14 +20,14 @@ use Rattle.refusal.specs.declared.Rule.{Rule}
 use Rattle.sheet_line.specs.declared.Entry.{Entry}
 use Rattle.sheet_line.proofs.Accepted.{line_good}
 use Rattle.sheet_line.proofs.Refusals.{line_judging}
-use Rattle.order.specs.Entries.{DistinctKeys}
-use Rattle.order.specs.Order.{key_for, last_key, Ascending, Keyed, admitted}
+use Rattle.places.specs.Entries.{DistinctKeys}
+use Rattle.order.specs.Order.{key_for, last_key, Ascending, Keyed, admitted, Admits}
 use Rattle.order.specs.Reading.{Reading, stood_in, line_after, on_line, read_from, reading_by, untested, reading, entries_of}
 use Rattle.order.specs.Reading.Reading.{complete, stopped}
-use Rattle.order.specs.Marks.{marks_of, has_mark, Admits}
-use Rattle.order.proofs.Keys.{New, distinct}
+use Rattle.places.specs.Marks.{marks_of, has_mark}
+use Rattle.places.proofs.Keys.{New, distinct}
 use Rattle.order.proofs.Admission.{good_admitted, refused_admitted}
-use Rattle.order.proofs.Marks.{mark_table}
+use Rattle.places.proofs.Marks.{mark_table}
 
 -- ---- a line more
 

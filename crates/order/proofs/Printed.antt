@@ -9,8 +9,8 @@ use native.Mathlib.Omega.{arith}
 use lib.Dec.{ltb}
 use lib.ListN.{length, take, drop, take-append-drop, length-drop, length-append}
 use lib.Seq.{length-take-le, take_at, drop_at}
-use Rattle.search.specs.Each.{Each}
-use Rattle.search.proofs.Picks.{if_false, if_lt, never}
+use Rattle.basics.specs.Each.{Each}
+use Rattle.basics.proofs.Picks.{if_false, if_lt, never}
 use Rattle.layout.specs.Columns.{sheet_line_bytes}
 use Rattle.layout.specs.Whole.{whole_lines}
 use Rattle.sheet_line.specs.Line.{print_line}
@@ -18,8 +18,8 @@ use Rattle.sheet_line.specs.Rules.{parse_line, AcceptedLine}
 use Rattle.refusal.specs.declared.Rule.{Rule}
 use Rattle.sheet_line.specs.declared.Entry.{Entry}
 use Rattle.sheet_line.proofs.Printed.{length_print, parse_print, print_parsed}
-use Rattle.order.specs.Entries.{mark_of, SameFigures}
-use Rattle.order.specs.Order.{Ascending, rule11, rule19}
+use Rattle.places.specs.Entries.{mark_of}
+use Rattle.order.specs.Order.{SameFigures, Ascending, rule11, rule19}
 use Rattle.order.specs.Reading.{line_after, read_from, reading_by, untested, reading, print_by, print_lines}
 use Rattle.order.specs.Reading.Reading.{complete}
 use Rattle.order.proofs.Ascent.{none_above, same_lines}

@@ -1,6 +1,3 @@
--- A sheet's lines as entries, their order and how they are read, and the places and marks that tell of them. Assumes nothing.
-pub mod Entries
+-- The order of a sheet's lines, what admits a line after others, and how lines are read. Assumes nothing.
 pub mod Order
 pub mod Reading
-pub mod Places
-pub mod Marks

@@ -1,16 +1,18 @@
 -- The order of a sheet's lines, and what admits a line after those before it. Document 02, #105: 'Lines now ascend strictly by code, in the order
 -- RSK, OTH, MOR, VOL, GEN, CRD, then by block, then by class. It refuses, as number 19 with its line, a line that doesn't come after the one before
 -- it, tested after 11.' ACQ 'stands after VOL in the order of lines' (#106). Assumes nothing.
-use Rattle.std.specs.Prelude.{Result, Ok, Err, ◌≡◌, ◌⊎◌, ◌↔◌, Bool, List, [], ◌∷◌, ℕ, ◌+◌, ◌*◌, ◌≤◌, ◌<◌, ltb}
+use Rattle.std.specs.Prelude.{Result, Ok, Err, ◌≡◌, ◌⊎◌, ◌↔◌, Bool, List, [], ◌∷◌, ℕ, ◌+◌, ◌*◌, ◌≤◌, ◌<◌, ltb, true, set}
 use Rattle.std.proofs.Common.{inl, inr, arith}
 use Rattle.std.proofs.Math.Decide.{dec_le}
-use Rattle.search.specs.Pick.{pick}
+use Rattle.basics.specs.Pick.{pick}
 use Rattle.codes.specs.Codes.{Key}
 use Rattle.codes.specs.declared.Code.{Code}
 use Rattle.refusal.specs.declared.Rule.{Rule}
 use Rattle.refusal.specs.declared.Rule.TheVariants as rule
 use Rattle.sheet_line.specs.declared.Entry.{Entry}
-use Rattle.order.specs.Entries.{rank}
+use Rattle.places.specs.Entries.{rank, lookup, first_of, second_of, has_line}
+use Rattle.places.specs.Places.{index_for}
+use Rattle.places.specs.Marks.{has_mark}
 
 -- a power of two above every block and class, which have two columns each
 abbrev pub order_base : ℕ
@@ -94,3 +96,21 @@ rule11 stood last e = pick stood (Err rule.LineRepeated) (rule19 last e)
 abbrev pub admitted : (Entry → Bool) → ℕ → Result Entry Rule → Result Entry Rule
 admitted stood last (Err r) = Err r
 admitted stood last (Ok e) = rule11 (stood e) last e
+
+-- the marks after a line: that of an admitted one is there
+abbrev pub marks_after : Result Entry Rule → List Bool → List Bool
+marks_after (Ok e) m = set m (index_for e) true
+marks_after (Err r) m = m
+
+-- a line after others, of which the marks and the last key tell; and the marks after it
+pub record Admits (l : Result Entry Rule) (last : ℕ) (m : List Bool) (r : Result Entry Rule) (m' : List Bool) : Type 0 where
+  pub line : r ≡ admitted (λ e. has_mark m e.code e.block e.class) last l
+  pub marks : m' ≡ marks_after r m
+
+-- ---- sheets that are alike
+
+-- two sheets' lines with the same figures: each line of the one is a line of the other, with the same amounts
+pub record SameFigures (es fs : List Entry) : Type 0 where
+  pub line : (k : Code) (b c : ℕ) → has_line es k b c ≡ has_line fs k b c
+  pub first : (k : Code) (b c : ℕ) → lookup first_of es k b c ≡ lookup first_of fs k b c
+  pub second : (k : Code) (b c : ℕ) → lookup second_of es k b c ≡ lookup second_of fs k b c

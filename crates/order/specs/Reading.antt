@@ -11,7 +11,7 @@ use Rattle.sheet_line.specs.Line.{print_line}
 use Rattle.sheet_line.specs.Rules.{parse_line}
 use Rattle.refusal.specs.declared.Rule.{Rule}
 use Rattle.sheet_line.specs.declared.Entry.{Entry}
-use Rattle.order.specs.Entries.{has_line}
+use Rattle.places.specs.Entries.{has_line}
 use Rattle.order.specs.Order.{last_key, admitted}
 
 -- what reading gives, the entries with the last line first

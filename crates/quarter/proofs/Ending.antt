@@ -8,25 +8,25 @@ use native.Mathlib.Omega.{arith}
 use borrow.Author.Tests.{ltb-true}
 use lib.ListN.{length, take, drop, length-take}
 use lib.Seq.{length-take-le, take_at}
-use Rattle.search.proofs.Picks.{if_true}
-use Rattle.search.proofs.Stretches.{put_behind, stretch_long}
+use Rattle.basics.proofs.Picks.{if_true}
+use Rattle.basics.proofs.Stretches.{put_behind, stretch_long}
 use Rattle.refusal.specs.declared.Place.TheVariants as place
-use Rattle.printing.specs.Printing.{REF, refusal_row, Printed}
+use Rattle.text_answer.specs.Printing.{REF, refusal_row, Printed}
 use Rattle.report_line.specs.Line.{line_bytes, row_in, rows_in}
 use Rattle.report_line.proofs.Filled.{in_columns}
 use Rattle.report_line.proofs.ReadBack.{length_in_lem, append_in}
 use Rattle.report.specs.Rows.{items_from}
 use Rattle.report.proofs.Items.{items_in_long}
-use Rattle.stream.specs.Sheets.{sheets_of, count}
-use Rattle.stream.specs.declared.Held.{Held}
+use Rattle.quarter_stream.specs.Sheets.{sheets_of, count}
+use Rattle.quarter_stream.specs.declared.Held.{Held}
 use Rattle.summary.specs.Together.{summary_of, items_of}
 use Rattle.summary.specs.declared.Summary.{Summary}
-use Rattle.quarter_lines.specs.Printout.{most_sheets, columns, SUM, answered, sheet_rows, accepted_of, closed_or25, ending, quarter_text}
+use Rattle.quarter_text.specs.Printout.{most_sheets, columns, SUM, answered, sheet_rows, accepted_of, closed_or25, ending, quarter_text}
 use Rattle.quarter.specs.Steps.{lines_long, longest_output, After, BegunIn, Finished}
 use Rattle.quarter.specs.declared.Quarter.{Quarter}
 use Rattle.quarter.proofs.Going.{row_alone, one_least, to_going, how_many, rest_none, rest_some}
-use Rattle.quarter_lines.proofs.Rows.{all_answered, not_more, summary_follows}
-use Rattle.quarter_lines.proofs.Accuracy.{quarter_demand}
+use Rattle.quarter_text.proofs.Rows.{all_answered, not_more, summary_follows}
+use Rattle.quarter_text.proofs.Accuracy.{quarter_demand}
 
 -- ---- the room that is left
 

@@ -10,28 +10,28 @@ use Rattle.std.specs.Prelude.{Option, Some, None, is_none, IfSome}
 use borrow.Author.Tests.{ltb-true, ltb-false, le-ltb, lt-ltb}
 use lib.ListN.{length, get_or, take, drop, length-map, length-append}
 use lib.Seq.{take-nil, length-take-le, drop-cons}
-use Rattle.search.proofs.Stretches.{front, put_behind}
+use Rattle.basics.proofs.Stretches.{front, put_behind}
 use Rattle.judgement.specs.Judgement.{judgement}
 use Rattle.sheet_length.specs.Measured.{longest_sheet}
 use Rattle.report_line.specs.declared.Row.{Row}
 use Rattle.report_line.specs.Line.{line_bytes, row_in, rows_in}
 use Rattle.report_line.proofs.ReadBack.{append_in}
-use Rattle.stream.specs.Sheets.{sheets_in, sheets_of, one, count}
-use Rattle.stream.specs.Steps.{Kept, Within, Fresh, SoFar, ScannedTo}
-use Rattle.stream.specs.declared.Held.{Held}
-use Rattle.stream.specs.declared.Closed.{Closed}
+use Rattle.quarter_stream.specs.Sheets.{sheets_in, sheets_of, one, count}
+use Rattle.quarter_stream.specs.Steps.{Kept, Within, Fresh, SoFar, ScannedTo}
+use Rattle.quarter_stream.specs.declared.Held.{Held}
+use Rattle.quarter_stream.specs.declared.Closed.{Closed}
 use Rattle.std.specs.declared.ops.ControlFlow.{ControlFlow}
 use Rattle.std.specs.declared.ops.ControlFlow.TheVariants.{Continue, Break}
-use Rattle.stream.proofs.Rejoined.{held_none}
-use Rattle.stream.proofs.SoFar.{so_far_start, so_far_closed, so_far_rest, so_far_on, so_far_next}
-use Rattle.stream.proofs.Further.{byte_after, still_more}
+use Rattle.quarter_stream.proofs.Rejoined.{held_none}
+use Rattle.quarter_stream.proofs.SoFar.{so_far_start, so_far_closed, so_far_rest, so_far_on, so_far_next}
+use Rattle.quarter_stream.proofs.Further.{byte_after, still_more}
 use Rattle.summary.specs.Together.{summary_of}
 use Rattle.summary.specs.declared.Accepted.{Accepted}
 use Rattle.summary.specs.declared.Summary.{Summary}
-use Rattle.quarter_lines.specs.Printout.{most_sheets, columns, Few, answered, sheet_row, sheet_rows, accepted_as, accepted_of}
+use Rattle.quarter_text.specs.Printout.{most_sheets, columns, Few, answered, sheet_row, sheet_rows, accepted_as, accepted_of}
 use Rattle.quarter.specs.Steps.{lines_long, longest_output, After}
 use Rattle.quarter.specs.declared.Quarter.{Quarter}
-use Rattle.quarter_lines.proofs.Rows.{all_answered, rows_more, accepted_more, rows_cut, accepted_cut, row_long, few_accepted}
+use Rattle.quarter_text.proofs.Rows.{all_answered, rows_more, accepted_more, rows_cut, accepted_cut, row_long, few_accepted}
 
 -- ---- so far
 

@@ -6,21 +6,21 @@ use Prim.Native.Nat.{ℕ, ◌+◌, ◌-◌, ◌≤◌, ◌<◌}
 use native.Mathlib.Omega.{arith}
 use lib.ListN.{length, take, drop, drop_of_length-le}
 use Rattle.std.specs.Prelude.{Option, Some, None}
-use Rattle.search.proofs.Stretches.{behind, put_behind, from_further}
+use Rattle.basics.proofs.Stretches.{behind, put_behind, from_further}
 use Rattle.judgement.specs.Judgement.{judgement}
 use Rattle.report_line.specs.Line.{line_bytes, row_in}
-use Rattle.stream.specs.Steps.{Within, Fresh, ScannedTo}
-use Rattle.stream.specs.declared.Held.{Held}
-use Rattle.stream.specs.declared.Closed.{Closed}
+use Rattle.quarter_stream.specs.Steps.{Within, Fresh, ScannedTo}
+use Rattle.quarter_stream.specs.declared.Held.{Held}
+use Rattle.quarter_stream.specs.declared.Closed.{Closed}
 use Rattle.std.specs.declared.ops.ControlFlow.{ControlFlow}
 use Rattle.std.specs.declared.ops.ControlFlow.TheVariants.{Continue, Break}
 use Rattle.summary.specs.Together.{summary_of}
 use Rattle.summary.specs.declared.Accepted.{Accepted}
 use Rattle.summary.specs.declared.Summary.{Summary}
-use Rattle.quarter_lines.specs.Printout.{most_sheets, columns, Few, sheet_row, accepted_as}
+use Rattle.quarter_text.specs.Printout.{most_sheets, columns, Few, sheet_row, accepted_as}
 use Rattle.quarter.specs.Steps.{lines_long, longest_output, After, Begun, Taken}
 use Rattle.quarter.specs.declared.Quarter.{Quarter}
-use Rattle.quarter_lines.proofs.Rows.{row_long}
+use Rattle.quarter_text.proofs.Rows.{row_long}
 use Rattle.quarter.proofs.Going.{Going, to_going, from_going, not_many, few_so_far, too_many, goes_on, closed_within, next_sheet, still_over}
 
 -- what is known: with what is held, or where there are more than 60 sheets

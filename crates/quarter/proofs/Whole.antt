@@ -6,15 +6,15 @@ use Prim.Native.Nat.{ℕ, ◌≤◌, ◌<◌}
 use native.Mathlib.Omega.{arith}
 use lib.ListN.{length, take, drop, length-append}
 use lib.Seq.{length-take-le}
-use Rattle.search.proofs.Picks.{if_lt}
-use Rattle.search.proofs.Stretches.{from_further}
+use Rattle.basics.proofs.Picks.{if_lt}
+use Rattle.basics.proofs.Stretches.{from_further}
 use Rattle.report_line.specs.Line.{rows_in}
 use Rattle.report_line.proofs.ReadBack.{append_in}
-use Rattle.stream.specs.Sheets.{sheets_of, count}
-use Rattle.stream.proofs.Further.{still_more}
-use Rattle.printing.specs.Printing.{Printed}
-use Rattle.quarter_lines.specs.Printout.{most_sheets, columns, answered, sheet_rows, ending, quarter_text}
-use Rattle.quarter_lines.specs.Demand.{QuarterDemand}
+use Rattle.quarter_stream.specs.Sheets.{sheets_of, count}
+use Rattle.quarter_stream.proofs.Further.{still_more}
+use Rattle.text_answer.specs.Printing.{Printed}
+use Rattle.quarter_text.specs.Printout.{most_sheets, columns, answered, sheet_rows, ending, quarter_text}
+use Rattle.quarter_text.specs.Demand.{QuarterDemand}
 use Rattle.quarter.specs.Steps.{lines_long, After, concat, Steps, Finished}
 use Rattle.quarter.specs.declared.Quarter.{Quarter}
 use Rattle.quarter.proofs.Ending.{few_answered}

@@ -1,2 +1,3 @@
--- The steps by which an input is taken. Assumes nothing.
+-- What the steps hand on to one another, and the call on a whole input. Assumes nothing.
 pub mod Steps
+pub mod Call

@@ -3,12 +3,12 @@
 use Rattle.std.specs.Prelude.{◌≡◌, is_none, IfSome, List, [], ◌∷◌, ◌++◌, map, ℕ, suc, ◌+◌, ◌*◌, ◌≤◌, ltb, length, take, drop}
 use Rattle.report_line.specs.Line.{line_bytes, rows_in}
 use Rattle.sheet_length.specs.Measured.{longest_sheet}
-use Rattle.stream.specs.Sheets.{sheets_of, count}
-use Rattle.stream.specs.Steps.{Within, SoFar}
+use Rattle.quarter_stream.specs.Sheets.{sheets_of, count}
+use Rattle.quarter_stream.specs.Steps.{Within, SoFar}
 use Rattle.summary.specs.Together.{summary_of}
-use Rattle.printing.specs.Printing.{Printed}
-use Rattle.quarter_lines.specs.Printout.{most_sheets, columns, answered, sheet_rows, accepted_of, quarter_text}
-use Rattle.quarter_lines.specs.Demand.{QuarterDemand}
+use Rattle.text_answer.specs.Printing.{Printed}
+use Rattle.quarter_text.specs.Printout.{most_sheets, columns, answered, sheet_rows, accepted_of, quarter_text}
+use Rattle.quarter_text.specs.Demand.{QuarterDemand}
 use Rattle.quarter.specs.declared.Quarter.{Quarter}
 
 -- the bytes of n lines

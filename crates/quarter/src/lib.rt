@@ -1,15 +1,17 @@
-// The quarter's sheets together: an input is taken chunk by chunk, each sheet is answered as soon as it is closed, and the end of the input brings the
-// summary, or what turns the input away.
+// The quarter's sheets together: an input is taken chunk by chunk, each sheet is answered as soon as it is closed, and the end of the input brings
+// the summary, or what turns the input away. And the call on an input that is whole in memory.
 #![tactic(auto)]
 
 ghost use Rattle.std.specs.Prelude.{◌≡◌, List, [], ℕ, length};
+ghost use Rattle.text_answer.specs.Lent.{stated, Done};
 ghost use Rattle.quarter.specs.Steps.{After, Begun, BegunIn, Taken, Finished};
+ghost use Rattle.quarter.specs.Call.{quarter_call, SummarySays};
 
-use quarter_lines::{LINE_BYTES, MOST_SHEETS};
+use quarter_stream::Held;
+use quarter_text::{LINE_BYTES, MOST_SHEETS};
 use refusal::{Place, Refusal, Rule};
 use sheet_length::SHEET_ROOM;
 use std::ops::ControlFlow;
-use stream::Held;
 use summary::{SUMMARY_ITEMS, Summary};
 
 // A line for each sheet, and the summary.
@@ -25,12 +27,29 @@ pub struct Quarter {
     pub summary: Summary,
 }
 
+// An input of any bytes, and lent room of any length: its text, whichever way it ends. It is worked out apart, so that nothing is written where the
+// room is too short for it.
+pub fn quarter_call(input: &[u8], room: &mut [u8]) -> Result<usize, Refusal>
+    ensures answer { ◌≡◌ {A = Done} (record { outcome = stated result; room = room.new }) (quarter_call input.now room.old) }
+    ensures summary_says { SummarySays input.now (stated result) room.new }
+{
+    let mut sheet = [0u8; SHEET_ROOM];
+    let mut out = [0u8; OUTPUT_ROOM];
+    let q = take_chunk(&mut sheet, &mut out, start(), input);
+    let length = finish(&mut out, q);
+    if room.len() < length {
+        return Err(Refusal(Rule::RoomTooShort, Place::Nowhere));
+    }
+    room[..length].copy_from_slice(&out[..length]);
+    Ok(length)
+}
+
 // Before any byte, in rooms of the lengths that the steps are lent.
 pub fn start() -> Quarter
     ensures { (room out : List ℕ) → length room ≡ SHEET_ROOM → length out ≡ OUTPUT_ROOM → After [] room out result }
 {
     Quarter {
-        held: Some(stream::fresh()),
+        held: Some(quarter_stream::fresh()),
         sheets: 0,
         summary: summary::none(),
     }
@@ -60,7 +79,7 @@ pub fn take_chunk(
                 summary,
             };
         }
-        match stream::feed(room, held, chunk, at) {
+        match quarter_stream::feed(room, held, chunk, at) {
             ControlFlow::Continue(h) => {
                 return Quarter {
                     held: Some(h),
@@ -71,13 +90,13 @@ pub fn take_chunk(
             ControlFlow::Break(closed) => {
                 let from = LINE_BYTES * sheets;
                 sheets += 1;
-                summary = quarter_lines::answer_sheet(
+                summary = quarter_text::answer_sheet(
                     &room[..closed.length],
                     &mut out[from..from + LINE_BYTES],
                     sheets,
                     summary,
                 );
-                held = stream::fresh();
+                held = quarter_stream::fresh();
                 at = closed.next;
             }
         }
@@ -98,14 +117,14 @@ pub fn finish(out: &mut [u8; OUTPUT_ROOM], q: Quarter) -> usize
     let from = LINE_BYTES * sheets;
     let line = from + LINE_BYTES;
     let Some(held) = q.held else {
-        printing::write_refusal(
+        text_answer::write_refusal(
             &mut out[from..line],
             Refusal(Rule::TooManySheets, Place::Sheet(sheets + 1)),
         );
         return line;
     };
     if held.length != 0 {
-        printing::write_refusal(
+        text_answer::write_refusal(
             &mut out[from..line],
             Refusal(Rule::SheetNotClosed, Place::Sheet(sheets + 1)),
         );

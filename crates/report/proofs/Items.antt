@@ -8,9 +8,9 @@ use native.Mathlib.Numerals.{add-one}
 use native.Mathlib.Omega.{arith}
 use lib.ListN.{length, get_or, take, drop, length-append}
 use lib.Seq.{take-suc, length-take-le}
-use Rattle.search.proofs.Stretches.{Wrote, nothing, lent_part, all_written}
-use Rattle.search.proofs.Stretches as lent
-use Rattle.guideline.specs.Sizes.{number_columns}
+use Rattle.basics.proofs.Stretches.{Wrote, nothing, lent_part}
+use Rattle.basics.proofs.Stretches as lent
+use Rattle.sizes.specs.Sizes.{number_columns}
 use Rattle.report_line.specs.Line.{line_bytes, report_line_bytes, line_in, rows_in, print_rows}
 use Rattle.report_line.proofs.ReadBack.{length_in_lem, append_in}
 use Rattle.report.specs.Rows.{items_from}

@@ -7,19 +7,18 @@ use native.Mathlib.Decide.{ℕ_discrete}
 use native.Mathlib.Omega.{arith}
 use borrow.Author.Tests.{eq-eqb, ne_eqb}
 use lib.ListN.{length, get_or}
-use Rattle.search.specs.Pick.{pick}
-use Rattle.search.specs.Each.{Each}
-use Rattle.search.specs.Ascending.{ascending}
-use Rattle.search.proofs.Picks.{if_true, if_false, if_eq, if_ne, by_test}
-use Rattle.search.proofs.Eaches.{each_append}
-use Rattle.search.proofs.Ascents.{each_ascending}
+use Rattle.basics.specs.Pick.{pick}
+use Rattle.basics.specs.Each.{Each}
+use Rattle.basics.specs.Ascending.{ascending}
+use Rattle.basics.proofs.Picks.{if_true, if_false, if_eq, if_ne, by_test}
+use Rattle.basics.proofs.Eaches.{each_append}
+use Rattle.basics.proofs.Ascents.{each_ascending}
 use Rattle.std.specs.Prelude.{Option, Some}
-use Rattle.guideline.specs.Sizes.{blocks, block_figures, number_columns, FitsColumns}
+use Rattle.sizes.specs.Sizes.{blocks, block_figures, number_columns, FitsColumns}
 use Rattle.report_line.specs.declared.Row.{Row}
 use Rattle.report_line.specs.Line.{print_rows, equal_bytes, number_at}
 use Rattle.report_line.proofs.ReadBack.{PrintableIn, Printable, row_is, number_among, rows_read}
-use Rattle.report.specs.Rows.{BLK, TOT, row, items_from, block_rows, total_rows}
-use Rattle.report.specs.Rows.{totals as three}
+use Rattle.report.specs.Rows.{BLK, TOT, row, items_from, block_rows, total_rows, totals as three}
 
 pub items_printable : (w : ℕ) (c : List ℕ) (b i : ℕ) (ns : List ℕ) → length c ≡ 3 → b < 100 → i + length ns ≤ 100 → Each (λ n. n < 10 ^ w) ns
     → Each (PrintableIn w) (items_from i c b ns)

@@ -7,8 +7,8 @@ use native.Mathlib.Omega.{arith}
 use lib.ListN.{length, get_or, take, drop, length-append, length-drop}
 use Rattle.std.proofs.lemmas.List.{map-append, take_more}
 use Rattle.std.proofs.lemmas.Grind.{flat_map-append}
-use Rattle.search.proofs.Stretches.{Wrote, nothing, lent_part}
-use Rattle.guideline.specs.Sizes.{block_figures}
+use Rattle.basics.proofs.Stretches.{Wrote, nothing, lent_part}
+use Rattle.sizes.specs.Sizes.{block_figures}
 use Rattle.figures.specs.Parts.{figure_list, numbered_figures}
 use Rattle.figures.specs.declared.NumberedFigures.{NumberedFigures}
 use Rattle.report_line.specs.declared.Row.{Row}

@@ -3,7 +3,7 @@
 -- Assumes nothing.
 use Rattle.std.specs.Prelude.{List, [], ◌∷◌, ◌++◌, ℕ, suc, ◌+◌, ◌*◌}
 use Rattle.std.specs.List.{flat_map}
-use Rattle.guideline.specs.Sizes.{blocks, block_figures}
+use Rattle.sizes.specs.Sizes.{blocks, block_figures}
 use Rattle.report_line.specs.declared.Row.{Row}
 use Rattle.report_line.specs.Line.{report_line_bytes, print_rows}
 

@@ -2,14 +2,14 @@
 #![tactic(auto)]
 
 ghost use Rattle.std.specs.Prelude.{◌≡◌, ◌++◌, ◌-◌, ◌*◌, ◌≤◌, ◌<◌, length, map, drop};
-ghost use Rattle.guideline.specs.Sizes.{blocks, block_figures};
+ghost use Rattle.sizes.specs.Sizes.{blocks, block_figures};
 ghost use Rattle.figures.specs.Parts.{numbered_figures};
 ghost use Rattle.report_line.specs.Line.{line_bytes, report_line_bytes, rows_in, print_rows};
 ghost use Rattle.report.specs.Rows.{items_from, table_rows, report_bytes, report_length};
 
 use figures::NumberedFigures;
-use guideline::{BLOCK_FIGURES, BLOCKS};
 use report_line::{REPORT_LINE_BYTES, Row};
+use sizes::{BLOCK_FIGURES, BLOCKS};
 
 // Three lines close a report.
 const TOTALS: usize = 3;

@@ -11,17 +11,17 @@ use lib.Dec.{eqb}
 use borrow.Author.Tests.{eq-eqb, ne_eqb}
 use lib.ListN.{length, take, drop, length-append}
 use lib.Seq.{take_at, drop_at}
-use Rattle.search.specs.Pick.{pick}
-use Rattle.search.specs.Each.{Each}
-use Rattle.search.proofs.Picks.{if_true, if_false, if_eq, if_ne}
-use Rattle.guideline.specs.Sizes.{number_columns}
+use Rattle.basics.specs.Pick.{pick}
+use Rattle.basics.specs.Each.{Each}
+use Rattle.basics.proofs.Picks.{if_true, if_false, if_eq, if_ne}
+use Rattle.sizes.specs.Sizes.{number_columns}
 use Rattle.field.specs.Field.{field, leading_digits, decimal}
 use Rattle.std.specs.Prelude.{Option, Some}
 use Rattle.field.proofs.Writing.{length_decimal}
 use Rattle.field.proofs.Inverse.{read_back}
 use Rattle.report_line.specs.declared.Row.{Row}
 use Rattle.report_line.specs.Line.{line_bytes, report_line_bytes, key, line_in, report_line, row_in, rows_in, print_rows, equal_bytes, found_in, found_at, number_at}
-use Rattle.search.proofs.Values.{values, is_values}
+use Rattle.basics.proofs.Values.{values, is_values}
 
 abbrev pub key_of : Row → List ℕ
 key_of r = key r.code r.block r.item

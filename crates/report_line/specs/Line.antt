@@ -3,8 +3,8 @@
 -- bytes, the number .. in 11–29': one definition over the columns of the number, of which document 01's is the one with 18.
 -- Assumes nothing.
 use Rattle.std.specs.Prelude.{Option, None, ℕ, zero, suc, ◌+◌, ◌/◌, Bool, true, false, List, [], ◌∷◌, ◌++◌, eqb, length, take, drop}
-use Rattle.search.specs.Pick.{pick}
-use Rattle.guideline.specs.Sizes.{number_columns}
+use Rattle.basics.specs.Pick.{pick}
+use Rattle.sizes.specs.Sizes.{number_columns}
 use Rattle.field.specs.Field.{field, decimal}
 use Rattle.report_line.specs.declared.Row.{Row}
 

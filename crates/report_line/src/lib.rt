@@ -2,19 +2,30 @@
 #![tactic(auto)]
 
 ghost use Rattle.std.specs.Prelude.{◌≡◌, ◌-◌, ◌<◌, length};
-ghost use Rattle.guideline.specs.Sizes.{number_columns};
+ghost use Rattle.sizes.specs.Sizes.{number_columns};
 ghost use Rattle.report_line.specs.Line.{line_bytes, report_line_bytes, key, row_in};
 
-use field::write_field;
+use field::{two_columns, write_field};
 
 // The bytes of a line, its line feed with them.
 pub const REPORT_LINE_BYTES: usize = 29;
 
-// Columns 1–9.
-const KEY_BYTES: usize = 9;
+// Columns 1–9: code, block and item.
+pub const KEY_BYTES: usize = 9;
 
-// The bytes before the number: columns 1–9, and the space behind them.
-const BEFORE_NUMBER: usize = 10;
+// Where the columns of the code end, and where those of the block and of the item begin and end.
+const CODE_END: usize = 3;
+
+const BLOCK: usize = 4;
+
+const BLOCK_END: usize = 6;
+
+const ITEM: usize = 7;
+
+// Where the columns of the number begin, and where they end in a line of the report.
+pub const NUMBER: usize = 10;
+
+pub const NUMBER_END: usize = REPORT_LINE_BYTES - 1;
 
 // What a line says.
 #[derive(Clone, Copy)]
@@ -43,7 +54,7 @@ impl Row {
         let last = out.len() - 1;
         write_key(&mut out[0..KEY_BYTES], self.code, self.block, self.item);
         out[KEY_BYTES] = b' ';
-        write_field(&mut out[BEFORE_NUMBER..last], self.number);
+        write_field(&mut out[NUMBER..last], self.number);
         out[last] = b'\n';
     }
 }
@@ -53,9 +64,9 @@ pub fn write_key(out: &mut [u8], code: [u8; 3], block: u64, item: u64)
     requires { length out.old ≡ 9 }
     ensures { out.new ≡ key code block item }
 {
-    out[0..3].copy_from_slice(&code);
-    write_field(&mut out[4..6], block);
-    write_field(&mut out[7..9], item);
-    out[3] = b' ';
-    out[6] = b' ';
+    out[0..CODE_END].copy_from_slice(&code);
+    out[CODE_END] = b' ';
+    out[BLOCK..BLOCK_END].copy_from_slice(&two_columns(block));
+    out[BLOCK_END] = b' ';
+    out[ITEM..KEY_BYTES].copy_from_slice(&two_columns(item));
 }

@@ -4,8 +4,8 @@ use Prim.Native.Nat.{ℕ, zero, suc, ◌+◌, ◌*◌, ◌^◌, ◌≤◌, ◌<�
 use native.Mathlib.Nat.{mul-le-mul}
 use native.Mathlib.Decide.{dec_lt}
 use native.Mathlib.Omega.{arith}
-use Rattle.search.proofs.LeastOf.{LeastOf, least_of}
-use Rattle.search.proofs.Roots.{lt_of_squares}
+use Rattle.basics.proofs.LeastOf.{LeastOf, least_of}
+use Rattle.basics.proofs.Roots.{lt_of_squares}
 use Rattle.root.specs.Steps.{root_down, FloorRoot}
 
 -- the first number whose next square is above m has a square that isn't

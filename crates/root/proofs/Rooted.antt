@@ -1,40 +1,38 @@
 -- A root found one binary digit at a time: what is held after each step (`After`), and the root rounded up. Assumes nothing.
-use mathlib.Core.Path.{◌≡◌, sym, ap, ◌∙◌}
-use mathlib.Core.Bool.{true, false}
+use mathlib.Core.Path.{◌≡◌, refl, sym, ap, ◌∙◌}
+use mathlib.Core.Bool.{Bool, true, false}
 use Prim.Native.Nat.{ℕ, suc, ◌+◌, ◌-◌, ◌*◌, ◌/◌, ◌%◌, ◌^◌, ◌≤◌, ◌<◌}
 use native.Mathlib.Nat.{pow-succ', div-le_self, div-div-eq-div-mul, div-eq_of_lt, div-one, mod-lt, mod-eq_of_lt, mul_comm}
 use native.Mathlib.Omega.{arith}
-use lib.Dec.{leb}
-use borrow.Author.Tests.{leb-true, leb-false}
-use Rattle.search.specs.Least.{least}
-use Rattle.search.specs.Pick.{pick}
-use Rattle.search.proofs.LeastOf.{root_eq}
-use Rattle.search.proofs.Picks.{by_test}
-use Rattle.search.proofs.Roots.{lt_of_squares}
+use lib.Dec.{leb, ltb}
+use borrow.Author.Tests.{ltb-true, ltb-false}
+use Rattle.basics.specs.Least.{least}
+use Rattle.basics.specs.Pick.{pick}
+use Rattle.basics.proofs.LeastOf.{root_eq}
+use Rattle.basics.proofs.Roots.{lt_of_squares}
 use Rattle.root.specs.Steps.{steps, leading, After}
 use Rattle.root.proofs.Lengths.{has_digits, few_steps}
 use Rattle.root.proofs.Windows.{pos4, start_fits, brought}
 use Rattle.root.proofs.Floors.{floor_root, floor_is}
 
--- one binary digit t more: the root is 2r + t, and t times the next odd number is taken off what is left with the digits brought down
-pub record Digit (r s d t : ℕ) : Type 0 where
+-- one binary digit t more, and u left: the root is 2r + t, and t times the next odd number is taken off what is left with the digits brought down
+pub record Digit (r s d t u : ℕ) : Type 0 where
   pub bit : t ≤ 1
-  pub within : t * (4 * r + 1) ≤ 4 * s + d
-  pub square : (2 * r + t) * (2 * r + t) + (4 * s + d - t * (4 * r + 1)) ≡ 4 * (r * r + s) + d
-  pub small : 4 * s + d - t * (4 * r + 1) ≤ 2 * (2 * r + t)
+  pub square : (2 * r + t) * (2 * r + t) + u ≡ 4 * (r * r + s) + d
+  pub small : u ≤ 2 * (2 * r + t)
 
-pub digit : (r s d t : ℕ) → s ≤ 2 * r → d < 4 → t ≡ pick (leb (4 * r + 1) (4 * s + d)) 1 0 → Digit r s d t
-digit r s d t h k e = rw e (by_test (Digit r s d) (leb (4 * r + 1) (4 * s + d)) 1 0 taken left)
+pub digit : (r s d t u : ℕ) → s ≤ 2 * r → d < 4 → t ≡ pick (ltb (4 * r) (4 * s + d)) 1 0
+    → u ≡ pick (ltb (4 * r) (4 * s + d)) (4 * s + d - 4 * r - 1) (4 * s + d) → Digit r s d t u
+unfolding pick
+digit r s d t u h k e f = by_value (ltb (4 * r) (4 * s + d)) refl e f
   where
-    taken : leb (4 * r + 1) (4 * s + d) ≡ true → Digit r s d 1
-    taken b =
-        let l : 4 * r + 1 ≤ 4 * s + d = leb-true _ _ b in
-        record { bit = omega arith; within = omega arith; square = omega arith; small = omega arith }
-
-    left : leb (4 * r + 1) (4 * s + d) ≡ false → Digit r s d 0
-    left b =
-        let l : 4 * s + d < 4 * r + 1 = leb-false _ _ b in
-        record { bit = omega arith; within = omega arith; square = omega arith; small = omega arith }
+    by_value : (b : Bool) → ltb (4 * r) (4 * s + d) ≡ b → t ≡ pick b 1 0 → u ≡ pick b (4 * s + d - 4 * r - 1) (4 * s + d) → Digit r s d t u
+    by_value true b e f =
+        let l : 4 * r < 4 * s + d = ltb-true _ _ b in
+        rw (e, f) (record { bit = omega arith; square = omega arith; small = omega arith })
+    by_value false b e f =
+        let l : 4 * s + d ≤ 4 * r = ltb-false _ _ b in
+        rw (e, f) (record { bit = omega arith; square = omega arith; small = omega arith })
 
 -- a radicand without a step is 0, and so is its root
 pub root_of_none : (n : ℕ) → steps n ≡ 0 → 0 ≡ least (λ x. leb n (x * x))

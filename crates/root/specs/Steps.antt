@@ -2,7 +2,7 @@
 -- the leading 2j digits of the radicand, its length padded in front to an even number. The steps equal half that padded length, 0 for
 -- radicand 0'. Assumes nothing.
 use Rattle.std.specs.Prelude.{◌≡◌, ℕ, zero, suc, ◌+◌, ◌-◌, ◌*◌, ◌/◌, ◌%◌, ◌^◌, ◌≤◌, ◌<◌, ltb}
-use Rattle.search.specs.Least.{least}
+use Rattle.basics.specs.Least.{least}
 
 -- the binary digits of n, of which there are at most `fuel`
 abbrev pub length_in : (fuel n : ℕ) → ℕ

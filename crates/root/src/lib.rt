@@ -1,9 +1,9 @@
 // The least whole number whose square reaches a number of two words, found one binary digit at a time.
 #![tactic(auto)]
 
-ghost use Rattle.std.specs.Prelude.{◌≡◌, ℕ, ◌+◌, ◌-◌, ◌*◌, ◌/◌, ◌^◌, ◌<◌, ◌≤◌, leb};
-ghost use Rattle.search.specs.Least.{least};
-ghost use Rattle.search.specs.Pick.{pick};
+ghost use Rattle.std.specs.Prelude.{◌≡◌, ℕ, ◌+◌, ◌-◌, ◌*◌, ◌/◌, ◌^◌, ◌<◌, ◌≤◌, leb, ltb};
+ghost use Rattle.basics.specs.Least.{least};
+ghost use Rattle.basics.specs.Pick.{pick};
 ghost use Rattle.wide.specs.Value.{value};
 ghost use Rattle.root.specs.Steps.{steps, After};
 
@@ -94,19 +94,28 @@ fn root_step(root: u64, rest: u64, digits: u64) -> PartialRoot
     ensures digit { (2 * root ≤ result.root) × (result.root ≤ 2 * root + 1) }
 {
     let next = 4 * rest + digits;
-    let odd = 4 * root + 1;
-    let digit = one_if_within(odd, next);
+    let four = 4 * root;
+    let digit = one_if_above(next, four);
+    let left = left_above(next, four);
     PartialRoot {
         root: 2 * root + digit,
-        rest: next - digit * odd,
+        rest: left,
     }
 }
 
-// 1 where the odd number is within what is left, else 0: a number to reckon with, as a jump on it would be mispredicted half the time.
-fn one_if_within(odd: u64, next: u64) -> u64
-    ensures { result ≡ pick (leb odd next) 1 0 }
+// 1 where the odd number behind `four` is within what is left, else 0: a number to reckon with, as a jump on it would be mispredicted half the time.
+fn one_if_above(next: u64, four: u64) -> u64
+    ensures { result ≡ pick (ltb four next) 1 0 }
 {
-    u64::from(odd <= next)
+    u64::from(four < next)
+}
+
+// What is left without that odd number, where it is within: the compiler makes no jump of the choice, since both are at hand.
+#[tactic(auto, unfolding(basics::specs::Pick::pick))]
+fn left_above(next: u64, four: u64) -> u64
+    ensures { result ≡ pick (ltb four next) (next - four - 1) next }
+{
+    if four < next { next - four - 1 } else { next }
 }
 
 // The two binary digits that are brought down next. They stand two below the top of the window: with them at the top, the compiler makes

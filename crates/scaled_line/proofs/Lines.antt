@@ -4,7 +4,7 @@ use mathlib.Core.Path.{◌≡◌, refl, subst}
 use mathlib.Core.List.{List}
 use Prim.Native.Nat.{ℕ}
 use lib.ListN.{length}
-use Rattle.search.proofs.Picks.{by_test, never}
+use Rattle.basics.proofs.Picks.{by_test, never}
 use Rattle.refusal.specs.Outcome.{rule_number, Judging, judging}
 use Rattle.layout.specs.Columns.{sheet_line_bytes}
 use Rattle.layout.proofs.Laid.{length_lettered}

@@ -13,9 +13,9 @@ use lib.Dec.{eqb}
 use lib.ListN.{length, take, drop, replicate}
 use lib.Seq.{take_at, append_snoc}
 use borrow.Author.Tests.{eq-eqb, ne_eqb}
-use Rattle.search.specs.Pick.{pick}
-use Rattle.search.proofs.Picks.{if_true, if_false, if_ne}
-use Rattle.search.proofs.Values.{values, is_values}
+use Rattle.basics.specs.Pick.{pick}
+use Rattle.basics.proofs.Picks.{if_true, if_false, if_ne}
+use Rattle.basics.proofs.Values.{values, is_values}
 use Rattle.field.specs.Field.{digit_or_space, leading_digits, decimal}
 use Rattle.field.proofs.Writing.{length_decimal}
 use Rattle.field.proofs.Inverse.{digit_shown, leading_decimal, space_decimal}
@@ -30,7 +30,8 @@ use Rattle.sheet_line.specs.declared.Entry.{Entry}
 use Rattle.scaled_line.specs.Scale.{lower, letters_in, parse_in, print_in}
 use Rattle.scaled_line.specs.Amounts.{thousand_dollars, of_scalar, convertible, in_other, amount_of, rescaled}
 use Rattle.scaled_line.specs.Other.{other_line}
-use Rattle.scaled_line.specs.Moved.{other_case, amount_columns, zeros, keeps_amounts, holds_zero, shifted, moved_amount, moved_line}
+use Rattle.line_fields.specs.Words.{amount_columns}
+use Rattle.scaled_line.specs.Moved.{other_case, zeros, keeps_amounts, holds_zero, shifted, moved_amount, moved_line}
 use Rattle.scaled_line.specs.declared.Scale.{Scale}
 use Rattle.scaled_line.specs.declared.Scale.TheVariants.{Cents, Thousands}
 use Rattle.scaled_line.proofs.Small.{three_in, letters_turned}

@@ -5,8 +5,8 @@ use mathlib.Core.Bool.{Bool, true, false, not}
 use Prim.Native.Nat.{ℕ, ◌*◌, ◌/◌, ◌%◌, ◌≤◌}
 use native.Mathlib.Omega.{arith}
 use borrow.Author.Tests.{ltb-false, le-ltb, eqb-true, eq-eqb, not-false}
-use Rattle.search.specs.Pick.{pick}
-use Rattle.search.proofs.Picks.{if_true, if_false, by_test, never}
+use Rattle.basics.specs.Pick.{pick}
+use Rattle.basics.proofs.Picks.{if_true, if_false, by_test, never}
 use Rattle.amount.specs.Amount.{limit}
 use Rattle.sheet_line.specs.Rules.{AcceptedAmounts, AcceptedLine}
 use Rattle.refusal.specs.declared.Rule.{Rule}

@@ -8,10 +8,10 @@ use native.Mathlib.Decide.{dec_le}
 use native.Mathlib.Omega.{arith}
 use lib.ListN.{length, get_or, take, drop, take-append-drop, length-append, length-map, length-drop}
 use lib.Seq.{length-take-le, take_at, drop_at}
-use Rattle.search.specs.Pick.{pick}
-use Rattle.search.specs.Each.{Each}
-use Rattle.search.proofs.Picks.{if_lt, if_ge}
-use Rattle.search.proofs.Values.{values, is_values}
+use Rattle.basics.specs.Pick.{pick}
+use Rattle.basics.specs.Each.{Each}
+use Rattle.basics.proofs.Picks.{if_lt, if_ge}
+use Rattle.basics.proofs.Values.{values, is_values}
 use Rattle.field.specs.Field.{leading_digits, decimal}
 use Rattle.codes.specs.Codes.{letters_of, is_code, code_among, code_of}
 use Rattle.codes.specs.declared.Code.{Code}

@@ -6,9 +6,10 @@ use mathlib.Core.Bool.{Bool}
 use mathlib.Core.List.{List, [], ◌∷◌, ◌++◌, map}
 use Prim.Native.Nat.{ℕ}
 use lib.ListN.{length, set, take, drop, replicate}
-use Rattle.search.proofs.Values.{values, is_values}
+use Rattle.basics.proofs.Values.{values, is_values}
 use Rattle.layout.specs.Columns.{sheet_line_bytes, byte_at, columns}
-use Rattle.scaled_line.specs.Moved.{other_case, amount_columns, zeros, keeps_amounts, shifted, moved_amount, moved_line}
+use Rattle.line_fields.specs.Words.{amount_columns}
+use Rattle.scaled_line.specs.Moved.{other_case, zeros, keeps_amounts, shifted, moved_amount, moved_line}
 use Rattle.scaled_line.specs.declared.Scale.{Scale}
 use Rattle.scaled_line.specs.declared.Scale.TheVariants.{Cents, Thousands}
 

@@ -2,7 +2,7 @@
 -- is multiplied or divided by 100,000'; 'It refuses, as number 20 with its line, an amount that isn't whole thousands, and, as number 21 with its
 -- line, one that passes 14 digits in cents, both in a line after 19'. Assumes nothing.
 use Rattle.std.specs.Prelude.{Result, Ok, Err, Bool, true, false, not, ℕ, ◌*◌, ◌/◌, ◌%◌, ltb, eqb}
-use Rattle.search.specs.Pick.{pick}
+use Rattle.basics.specs.Pick.{pick}
 use Rattle.amount.specs.Amount.{limit}
 use Rattle.sheet_line.specs.Rules.{is_scalar}
 use Rattle.refusal.specs.declared.Rule.{Rule}

@@ -3,7 +3,8 @@
 -- digits stand five columns further left. That the line of an entry becomes so the line of that entry in the other sort is proved (`line_moved` in
 -- proofs/Moves). Bytes are numbers: a space is 32, 0 is 48, 4 is 52, G is 71, g is 103. Assumes nothing.
 use Rattle.std.specs.Prelude.{ℕ, ◌-◌, List, ◌++◌, map, Bool, true, false, eqb, get_or, take, drop, replicate, bit_xor}
-use Rattle.search.specs.Pick.{pick}
+use Rattle.basics.specs.Pick.{pick}
+use Rattle.line_fields.specs.Words.{amount_columns}
 use Rattle.layout.specs.Columns.{byte_at, columns}
 use Rattle.scaled_line.specs.declared.Scale.{Scale}
 use Rattle.scaled_line.specs.declared.Scale.TheVariants.{Cents, Thousands}
@@ -11,10 +12,6 @@ use Rattle.scaled_line.specs.declared.Scale.TheVariants.{Cents, Thousands}
 -- a letter in the other sort: a capital and its small letter differ in one bit, 32. Any other byte changes in that bit too
 abbrev pub other_case : ℕ → ℕ
 other_case b = bit_xor b 32
-
--- the columns of an amount
-abbrev pub amount_columns : ℕ
-amount_columns = 14
 
 -- the zeros that 100,000 has behind its 1
 abbrev pub zeros : ℕ

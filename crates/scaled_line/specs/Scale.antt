@@ -2,7 +2,7 @@
 -- letters (rsk)' (document 02, #110). There is one table of codes: a line in small letters is read with its three letters raised. Bytes are
 -- numbers: A is 65, Z is 90, a is 97, z is 122. Assumes nothing.
 use Rattle.std.specs.Prelude.{Result, ℕ, ◌+◌, ◌-◌, List, ◌++◌, map, ltb, eqb, get_or, take, drop}
-use Rattle.search.specs.Pick.{pick}
+use Rattle.basics.specs.Pick.{pick}
 use Rattle.codes.specs.Codes.{letters_of}
 use Rattle.codes.specs.declared.Code.{Code}
 use Rattle.layout.specs.Columns.{lettered}

@@ -15,7 +15,7 @@ const MOST_THOUSANDS: u64 = LARGEST_AMOUNT / THOUSAND_DOLLARS;
 
 impl Scale {
     // The last test of a line: rule 20 of a sheet in cents, rule 21 of one in thousands.
-    #[tactic(auto, unfolding(crate::specs::Amounts::rule20or21, search::specs::Pick::pick))]
+    #[tactic(auto, unfolding(crate::specs::Amounts::rule20or21, basics::specs::Pick::pick))]
     pub fn convertible(self, line: Result<Entry, Rule>) -> Result<Entry, Rule>
         ensures { result ≡ convertible self line }
     {
@@ -37,7 +37,7 @@ impl Scale {
     }
 
     // Whether an entry has an amount that the other sort of sheet can't have; the scalar's line keeps its number.
-    #[tactic(auto, unfolding(crate::specs::Amounts::has_barred, search::specs::Pick::pick))]
+    #[tactic(auto, unfolding(crate::specs::Amounts::has_barred, basics::specs::Pick::pick))]
     fn has_barred(self, e: Entry) -> bool
         ensures { result ≡ has_barred self e }
     {

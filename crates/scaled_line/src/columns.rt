@@ -1,7 +1,8 @@
 // The columns of a line in the other sort of sheet: an amount in cents is one in thousands of dollars with five zeros behind it, so that its digits
 // are moved by five columns and no number is made of them.
 ghost use Rattle.std.specs.Prelude.{◌≡◌, length};
-ghost use Rattle.scaled_line.specs.Moved.{amount_columns, keeps_amounts, holds_zero, moved_amount};
+ghost use Rattle.line_fields.specs.Words.{amount_columns};
+ghost use Rattle.scaled_line.specs.Moved.{keeps_amounts, holds_zero, moved_amount};
 
 use super::Scale;
 use layout::SHEET_LINE_BYTES;
@@ -12,7 +13,7 @@ const ZEROS: usize = 5;
 
 impl Scale {
     // Writes the columns of an amount as the other sort of sheet has them: as they stand where it is kept or is 0, else moved.
-    #[tactic(auto, using(crate::proofs::Stored::spaces_stored, crate::proofs::Stored::zeros_stored), unfolding(crate::specs::Moved::moved_amount, search::specs::Pick::pick))]
+    #[tactic(auto, using(crate::proofs::Stored::spaces_stored, crate::proofs::Stored::zeros_stored), unfolding(crate::specs::Moved::moved_amount, basics::specs::Pick::pick))]
     pub(crate) fn move_amount(self, kept: bool, amount: &[u8], out: &mut [u8])
         requires { (length amount.now ≡ amount_columns) × (out.old ≡ amount.now) }
         ensures { out.new ≡ moved_amount self kept amount.now }
@@ -34,7 +35,7 @@ impl Scale {
 }
 
 // Whether a line is the scalar's, class 4 of GEN, which keeps its number.
-#[tactic(auto, unfolding(crate::specs::Moved::keeps_amounts, search::specs::Pick::pick))]
+#[tactic(auto, unfolding(crate::specs::Moved::keeps_amounts, basics::specs::Pick::pick))]
 pub(crate) fn keeps_amounts(line: &[u8; SHEET_LINE_BYTES]) -> bool
     ensures { result ≡ keeps_amounts line.now }
 {
@@ -42,7 +43,7 @@ pub(crate) fn keeps_amounts(line: &[u8; SHEET_LINE_BYTES]) -> bool
 }
 
 // Whether the columns of an amount hold 0.
-#[tactic(auto, unfolding(crate::specs::Moved::holds_zero, search::specs::Pick::pick))]
+#[tactic(auto, unfolding(crate::specs::Moved::holds_zero, basics::specs::Pick::pick))]
 fn holds_zero(amount: &[u8]) -> bool
     requires { length amount.now ≡ amount_columns }
     ensures { result ≡ holds_zero amount.now }

@@ -10,7 +10,7 @@ use layout::SHEET_LINE_BYTES;
 const CASE: u8 = 32;
 
 // The sort of a sheet, by its first letter.
-#[tactic(auto, unfolding(crate::specs::Scale::scale_of, crate::specs::Scale::raise, search::specs::Pick::pick))]
+#[tactic(auto, unfolding(crate::specs::Scale::scale_of, crate::specs::Scale::raise, basics::specs::Pick::pick))]
 pub fn scale_of(sheet: &[u8]) -> Scale
     ensures { result ≡ scale_of sheet.now }
 {
@@ -42,7 +42,7 @@ pub(crate) fn other_case(b: u8) -> u8
 // The capital of a small letter, 0 for any other byte.
 //
 // Kept: the library's method leaves any other byte as it is, and an Option is no plainer: 0 is the byte that then stands in the line that is read.
-#[tactic(auto, unfolding(crate::specs::Scale::raise, search::specs::Pick::pick))]
+#[tactic(auto, unfolding(crate::specs::Scale::raise, basics::specs::Pick::pick))]
 fn raise(b: u8) -> u8
     ensures { result ≡ raise b }
 {

@@ -13,7 +13,7 @@ ghost use Rattle.std.specs.Prelude.{◌≡◌};
 ghost use Rattle.scaled_line.specs.Scale.{parse_in};
 ghost use Rattle.scaled_line.specs.Moved.{moved_line};
 
-use layout::SHEET_LINE_BYTES;
+use layout::{FIRST, FIRST_END, SECOND, SECOND_END, SHEET_LINE_BYTES};
 use letters::other_case;
 use refusal::Rule;
 use sheet_line::Entry;
@@ -46,7 +46,11 @@ impl Scale {
         out[0] = other_case(line[0]);
         out[1] = other_case(line[1]);
         out[2] = other_case(line[2]);
-        self.move_amount(kept, &line[10..24], &mut out[10..24]);
-        self.move_amount(kept, &line[25..39], &mut out[25..39]);
+        self.move_amount(kept, &line[FIRST..FIRST_END], &mut out[FIRST..FIRST_END]);
+        self.move_amount(
+            kept,
+            &line[SECOND..SECOND_END],
+            &mut out[SECOND..SECOND_END],
+        );
     }
 }

@@ -8,12 +8,12 @@ use native.Mathlib.Decide.{dec_le}
 use native.Mathlib.Omega.{arith}
 use lib.IntN.{pos}
 use Rattle.guideline.specs.Block.{PC, Vh, largest, a, radicand, AcceptedBlock}
-use Rattle.guideline.specs.Fraction.{Fraction, ◌≤ᶠ◌, whole, quarters, thrice, square_less}
-use Rattle.guideline.specs.Exact.{AtOrAboveI, AtOrAboveD, Fits}
+use Rattle.accuracy.specs.Fraction.{Fraction, ◌≤ᶠ◌, whole, quarters, thrice, square_less}
+use Rattle.accuracy.specs.Exact.{AtOrAboveI, AtOrAboveD, Fits}
 use Rattle.guideline.proofs.Bounds.{radicand_rises, root_twice}
-use Rattle.guideline.proofs.Fractions.{nat, nat_is, square_is, on_naturals, off_naturals}
+use Rattle.accuracy.proofs.Fractions.{nat, nat_is, square_is, on_naturals, off_naturals}
 use Rattle.guideline.proofs.Figures.{q, q_is}
-use Rattle.guideline.proofs.Exactly.{at_third}
+use Rattle.accuracy.proofs.Exactly.{at_third}
 use Rattle.sensitivity.specs.Movement.{less}
 use Rattle.sensitivity.proofs.Raised.{Near}
 

@@ -7,11 +7,11 @@ use native.Mathlib.Nat.{mul-le-mul_left, mul-le-mul_right}
 use native.Mathlib.Omega.{arith}
 use lib.Dec.{eqb}
 use lib.IntN.{ℤ, pos, neg_ℤ, nat_abs, ◌+ℤ◌, ◌*ℤ◌, +ℤ_invl, +ℤ_invr, +ℤ_idr, +ℤ_assoc, *ℤ-zero, zero-*ℤ}
-use Rattle.search.specs.Pick.{pick}
-use Rattle.search.proofs.Roots.{le_of_squares}
-use Rattle.search.proofs.Values.{values, values_same}
+use Rattle.basics.specs.Pick.{pick}
+use Rattle.basics.proofs.Roots.{le_of_squares}
+use Rattle.basics.proofs.Values.{values, values_same}
 use Rattle.integer.proofs.Integer.{ring, +ℤ-*ℤ, abs_neg, abs_add, abs_mul}
-use Rattle.guideline.specs.Sizes.{risks, products}
+use Rattle.sizes.specs.Sizes.{risks, products}
 use Rattle.guideline.specs.Factors.{factors, factor}
 use Rattle.guideline.proofs.Sums.{sum, sum_same, sum_add, sum_times}
 use Rattle.guideline.proofs.Squares.{product, square_pos}

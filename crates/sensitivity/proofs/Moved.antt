@@ -10,12 +10,12 @@ use lib.ListN.{length}
 use lib.Seq.{set_out}
 use Rattle.amount.specs.Amount.{limit}
 use Rattle.guideline.specs.Block.{ir, U, LT, Vh, M, K, AcceptedBlock}
-use Rattle.guideline.specs.Sizes.{risks, block_numbers, fineness}
-use Rattle.guideline.specs.Fraction.{Fraction, ◌≤ᶠ◌, ◌<ᶠ◌, whole, hundredths, thrice}
-use Rattle.guideline.specs.Exact.{Fits, m_numerator, k_at, StrictlyBelowK}
-use Rattle.guideline.proofs.Fractions.{nat, nat_is, m_numerator_is}
+use Rattle.sizes.specs.Sizes.{risks, block_numbers, fineness}
+use Rattle.accuracy.specs.Fraction.{Fraction, ◌≤ᶠ◌, ◌<ᶠ◌, whole, hundredths, thrice}
+use Rattle.accuracy.specs.Exact.{Fits, m_numerator, k_at, StrictlyBelowK}
+use Rattle.accuracy.proofs.Fractions.{nat, nat_is, m_numerator_is}
 use Rattle.guideline.proofs.Figures.{v_is, k_high}
-use Rattle.guideline.proofs.Exactly.{k_at_some, k_at_none, v_pos, fits_high, k_bound, k_near_by}
+use Rattle.accuracy.proofs.Exactly.{k_at_some, k_at_none, v_pos, fits_high, k_bound, k_near_by}
 use Rattle.sensitivity.specs.Movement.{raised, less, Movement}
 use Rattle.sensitivity.proofs.Raised.{Near, within_accepted, accepted_within, u_moves, lt_stays, none_rises, none_falls}
 use Rattle.sensitivity.proofs.Apart.{more, third_of, third_fits, fits_near}

@@ -11,10 +11,10 @@ use lib.ListN.{length, get_or}
 use lib.Seq.{get_or-set_same, get_or-set_other}
 use borrow.Author.Tests.{eqb-true, eqb-false}
 use Rattle.amount.specs.Amount.{limit}
-use Rattle.search.specs.Pick.{pick}
-use Rattle.search.proofs.Picks.{by_test}
-use Rattle.search.proofs.Values.{values, values_same}
-use Rattle.guideline.specs.Sizes.{risks}
+use Rattle.basics.specs.Pick.{pick}
+use Rattle.basics.proofs.Picks.{by_test}
+use Rattle.basics.proofs.Values.{values, values_same}
+use Rattle.sizes.specs.Sizes.{risks}
 use Rattle.guideline.specs.Block.{ir, lt, PC, A, U, LT, y, ys, largest_of, largest, a, EachRisk, AcceptedBlock}
 use Rattle.guideline.proofs.Figures.{q, formed}
 use Rattle.sensitivity.specs.Movement.{raised}

@@ -4,9 +4,9 @@ use Rattle.std.specs.Prelude.{◌≡◌, List, ℕ, ◌+◌, ◌-◌, ◌*◌, �
 use Rattle.std.proofs.Common.{sym, ap, ◌∙◌, arith}
 use Rattle.std.proofs.Math.IntN.{sub_ℕ}
 use Rattle.guideline.specs.Block.{ir, K}
-use Rattle.guideline.specs.Difference.{diff_less}
-use Rattle.guideline.specs.Fraction.{Fraction, numerator}
-use Rattle.guideline.specs.Exact.{StrictlyBelowK}
+use Rattle.accuracy.specs.Difference.{diff_less}
+use Rattle.accuracy.specs.Fraction.{Fraction, numerator}
+use Rattle.accuracy.specs.Exact.{StrictlyBelowK}
 use Rattle.integer.proofs.Integer.{as_diff, diff_eq}
 
 -- 'if one IR(i) is raised by t cents, all else kept'

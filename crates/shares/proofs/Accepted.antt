@@ -8,15 +8,15 @@ use native.Mathlib.Nat.{pos_of_ne-zero}
 use native.Mathlib.Omega.{arith}
 use lib.ListN.{length}
 use borrow.Author.Tests.{le-ltb, ltb-false, eqb-false}
-use Rattle.search.specs.First.{any_to}
-use Rattle.search.proofs.Picks.{if_false, if_ne, by_test}
-use Rattle.search.proofs.Anys.{none_to, none_of}
-use Rattle.search.proofs.Ascents.{list_long}
-use Rattle.search.proofs.Totals.{sum_zero, zero_sum}
+use Rattle.basics.specs.First.{any_to}
+use Rattle.basics.proofs.Picks.{if_false, if_ne, by_test}
+use Rattle.basics.proofs.Anys.{none_to, none_of}
+use Rattle.basics.proofs.Ascents.{list_long}
+use Rattle.basics.proofs.Totals.{sum_zero, zero_sum}
 use Rattle.refusal.specs.Outcome.{Outcome}
 use Rattle.refusal.specs.Outcome.Outcome.{accepted, refused}
 use Rattle.refusal.specs.declared.Place.TheVariants.{Nowhere}
-use Rattle.guideline.specs.Sizes.{block_numbers, parts}
+use Rattle.sizes.specs.Sizes.{block_numbers, parts}
 use Rattle.guideline.specs.Block.{K, AcceptedBlock}
 use Rattle.block.specs.Call.{block_call}
 use Rattle.block.proofs.Accepted.{accepts_block}

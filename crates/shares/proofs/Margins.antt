@@ -8,13 +8,13 @@ use native.Mathlib.Numerals.{add-one}
 use native.Mathlib.Omega.{arith}
 use lib.ListN.{length, set}
 use borrow.Author.Tests.{lt-ltb, le-ltb}
-use Rattle.search.specs.First.{any_to}
-use Rattle.search.specs.Total.{sum_to}
-use Rattle.search.proofs.Anys.{none_yet, next_decides, goes_on}
-use Rattle.search.proofs.Totals.{sum_step, sum_most}
-use Rattle.search.proofs.Ascents.{Listed, listed_start, listed_more, listed_all}
+use Rattle.basics.specs.First.{any_to}
+use Rattle.basics.specs.Total.{sum_to}
+use Rattle.basics.proofs.Anys.{none_yet, next_decides, goes_on}
+use Rattle.basics.proofs.Totals.{sum_step, sum_most}
+use Rattle.basics.proofs.Ascents.{Listed, listed_start, listed_more, listed_all}
 use Rattle.amount.specs.Amount.{limit}
-use Rattle.guideline.specs.Sizes.{parts}
+use Rattle.sizes.specs.Sizes.{parts}
 use Rattle.guideline.specs.Block.{K, AcceptedBlock}
 use Rattle.guideline.proofs.Figures.{u_fits, k_high}
 use Rattle.shares.specs.Margins.{k_without, negative, margin}

@@ -5,14 +5,14 @@ use mathlib.Core.List.{List}
 use Prim.Native.Nat.{ℕ, ◌≤◌}
 use native.Mathlib.Nat.{pos_of_ne-zero}
 use native.Mathlib.Omega.{arith}
-use Rattle.search.specs.First.{any_to}
-use Rattle.search.proofs.Picks.{if_true, if_false, if_eq, if_ne}
-use Rattle.search.proofs.Totals.{sum_same}
+use Rattle.basics.specs.First.{any_to}
+use Rattle.basics.proofs.Picks.{if_true, if_false, if_eq, if_ne}
+use Rattle.basics.proofs.Totals.{sum_same}
 use Rattle.refusal.specs.Outcome.{Outcome}
 use Rattle.refusal.specs.Outcome.Outcome.{accepted, refused}
 use Rattle.refusal.specs.declared.Place.{Place}
 use Rattle.refusal.specs.declared.Place.TheVariants.{Nowhere}
-use Rattle.guideline.specs.Sizes.{parts}
+use Rattle.sizes.specs.Sizes.{parts}
 use Rattle.guideline.specs.Block.{AcceptedBlock, K}
 use Rattle.block.specs.Call.{block_call}
 use Rattle.apportion.specs.Shares.{value_of_part, total, shares}

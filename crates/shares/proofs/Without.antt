@@ -10,10 +10,10 @@ use lib.Dec.{ltb, eqb}
 use lib.ListN.{get_or, set}
 use lib.Seq.{get_or-set_other}
 use borrow.Author.Tests.{ltb-true, ltb-false}
-use Rattle.search.specs.Pick.{pick}
-use Rattle.search.proofs.Picks.{if_eq, if_ne, by_test}
+use Rattle.basics.specs.Pick.{pick}
+use Rattle.basics.proofs.Picks.{if_eq, if_ne, by_test}
 use Rattle.amount.specs.Amount.{limit}
-use Rattle.guideline.specs.Sizes.{risks}
+use Rattle.sizes.specs.Sizes.{risks}
 use Rattle.guideline.specs.Block.{ir, lt, PC, credit, market, EachRisk, AcceptedBlock}
 use Rattle.shares.specs.Margins.{without, WithoutPart}
 

@@ -5,7 +5,7 @@ use Rattle.refusal.specs.Outcome.{Outcome}
 use Rattle.refusal.specs.Outcome.Outcome.{accepted, refused}
 use Rattle.refusal.specs.declared.Place.{Place}
 use Rattle.refusal.specs.declared.Place.TheVariants.{Nowhere}
-use Rattle.guideline.specs.Sizes.{block_numbers, parts}
+use Rattle.sizes.specs.Sizes.{block_numbers, parts}
 use Rattle.guideline.specs.Block.{K, AcceptedBlock}
 use Rattle.block.specs.Call.{block_call}
 use Rattle.apportion.specs.Shares.{value_of_part, shares}

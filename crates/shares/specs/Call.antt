@@ -1,13 +1,13 @@
 -- The shares call, after document 02, #112: 'It refuses, as number 23 with no place, a block with a negative margin or with all margins zero,
 -- after the block's own tests.' Assumes nothing.
 use Rattle.std.specs.Prelude.{Result, List, ℕ, eqb}
-use Rattle.search.specs.Pick.{pick}
-use Rattle.search.specs.First.{any_to}
+use Rattle.basics.specs.Pick.{pick}
+use Rattle.basics.specs.First.{any_to}
 use Rattle.refusal.specs.Outcome.{Outcome, stated_by}
 use Rattle.refusal.specs.Outcome.Outcome.{accepted, refused}
 use Rattle.refusal.specs.declared.Place.TheVariants.{Nowhere}
 use Rattle.refusal.specs.declared.Refusal.{Refusal}
-use Rattle.guideline.specs.Sizes.{parts}
+use Rattle.sizes.specs.Sizes.{parts}
 use Rattle.guideline.specs.Block.{K}
 use Rattle.block.specs.Call.{block_call}
 use Rattle.apportion.specs.Shares.{total, shares}

@@ -2,8 +2,8 @@
 -- A part's margin is the reported K less the reported K with that part's amounts zero.' Parts 1 to 7 are the risks, 8 is PC, 9 credit, 10
 -- market. A block is the block call's 17 numbers: seven pairs IR(i), LT(i), then PC, credit and market. Assumes nothing.
 use Rattle.std.specs.Prelude.{◌≡◌, Bool, List, ℕ, ◌+◌, ◌-◌, ◌*◌, ◌≤◌, ltb, eqb, set}
-use Rattle.search.specs.Pick.{pick}
-use Rattle.guideline.specs.Sizes.{risks}
+use Rattle.basics.specs.Pick.{pick}
+use Rattle.sizes.specs.Sizes.{risks}
 use Rattle.guideline.specs.Block.{ir, lt, PC, credit, market, K}
 
 -- the block with the amounts of part p zero: IR and LT of a risk, at positions 2p − 2 and 2p − 1; the one amount of PC, credit or market, at

@@ -1,8 +1,8 @@
 -- What the shares call's steps hand on to one another. Assumes nothing.
 use Rattle.std.specs.Prelude.{◌≡◌, true, false, Option, Some, None, List, ℕ}
-use Rattle.search.specs.First.{any_to}
-use Rattle.search.specs.Ascending.{list_to}
-use Rattle.guideline.specs.Sizes.{parts}
+use Rattle.basics.specs.First.{any_to}
+use Rattle.basics.specs.Ascending.{list_to}
+use Rattle.sizes.specs.Sizes.{parts}
 use Rattle.apportion.specs.Shares.{total}
 use Rattle.shares.specs.Margins.{negative, margin}
 use Rattle.shares.specs.declared.Found.{Found}

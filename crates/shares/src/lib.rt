@@ -2,15 +2,16 @@
 #![tactic(auto)]
 
 ghost use Rattle.std.specs.Prelude.{◌≡◌, ◌≤◌};
-ghost use Rattle.guideline.specs.Sizes.{parts};
+ghost use Rattle.sizes.specs.Sizes.{parts};
 ghost use Rattle.guideline.specs.Block.{K};
 ghost use Rattle.shares.specs.Margins.{without, k_without};
 ghost use Rattle.shares.specs.Call.{stated, shares_call, rule23};
 ghost use Rattle.shares.specs.Accepted.{SharesDemand};
 ghost use Rattle.shares.specs.Steps.{MarginsOf};
 
-use guideline::{BLOCK_NUMBERS, Block, PARTS, RISKS};
+use guideline::Block;
 use refusal::{Place, Refusal, Rule};
+use sizes::{BLOCK_NUMBERS, PARTS, RISKS};
 
 // The margins of the parts, and their sum.
 #[derive(Clone, Copy)]

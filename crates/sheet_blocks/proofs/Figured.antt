@@ -7,17 +7,17 @@ use native.Mathlib.Omega.{arith}
 use lib.Dec.{ltb}
 use lib.ListN.{length, set, take, drop, length-append}
 use Rattle.std.proofs.lemmas.List.{drop-drop, drop-set-lt, map-append, take_more_set}
-use Rattle.search.specs.Each.{Each}
-use Rattle.search.specs.Ascending.{ascending}
-use Rattle.search.proofs.Ascents.{few, each_ascending, one_more, none_more}
-use Rattle.search.specs.First.{any_to}
-use Rattle.search.specs.Pick.{pick}
-use Rattle.search.specs.Total.{sum_to}
-use Rattle.search.proofs.Picks.{if_true, if_false}
-use Rattle.search.proofs.Anys.{any_next}
-use Rattle.search.proofs.Totals.{sum_next, sum_most}
+use Rattle.basics.specs.Each.{Each}
+use Rattle.basics.specs.Ascending.{ascending}
+use Rattle.basics.proofs.Ascents.{few, each_ascending, one_more, none_more}
+use Rattle.basics.specs.First.{any_to}
+use Rattle.basics.specs.Pick.{pick}
+use Rattle.basics.specs.Total.{sum_to}
+use Rattle.basics.proofs.Picks.{if_true, if_false}
+use Rattle.basics.proofs.Anys.{any_next}
+use Rattle.basics.proofs.Totals.{sum_next, sum_most}
 use Rattle.amount.specs.Amount.{limit}
-use Rattle.guideline.specs.Sizes.{blocks}
+use Rattle.sizes.specs.Sizes.{blocks}
 use Rattle.guideline.specs.Block.{K, figures_of, AcceptedBlock}
 use Rattle.guideline.specs.Buffer.{sum_k}
 use Rattle.guideline.proofs.Figures.{u_fits, k_high}
@@ -28,7 +28,7 @@ use Rattle.figures.specs.declared.NumberedFigures.{NumberedFigures}
 use Rattle.sheet_line.specs.declared.Entry.{Entry}
 use Rattle.sheet_line.specs.Rules.{AcceptedLine}
 use Rattle.codes.specs.declared.Code.TheVariants.{Crd}
-use Rattle.order.specs.Entries.{has_line, exists}
+use Rattle.places.specs.Entries.{has_line, exists}
 use Rattle.ledger.specs.Numbers.{dividend_credit}
 use Rattle.ledger.proofs.Bounds.{first_most}
 use Rattle.credits.specs.Credits.{after_credit, Covered}

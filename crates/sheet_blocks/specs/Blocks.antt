@@ -1,11 +1,11 @@
 -- The blocks of a sheet off its lines: 'Blocks ascend', their numbers and figures; and the dividend credits that rule 17 turns away. Assumes nothing.
 use Rattle.std.specs.Prelude.{Bool, List, [], ◌∷◌, ℕ, ltb}
-use Rattle.search.specs.Pick.{pick}
-use Rattle.search.specs.Ascending.{ascending}
+use Rattle.basics.specs.Pick.{pick}
+use Rattle.basics.specs.Ascending.{ascending}
 use Rattle.guideline.specs.Block.{K, figures_of}
 use Rattle.codes.specs.declared.Code.TheVariants.{Crd}
 use Rattle.sheet_line.specs.declared.Entry.{Entry}
-use Rattle.order.specs.Entries.{has_line, exists}
+use Rattle.places.specs.Entries.{has_line, exists}
 use Rattle.ledger.specs.Numbers.{dividend_credit}
 use Rattle.credits.specs.Credits.{after_credit}
 

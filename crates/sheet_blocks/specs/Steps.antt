@@ -1,9 +1,9 @@
 -- What is worked out of a sheet's blocks, one after the other: sections 11.2 and 11.3 by document 01's sheet, and rule 17 of document 02's #102.
 -- Assumes nothing.
 use Rattle.std.specs.Prelude.{◌≡◌, true, List, ℕ, ◌+◌, length, map, take, drop}
-use Rattle.search.specs.First.{any_to}
-use Rattle.search.specs.Pick.{pick}
-use Rattle.search.specs.Total.{sum_to}
+use Rattle.basics.specs.First.{any_to}
+use Rattle.basics.specs.Pick.{pick}
+use Rattle.basics.specs.Total.{sum_to}
 use Rattle.guideline.specs.Buffer.{sum_k}
 use Rattle.figures.specs.Parts.{numbered_figures}
 use Rattle.figures.specs.declared.NumberedFigures.{NumberedFigures}

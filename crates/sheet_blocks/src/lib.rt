@@ -2,13 +2,13 @@
 #![tactic(auto)]
 
 ghost use Rattle.std.specs.Prelude.{◌≡◌, ◌+◌, ◌-◌, ◌^◌, ◌≤◌, ◌<◌};
-ghost use Rattle.guideline.specs.Sizes.{blocks};
+ghost use Rattle.sizes.specs.Sizes.{blocks};
 ghost use Rattle.ledger.specs.Lines.{OfLines};
 ghost use Rattle.sheet_blocks.specs.Steps.{join, WorkedOut, RestKept};
 
 use credits::CreditedLedger;
 use figures::NumberedFigures;
-use guideline::BLOCKS;
+use sizes::BLOCKS;
 
 // What is known of the blocks up to some number: how many exist, the sum of their K, the sum of their dividend credits, and whether rule 17
 // bars one of these.

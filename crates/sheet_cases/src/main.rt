@@ -3,8 +3,6 @@
 // with '#' before the call, and written whole after it.
 #![tactic(auto)]
 
-ghost use Rattle.std.specs.Prelude.{◌<◌};
-
 use refusal::Refusal;
 use report::LONGEST_REPORT;
 use report_line::{REPORT_LINE_BYTES, Row};
@@ -70,7 +68,7 @@ fn run<R: Read>(rt: &impl Print, input: &mut R, sheet: &mut [u8], room: &mut [u8
     if input.read_exact(sheet).is_err() {
         return;
     }
-    let answer = aggregate::sheet_call(sheet, room);
+    let answer = sheet_call::sheet_call(sheet, room);
     tell(rt, answer);
     show(rt, room);
     show(rt, b"\n");

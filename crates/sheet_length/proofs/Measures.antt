@@ -6,7 +6,7 @@ use Prim.Native.Nat.{ℕ, ◌+◌, ◌%◌, ◌≤◌, ◌<◌}
 use native.Mathlib.Omega.{arith}
 use lib.ListN.{length}
 use borrow.Author.Tests.{ltb-true, ltb-false, eqb-true}
-use Rattle.search.proofs.Picks.{if_lt, if_ge, if_eq, if_ne, by_test}
+use Rattle.basics.proofs.Picks.{if_lt, if_ge, if_eq, if_ne, by_test}
 use Rattle.refusal.specs.declared.Place.TheVariants as place
 use Rattle.refusal.specs.declared.Refusal.{Refusal}
 use Rattle.refusal.specs.declared.Rule.TheVariants as rule

@@ -2,13 +2,13 @@
 -- rule 3 first. It gives 3 with the first bad whole line, and 2 if all are sound.' Each rule ends in the next one; the last one first. Lines
 -- count from 1. Assumes nothing.
 use Rattle.std.specs.Prelude.{Result, Ok, Err, List, ℕ, ◌+◌, ◌*◌, ◌%◌, ltb, eqb, length}
-use Rattle.search.specs.Pick.{pick}
+use Rattle.basics.specs.Pick.{pick}
 use Rattle.refusal.specs.declared.Place.{Place}
 use Rattle.refusal.specs.declared.Place.TheVariants as place
 use Rattle.refusal.specs.declared.Refusal.{Refusal}
 use Rattle.refusal.specs.declared.Rule.TheVariants as rule
 use Rattle.refusal.specs.Outcome.{rule_number}
-use Rattle.guideline.specs.Sizes.{non_participating, participating, blocks, territories, volume_pairs, adjustable_products}
+use Rattle.sizes.specs.Sizes.{non_participating, participating, blocks, territories, volume_pairs, adjustable_products}
 use Rattle.layout.specs.Columns.{sheet_line_bytes}
 use Rattle.layout.specs.Whole.{whole_lines, lines_kept}
 use Rattle.codes.specs.Codes.{risk_classes, other_classes, mortality_classes, acquired_classes, general_classes, dividend_classes}

@@ -8,11 +8,11 @@ use codes::{
     ACQUIRED_CLASSES, DIVIDEND_CLASSES, GENERAL_CLASSES, MORTALITY_CLASSES, OTHER_CLASSES,
     RISK_CLASSES,
 };
-use guideline::{
-    ADJUSTABLE_PRODUCTS, BLOCKS, NON_PARTICIPATING, PARTICIPATING, TERRITORIES, VOLUME_PAIRS,
-};
 use layout::SHEET_LINE_BYTES;
 use refusal::{Place, Refusal, Rule};
+use sizes::{
+    ADJUSTABLE_PRODUCTS, BLOCKS, NON_PARTICIPATING, PARTICIPATING, TERRITORIES, VOLUME_PAIRS,
+};
 
 // The lines that a sheet can have, one for each code, block and class.
 pub const MOST_LINES: usize = BLOCKS * (RISK_CLASSES + OTHER_CLASSES)
@@ -31,7 +31,7 @@ pub const SHEET_ROOM: usize = LONGEST_SHEET + 1;
 
 // Measures a sheet of any bytes: whole lines, and no more of them than there can be, or the rule that turns it away. One that rule 2 turns away
 // is told its first whole line with a broken layout, if there is one.
-#[tactic(auto, unfolding(crate::specs::Measured::measured, crate::specs::Measured::rule2, crate::specs::Measured::layout_first, search::specs::Pick::pick))]
+#[tactic(auto, unfolding(crate::specs::Measured::measured, crate::specs::Measured::rule2, crate::specs::Measured::layout_first, basics::specs::Pick::pick))]
 pub fn measure(sheet: &[u8]) -> Result<(), Refusal>
     ensures { result ≡ measured sheet.now }
 {

@@ -9,13 +9,12 @@ use native.Mathlib.Omega.{arith}
 use lib.ListN.{length}
 use borrow.Author.Tests.{ltb-false, eqb-true, not-false}
 use Rattle.amount.specs.Amount.{limit}
-use Rattle.search.proofs.Picks.{if_true, by_test, never}
+use Rattle.basics.proofs.Picks.{if_true, by_test, never}
 use Rattle.codes.specs.Codes.{Key, code_of}
 use Rattle.layout.specs.Columns.{sheet_line_bytes, layout_of}
 use Rattle.layout.proofs.Laid.{kept_amounts}
 use Rattle.sheet_line.specs.Line.{numbers_of}
-use Rattle.sheet_line.specs.Rules.{outside, block_outside, class_outside, second_barred, trend_above, scalar_outside}
-use Rattle.sheet_line.specs.Rules.{rule3, rule5, rule6, rule8, rule9, rule10, entry_of, parse_line, AcceptedLine}
+use Rattle.sheet_line.specs.Rules.{outside, block_outside, class_outside, second_barred, trend_above, scalar_outside, rule3, rule5, rule6, rule8, rule9, rule10, entry_of, parse_line, AcceptedLine}
 use Rattle.codes.specs.declared.Code.{Code}
 use Rattle.layout.specs.declared.Numbers.{Numbers}
 use Rattle.refusal.specs.declared.Rule.{Rule}

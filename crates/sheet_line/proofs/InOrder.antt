@@ -7,14 +7,13 @@ use mathlib.Core.Bool.{Bool, true, false}
 use mathlib.Core.List.{List}
 use Prim.Native.Nat.{ℕ}
 use lib.ListN.{replicate}
-use Rattle.search.specs.Pick.{pick}
-use Rattle.search.proofs.Picks.{never}
+use Rattle.basics.specs.Pick.{pick}
+use Rattle.basics.proofs.Picks.{never}
 use Rattle.field.specs.Field.{digits, field, digit_or_space, leading_digits, decimal}
 use Rattle.codes.specs.Codes.{is_code, code_among, code_of}
 use Rattle.layout.specs.Columns.{sheet_line_bytes, spaced, layout_of, lettered}
 use Rattle.sheet_line.specs.Line.{print_line}
-use Rattle.sheet_line.specs.Rules.{outside, block_outside, class_outside, second_barred, trend_above, scalar_outside}
-use Rattle.sheet_line.specs.Rules.{rule5, rule6, rule8, parse_line}
+use Rattle.sheet_line.specs.Rules.{outside, block_outside, class_outside, second_barred, trend_above, scalar_outside, rule5, rule6, rule8, parse_line}
 use Rattle.codes.specs.declared.Code.{Code}
 use Rattle.codes.specs.declared.Code.TheVariants.{Rsk, Oth, Mor, Vol, Acq, Gen, Crd}
 use Rattle.refusal.specs.declared.Rule.{Rule}

@@ -5,7 +5,7 @@ use Rattle.std.specs.Prelude.{Result, Ok, Err}
 use mathlib.Core.Path.{◌≡◌, refl}
 use mathlib.Core.List.{List, [], ◌∷◌, ◌++◌}
 use Prim.Native.Nat.{ℕ}
-use Rattle.search.specs.Pick.{pick}
+use Rattle.basics.specs.Pick.{pick}
 use Rattle.field.specs.Field.{digits, field, digit_or_space, leading_digits, decimal}
 use Rattle.refusal.specs.Outcome.{rule_number}
 use Rattle.refusal.specs.declared.Rule.{Rule}

@@ -10,17 +10,16 @@ use native.Mathlib.Omega.{arith}
 use lib.Dec.{eqb}
 use lib.ListN.{length, get_or}
 use borrow.Author.Tests.{eqb-true, eq-eqb, le-ltb}
-use Rattle.search.specs.Pick.{pick}
-use Rattle.search.proofs.Picks.{if_false, by_test, never, both}
-use Rattle.search.proofs.Values.{values, is_values}
+use Rattle.basics.specs.Pick.{pick}
+use Rattle.basics.proofs.Picks.{if_false, by_test, never, both}
+use Rattle.basics.proofs.Values.{values, is_values}
 use Rattle.field.specs.Field.{leading_digits, decimal}
 use Rattle.codes.specs.Codes.{codes, letters_of, Key, is_code, code_among, code_of}
 use Rattle.layout.specs.Columns.{sheet_line_bytes, columns, lettered}
 use Rattle.layout.specs.declared.Numbers.{Numbers}
 use Rattle.layout.proofs.Laid.{length_lettered, printed_layout, kept_printed}
 use Rattle.sheet_line.specs.Line.{numbers_of, print_line}
-use Rattle.sheet_line.specs.Rules.{outside, single_of, second_barred, has_trend, trend_above, is_scalar, scalar_outside}
-use Rattle.sheet_line.specs.Rules.{rule5, rule6, rule8, rule9, rule10, parse_line, AcceptedLine}
+use Rattle.sheet_line.specs.Rules.{outside, single_of, second_barred, has_trend, trend_above, is_scalar, scalar_outside, rule5, rule6, rule8, rule9, rule10, parse_line, AcceptedLine}
 use Rattle.codes.specs.declared.Code.{Code}
 use Rattle.codes.specs.declared.Code.TheVariants.{Rsk, Oth, Mor, Vol, Acq, Gen, Crd}
 use Rattle.sheet_line.specs.declared.Entry.{Entry}

@@ -2,11 +2,11 @@
 -- here. Each rule has a test, true where it turns the line away, and a definition that ends in the next rule's; the last one first. Assumes
 -- nothing.
 use Rattle.std.specs.Prelude.{◌≡◌, Option, Some, None, Result, Ok, Err, ℕ, ◌≤◌, List, Bool, true, false, not, ltb, eqb}
-use Rattle.search.specs.Pick.{pick}
+use Rattle.basics.specs.Pick.{pick}
 use Rattle.amount.specs.Amount.{limit}
 use Rattle.refusal.specs.declared.Rule.{Rule}
 use Rattle.refusal.specs.declared.Rule.TheVariants as rule
-use Rattle.guideline.specs.Sizes.{largest_scalar}
+use Rattle.sizes.specs.Sizes.{largest_scalar}
 use Rattle.codes.specs.Codes.{expenses_class, scalar_class, range_of, Key, code_of}
 use Rattle.layout.specs.Columns.{layout_of}
 use Rattle.codes.specs.declared.Code.{Code}

@@ -1,22 +1,22 @@
 // The rules of what a line says, in document 01's order: each is a test, true where it turns the line away.
 ghost use Rattle.std.specs.Prelude.{◌≡◌};
-ghost use Rattle.sheet_line.specs.Rules.{outside, block_outside, class_outside, single_of, second_barred, has_trend, trend_above, is_scalar, scalar_outside};
-ghost use Rattle.sheet_line.specs.Rules.{rule5};
+ghost use Rattle.sheet_line.specs.Rules.{outside, single_of, second_barred, has_trend, trend_above, is_scalar, scalar_outside, rule5};
 
 use super::Entry;
 use codes::{Code, EXPENSES_CLASS, SCALAR_CLASS};
-use guideline::LARGEST_SCALAR;
 use refusal::Rule;
+use sizes::LARGEST_SCALAR;
 
-// Rules 5 to 10: the entry, where none of them turns it away.
-#[tactic(auto, unfolding(crate::specs::Rules::rule5, crate::specs::Rules::rule6, crate::specs::Rules::rule8, crate::specs::Rules::rule9, crate::specs::Rules::rule10, search::specs::Pick::pick))]
+// Rules 5 to 10: the entry, where none of them turns it away. Rule 5 is that the block is outside the code's range, rule 6 that the class is.
+#[tactic(auto, unfolding(crate::specs::Rules::rule5, crate::specs::Rules::rule6, crate::specs::Rules::rule8, crate::specs::Rules::rule9, crate::specs::Rules::rule10, basics::specs::Pick::pick))]
 pub(crate) fn judged(e: Entry) -> Result<Entry, Rule>
     ensures { result ≡ rule5 e }
 {
-    if block_outside(e) {
+    let range = codes::range_of(e.code, e.block);
+    if outside(range.lowest, range.highest, e.block) {
         return Err(Rule::BlockOutside);
     }
-    if class_outside(e) {
+    if outside(1, range.classes, e.class) {
         return Err(Rule::ClassOutside);
     }
     if second_barred(e) {
@@ -31,24 +31,8 @@ pub(crate) fn judged(e: Entry) -> Result<Entry, Rule>
     Ok(e)
 }
 
-// The test of rule 5: the block is outside the code's range.
-fn block_outside(e: Entry) -> bool
-    ensures { result ≡ block_outside e }
-{
-    let range = codes::range_of(e.code, e.block);
-    outside(range.lowest, range.highest, e.block)
-}
-
-// The test of rule 6: the class is outside the code's range.
-fn class_outside(e: Entry) -> bool
-    ensures { result ≡ class_outside e }
-{
-    let range = codes::range_of(e.code, e.block);
-    outside(1, range.classes, e.class)
-}
-
 // Whether n is outside low to high.
-#[tactic(auto, unfolding(crate::specs::Rules::outside, search::specs::Pick::pick))]
+#[tactic(auto, unfolding(crate::specs::Rules::outside, basics::specs::Pick::pick))]
 fn outside(low: u64, high: u64, n: u64) -> bool
     ensures { result ≡ outside low high n }
 {
@@ -56,7 +40,7 @@ fn outside(low: u64, high: u64, n: u64) -> bool
 }
 
 // The test of rule 8: a second amount where a line has one alone.
-#[tactic(auto, unfolding(crate::specs::Rules::second_barred, search::specs::Pick::pick))]
+#[tactic(auto, unfolding(crate::specs::Rules::second_barred, basics::specs::Pick::pick))]
 fn second_barred(e: Entry) -> bool
     ensures { result ≡ second_barred e.code e.class e.second }
 {
@@ -80,7 +64,7 @@ fn single(code: Code, class: u64) -> bool
 }
 
 // The test of rule 9: LT above IR.
-#[tactic(auto, unfolding(crate::specs::Rules::trend_above, search::specs::Pick::pick))]
+#[tactic(auto, unfolding(crate::specs::Rules::trend_above, basics::specs::Pick::pick))]
 fn trend_above(e: Entry) -> bool
     ensures { result ≡ trend_above e.code e.first e.second }
 {
@@ -96,7 +80,7 @@ fn has_trend(code: Code) -> bool
 }
 
 // The test of rule 10: the scalar is outside its range.
-#[tactic(auto, unfolding(crate::specs::Rules::scalar_outside, search::specs::Pick::pick))]
+#[tactic(auto, unfolding(crate::specs::Rules::scalar_outside, basics::specs::Pick::pick))]
 fn scalar_outside(e: Entry) -> bool
     ensures { result ≡ scalar_outside e.code e.class e.first }
 {

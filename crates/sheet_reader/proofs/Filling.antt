@@ -10,9 +10,9 @@ use Rattle.refusal.specs.declared.Place.TheVariants as place
 use Rattle.layout.specs.Whole.{whole_lines, line_at}
 use Rattle.sheet_line.specs.Rules.{parse_line, AcceptedLine}
 use Rattle.sheet_line.specs.declared.Entry.{Entry}
-use Rattle.order.specs.Entries.{first_of, second_of}
+use Rattle.places.specs.Entries.{first_of, second_of}
 use Rattle.order.specs.Order.{key_for}
-use Rattle.order.specs.Places.{table}
+use Rattle.places.specs.Places.{table}
 use Rattle.order.specs.Reading.{untested, reading}
 use Rattle.order.proofs.Lines as lines
 use Rattle.layout.proofs.Lent.{length_line}

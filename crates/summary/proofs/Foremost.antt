@@ -10,10 +10,10 @@ use lib.Seq.{append_snoc}
 use Rattle.std.specs.Prelude.{cond}
 use Rattle.std.specs.Ordering.{is_lt, nat_cmp, on, ord_min, ord_max}
 use Rattle.std.specs.declared.cmp.Ordering.TheVariants.{Less, Equal, Greater}
-use Rattle.search.specs.Pick.{pick}
-use Rattle.search.specs.Each.{Each}
-use Rattle.search.proofs.Picks.{by_test}
-use Rattle.search.proofs.Eaches.{each_append}
+use Rattle.basics.specs.Pick.{pick}
+use Rattle.basics.specs.Each.{Each}
+use Rattle.basics.proofs.Picks.{by_test}
+use Rattle.basics.proofs.Eaches.{each_append}
 use Rattle.summary.specs.Together.{leading, foremost, smaller, larger, FirstBest}
 use Rattle.summary.specs.declared.Accepted.{Accepted}
 

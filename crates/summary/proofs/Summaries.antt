@@ -5,8 +5,8 @@ use Prim.Native.Nat.{ℕ, suc, ◌+◌, ◌*◌, ◌/◌, ◌%◌, ◌≤◌}
 use native.Mathlib.Nat.{div-add-mod', mod-lt}
 use native.Mathlib.Omega.{arith}
 use lib.ListN.{length, length-append}
-use Rattle.search.proofs.Picks.{if_eq, if_ne}
-use Rattle.search.specs.Each.{Each}
+use Rattle.basics.proofs.Picks.{if_eq, if_ne}
+use Rattle.basics.specs.Each.{Each}
 use Rattle.summary.specs.Together.{leading, foremost, smaller, larger, total, summary_of, mean, remainder, SummaryIs}
 use Rattle.summary.specs.declared.Accepted.{Accepted}
 use Rattle.summary.specs.declared.Summary.{Summary}

@@ -6,10 +6,11 @@ use Prim.Native.Nat.{ℕ, ◌+◌, ◌*◌, ◌≤◌, ◌<◌}
 use native.Mathlib.Nat.{mul-pos, mul-le-mul_right, mul-lt-mul_of_pos_right}
 use native.Mathlib.Decide.{dec_le}
 use native.Mathlib.Omega.{arith}
-use Rattle.search.specs.Each.{Each}
-use Rattle.guideline.specs.Fraction.{Fraction, ◌≤ᶠ◌, ◌<ᶠ◌, whole, plus}
-use Rattle.guideline.specs.Buffer.{Sheet, buffer, StrictlyBelowBuffer, buffer_downwards, millionths, allowance, less_allowance, AcceptedSheet}
-use Rattle.guideline.proofs.Demand.{buffer_demand}
+use Rattle.basics.specs.Each.{Each}
+use Rattle.accuracy.specs.Fraction.{Fraction, ◌≤ᶠ◌, ◌<ᶠ◌, whole, plus}
+use Rattle.guideline.specs.Buffer.{Sheet, buffer, AcceptedSheet}
+use Rattle.accuracy.specs.ExactBuffer.{StrictlyBelowBuffer, buffer_downwards, millionths, allowance, less_allowance}
+use Rattle.accuracy.proofs.Demand.{buffer_demand}
 use Rattle.summary.specs.Exact.{Parts, sum_of, StrictlyBelowTotal, total_buffer, allowances, TotalDemand}
 
 -- x − y

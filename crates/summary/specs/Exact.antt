@@ -3,8 +3,9 @@
 -- accepted sheet, each strictly below that sheet's exact buffer.' Assumes nothing.
 use Rattle.std.specs.Prelude.{List, [], ◌∷◌, ℕ, ◌+◌, ◌*◌}
 use Rattle.std.proofs.Common.{arith}
-use Rattle.guideline.specs.Fraction.{Fraction, ◌≤ᶠ◌, whole, plus}
-use Rattle.guideline.specs.Buffer.{Sheet, buffer, StrictlyBelowBuffer, millionths, allowance}
+use Rattle.accuracy.specs.Fraction.{Fraction, ◌≤ᶠ◌, whole, plus}
+use Rattle.guideline.specs.Buffer.{Sheet, buffer}
+use Rattle.accuracy.specs.ExactBuffer.{StrictlyBelowBuffer, millionths, allowance}
 
 -- 'numbers, one for each accepted sheet, each strictly below that sheet's exact buffer'
 abbrev pub Parts : List Sheet → Type 0

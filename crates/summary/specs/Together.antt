@@ -1,8 +1,8 @@
 -- What is said of accepted sheets together. Document 02, #114: 'the number accepted, the smallest buffer, the first sheet that has it, the largest, the
 -- first sheet that has it, the total, the mean in whole cents, its remainder over the count. With none accepted it prints zeros.' Assumes nothing.
 use Rattle.std.specs.Prelude.{◌≡◌, Bool, List, [], ◌∷◌, ◌++◌, ℕ, ◌+◌, ◌*◌, ◌/◌, ◌%◌, ◌≤◌, ◌<◌, eqb, ltb, length}
-use Rattle.search.specs.Pick.{pick}
-use Rattle.search.specs.Each.{Each}
+use Rattle.basics.specs.Pick.{pick}
+use Rattle.basics.specs.Each.{Each}
 use Rattle.summary.specs.declared.Accepted.{Accepted}
 use Rattle.summary.specs.declared.Summary.{Summary}
 

@@ -4,8 +4,8 @@
 
 ghost use Rattle.std.specs.Prelude.{◌≡◌};
 ghost use Rattle.judgement.specs.Judgement.{judgement};
-ghost use Rattle.printing.specs.Printing.{printout};
-ghost use Rattle.sheet_check.specs.Call.{listing_to};
+ghost use Rattle.text_answer.specs.Printing.{printout};
+ghost use Rattle.check_call.specs.Call.{listing_to};
 ghost use Rattle.stdio.specs.Answered.{Prints};
 
 use needs::LONGEST_LISTING;
@@ -39,7 +39,7 @@ fn answer<R: Read, W: Write>(input: &mut R, output: &mut W) -> Result<(), Failur
         |sheet: &[u8]| -> &[u8]
             ensures { result.now ≡ printout (listing_to (judgement sheet.now)) }
         {
-            let length = sheet_check::print_check(sheet, &mut listing);
+            let length = check_call::print_check(sheet, &mut listing);
             &listing[..length]
         },
     )

@@ -3,7 +3,7 @@
 #![tactic(auto)]
 
 ghost use Rattle.std.specs.Prelude.{◌≡◌};
-ghost use Rattle.printing.specs.Printing.{printout};
+ghost use Rattle.text_answer.specs.Printing.{printout};
 ghost use Rattle.convert.specs.Call.{conversion};
 ghost use Rattle.stdio.specs.Answered.{Prints};
 

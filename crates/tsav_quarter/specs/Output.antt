@@ -4,8 +4,8 @@ use Rattle.std.specs.Prelude.{List, ℕ, Option, None, Some, Result, Ok, Err}
 use Rattle.std.specs.Io.KnownBytes.{Appends, Keeps}
 use Rattle.stdio.specs.declared.Failure.{Failure}
 use Rattle.stdio.specs.declared.Failure.TheVariants.{Unread, Unwritten}
-use Rattle.quarter_lines.specs.Printout.{quarter_text}
-use Rattle.quarter_lines.specs.Demand.{QuarterDemand}
+use Rattle.quarter_text.specs.Printout.{quarter_text}
+use Rattle.quarter_text.specs.Demand.{QuarterDemand}
 
 -- of an input s: the output grew by its text. `demand` is a law of that text, whatever the program, and stands here for the reader: its summary, where
 -- it has one, says what it has to

@@ -4,8 +4,8 @@
 
 ghost use Rattle.std.specs.Prelude.{◌≡◌};
 ghost use Rattle.judgement.specs.Judgement.{judgement};
-ghost use Rattle.printing.specs.Printing.{printout};
-ghost use Rattle.aggregate.specs.Call.{answer_to};
+ghost use Rattle.text_answer.specs.Printing.{printout};
+ghost use Rattle.sheet_call.specs.Call.{answer_to};
 ghost use Rattle.stdio.specs.Answered.{Prints};
 
 use report::LONGEST_REPORT;
@@ -39,7 +39,7 @@ fn answer<R: Read, W: Write>(input: &mut R, output: &mut W) -> Result<(), Failur
         |sheet: &[u8]| -> &[u8]
             ensures { result.now ≡ printout (answer_to (judgement sheet.now)) }
         {
-            let length = aggregate::print_sheet(sheet, &mut report);
+            let length = sheet_call::print_sheet(sheet, &mut report);
             &report[..length]
         },
     )

@@ -1,10 +1,10 @@
-// Numbers of two machine words: products, sums, differences and quarters.
+// Numbers of two machine words: products, sums and quarters.
 #![tactic(auto, unfolding(crate::specs::Value::value))]
 
-ghost use Rattle.std.specs.Prelude.{◌≡◌, ◌+◌, ◌*◌, ◌/◌, ◌^◌, ◌<◌, ◌≤◌};
+ghost use Rattle.std.specs.Prelude.{◌≡◌, ◌+◌, ◌*◌, ◌/◌, ◌^◌, ◌<◌};
 ghost use Rattle.wide.specs.Value.{value};
 
-use std::ops::{Add, Mul, Sub};
+use std::ops::{Add, Mul};
 
 // A number of two words: the upper one counts 2^64 each.
 #[derive(Clone, Copy)]
@@ -64,23 +64,6 @@ impl Add for Wide {
         let (low, carry) = self.low.carrying_add(b.low, false);
         Wide {
             high: self.high + b.high + u64::from(carry),
-            low,
-        }
-    }
-}
-
-// The difference from a number that is no larger.
-impl Sub for Wide {
-    type Output = Wide;
-
-    ghost can_sub = { λ a b. value b ≤ value a };
-
-    ghost sub_gives = { λ a b difference. value difference + value b ≡ value a };
-
-    fn sub(self, b: Wide) -> Wide {
-        let (low, borrow) = self.low.borrowing_sub(b.low, false);
-        Wide {
-            high: self.high - b.high - u64::from(borrow),
             low,
         }
     }

@@ -1,11 +1,13 @@
 //! `differential_run SEED COUNT [FIRST]`: the library's calls, through the wrapper, against the reference's, on
-//! COUNT generated sheets, block calls, operational calls, fluctuation calls, conversions, shares calls and checks from number FIRST
-//! on (0 where it isn't given).
+//! COUNT generated sheets, block calls, operational calls, fluctuation calls, conversions, shares calls, checks and movement calls from
+//! number FIRST on (0 where it isn't given), and a quarter call for every eighth number, which has some dozen sheets.
 //!
 //! Compared are the answers and every byte of the lent room, and some bytes on both sides of it, which nobody may
 //! write. On each accepted sheet the library's report must also satisfy demand 3, with each K within 1.01 cents of the exact
 //! one, and each result of a fluctuation call document 02's rule of one cent; each converted sheet must convert back to the first
-//! one; shares must total K and be those of the largest remainders; a listing must list exactly the unmet needs. The same words give the same cases and the same output, however many processors share them.
+//! one; shares must total K and be those of the largest remainders; a listing must list exactly the unmet needs; movements must be near
+//! t, and a quarter's summary be that of its lines, its total near the exact one. The same words give the same cases and the same output,
+//! however many processors share them.
 
 use std::env;
 use std::fmt::{Debug, Write};
@@ -14,8 +16,17 @@ use std::thread;
 
 use reference::generate;
 
-const KINDS: [&str; 7] =
-    ["sheet", "block call", "operational call", "fluctuation call", "conversion", "shares call", "check"];
+const KINDS: [&str; 9] = [
+    "sheet",
+    "block call",
+    "operational call",
+    "fluctuation call",
+    "conversion",
+    "shares call",
+    "check",
+    "movement call",
+    "quarter call",
+];
 
 fn main() -> ExitCode {
     let words: Option<Vec<u64>> = env::args().skip(1).map(|word| word.parse().ok()).collect();
@@ -58,6 +69,10 @@ fn compare(seed: u64, count: u64, first: u64) -> Found {
             found.add(index, 4, convert_case(seed, index));
             found.add(index, 5, shares_case(seed, index));
             found.add(index, 6, check_case(seed, index));
+            found.add(index, 7, movement_case(seed, index));
+            if index.is_multiple_of(8) {
+                found.add(index, 8, quarter_case(seed, index));
+            }
         }
         found
     };
@@ -119,6 +134,10 @@ impl Found {
         writeln!(text, "shares: {divided} blocks, of each the shares total K, all decided by whole numbers").unwrap();
         let listings = self.answers[6][0];
         writeln!(text, "needs: {listings} listings, each of exactly the unmet needs").unwrap();
+        let moved = self.answers[7][0];
+        writeln!(text, "movements: {moved} blocks, no movement of t + 2 or more").unwrap();
+        let quarters = self.answers[8][0];
+        writeln!(text, "quarters: {quarters} summaries, each of its sheets' lines, no total that is too far").unwrap();
         if let Some((index, kind, about)) = &self.first {
             writeln!(text, "first difference: {} {index} of seed {seed}", KINDS[*kind]).unwrap();
             writeln!(text, "{about}again: tests/differential {seed} 1 {index}").unwrap();
@@ -159,7 +178,7 @@ const MARGIN: usize = 32;
 
 /// What the library's call answers and what it leaves in the lent bytes, where both are the reference's.
 fn written(
-    (sheet, room): (&[u8], usize),
+    (input, room): (&[u8], usize),
     index: u64,
     ours: impl Fn(&[u8], &mut [u8]) -> Result<usize, tsav::Error>,
     theirs: impl Fn(&[u8], &mut [u8]) -> Result<usize, reference::Refusal>,
@@ -168,22 +187,22 @@ fn written(
     let before: Vec<u8> = (0..room + 2 * MARGIN).map(|at| (at as u64 * 31).wrapping_add(index) as u8).collect();
     let lent = MARGIN..MARGIN + room;
     let (mut one, mut two) = (before.clone(), before);
-    let ours = ours(sheet, &mut one[lent.clone()]);
-    let theirs = theirs(sheet, &mut two[lent.clone()]);
+    let ours = ours(input, &mut one[lent.clone()]);
+    let theirs = theirs(input, &mut two[lent.clone()]);
 
-    let agreed = agree(|| about(sheet, room), ours, theirs)?;
+    let agreed = agree(|| about(input, room), ours, theirs)?;
     if one != two {
         let (one, two) = (one.escape_ascii(), two.escape_ascii());
         return Err(format!(
             "{}room of the library, {MARGIN} bytes before and behind: b\"{one}\"\nof the reference: b\"{two}\"\n",
-            about(sheet, room)
+            about(input, room)
         ));
     }
     Ok((agreed, one[lent][..ours.unwrap_or(0)].to_vec()))
 }
 
-fn about(sheet: &[u8], room: usize) -> String {
-    format!("sheet: b\"{}\"\nroom: {room}\n", sheet.escape_ascii())
+fn about(input: &[u8], room: usize) -> String {
+    format!("input: b\"{}\"\nroom: {room}\n", input.escape_ascii())
 }
 
 fn sheet_case(seed: u64, index: u64) -> Result<Agreed, String> {
@@ -211,6 +230,26 @@ fn check_case(seed: u64, index: u64) -> Result<Agreed, String> {
     let (agreed, listing) = written((&sheet, room), index, tsav::check, reference::check_call)?;
     if agreed.answer == 0 {
         reference::judge_check(&sheet, &listing).map_err(|why| format!("{}needs: {why}\n", about(&sheet, room)))?;
+    }
+    Ok(agreed)
+}
+
+fn movement_case(seed: u64, index: u64) -> Result<Agreed, String> {
+    let (numbers, room) = generate::movement_case(seed, index);
+    let (agreed, lines) = written((&numbers, room), index, tsav::movement, reference::movement_lines)?;
+    if agreed.answer == 0 {
+        let judged = reference::judge_movements(&numbers, &lines);
+        judged.map_err(|why| format!("{}movements: {why}\n", about(&numbers, room)))?;
+    }
+    Ok(agreed)
+}
+
+fn quarter_case(seed: u64, index: u64) -> Result<Agreed, String> {
+    let (sheets, room) = generate::quarter_case(seed, index);
+    let (agreed, summary) = written((&sheets, room), index, tsav::quarter, reference::quarter_call)?;
+    if agreed.answer == 0 && reference::quarter_refusal(&sheets).is_none() {
+        let judged = reference::judge_quarter(&sheets, &summary);
+        judged.map_err(|why| format!("{}summary: {why}\n", about(&sheets, room)))?;
     }
     Ok(agreed)
 }

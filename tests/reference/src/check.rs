@@ -15,13 +15,8 @@ type Companion = (&'static str, u64, u64);
 
 /// The check call: the length of the listing, and the listing in the lent bytes. A refusal changes none of them.
 pub fn check_call(sheet: &[u8], listing: &mut [u8]) -> Result<usize, Refusal> {
-    let listed = listing_of(sheet)?;
     // "14, last, here means room shorter than the listing".
-    if listing.len() < listed.len() {
-        return Err(Refusal::nowhere(14));
-    }
-    listing[..listed.len()].copy_from_slice(&listed);
-    Ok(listed.len())
+    into_room(&listing_of(sheet)?, listing)
 }
 
 /// What tsav-check is to print: the listing, or the line of the refusal.

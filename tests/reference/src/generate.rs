@@ -1,5 +1,5 @@
 //! A seeded generator of sheets, sound and damaged, and of rooms for their reports; of sheets to convert and to check; of numbers for the
-//! other four calls; and of inputs for the programs of #111 and #114.
+//! other four calls; and of inputs for the calls and programs of #111 and #114.
 //! The same seed and index always give the same case.
 
 use crate::block::{EXPENSES_LT, PC};
@@ -132,6 +132,14 @@ fn without_risks(random: &mut Random, lines: &mut Vec<Line>, block: u64) {
         lines.retain(|l| !l.is("RSK", block, class));
         put(random, lines, Line { code: "RSK", block, class, first: 1, second: 0 });
     }
+}
+
+/// #114: quarter call `index` of `seed`: an input, and the length of the room to lend.
+pub fn quarter_case(seed: u64, index: u64) -> (Vec<u8>, usize) {
+    let input = quarter_input(seed, index);
+    let exact = print_quarter(&input).len();
+    let room = text_room(&mut Random::new(!seed, index), exact);
+    (input, room)
 }
 
 /// #114: input `index` of `seed` of the quarter program: sheets, accepted, refused or broken, and closing lines, whole and broken.
@@ -362,6 +370,18 @@ fn next_to_a_step(random: &mut Random) -> [u64; BLOCK_NUMBERS] {
         numbers[2] = random.from(0, y / 4);
     }
     numbers
+}
+
+/// #111: movement call `index` of `seed`: an input, and the length of the room to lend.
+pub fn movement_case(seed: u64, index: u64) -> (Vec<u8>, usize) {
+    let room = text_room(&mut Random::new(!seed, index), RISKS * REPORT_LINE_BYTES);
+    (movement_input(seed, index), room)
+}
+
+/// Room for a text of so many bytes, mostly.
+fn text_room(random: &mut Random, exact: usize) -> usize {
+    let any = random.at(exact + 100);
+    random.pick(&[0, exact - 1, any, exact, exact, exact, exact, exact + 1, exact + 7, exact + 3_000])
 }
 
 /// #111: input `index` of `seed` of the movement program: a block's numbers and t, sound, with faults, or of any bytes.

@@ -32,10 +32,10 @@ pub use example::{
 };
 pub use fluctuation::{fluctuation_call, fluctuation_cases, judge_fluctuation, FluctuationCase, FLUCTUATION_ROWS};
 pub use mortality::{aggregate, mortality_credit};
-pub use movement::{judge_movements, movement_call, print_movements, Moved, MOVEMENT_INPUT_BYTES};
+pub use movement::{judge_movements, movement_call, movement_lines, print_movements, Moved, MOVEMENT_INPUT_BYTES};
 pub use operational::operational_call;
 pub use quarter::{
-    judge_quarter, print_quarter, quarter_refusal, Judged, CLOSING_LINE, MOST_SHEETS, QUARTER_LINE_BYTES,
+    judge_quarter, print_quarter, quarter_call, quarter_refusal, Judged, CLOSING_LINE, MOST_SHEETS, QUARTER_LINE_BYTES,
 };
 pub use shares::{judge_shares, shares_call, PARTS};
 pub use sheet::{all_lines, print_sheet, report_length, report_line, sheet_call, sheet_line};
@@ -97,6 +97,13 @@ pub const LONGEST_SHEET: usize = MOST_LINES * LINE_BYTES;
 
 /// "The sheet and the report": room for all blocks.
 pub const LONGEST_REPORT: usize = report_length(MOST_BLOCKS);
+
+/// "calls that write into lent room, a refusal writes nothing; accepted, they give the length written": 14, last, where the room is shorter
+/// than the text.
+fn into_room(text: &[u8], room: &mut [u8]) -> Result<usize, Refusal> {
+    room.get_mut(..text.len()).ok_or(Refusal::nowhere(14))?.copy_from_slice(text);
+    Ok(text.len())
+}
 
 /// "What is turned away": a refusal is its number with a line (from 1), a position (from 0) or no place; by #111 also with its
 /// risk, by #114 with the sheet (both from 1).

@@ -56,10 +56,17 @@ fn raised(numbers: &[u64; BLOCK_NUMBERS], risk: usize, t: u64) -> Option<[u64; B
 
 /// What the program is to print: seven lines, or the REF line of a refusal alone.
 pub fn print_movements(input: &[u8]) -> Vec<u8> {
-    match movement_call(input) {
-        Err(refusal) => refusal.line(),
-        Ok(movements) => (1..).zip(movements).flat_map(|(risk, movement)| movement_line(risk, movement)).collect(),
-    }
+    risk_lines(input).unwrap_or_else(Refusal::line)
+}
+
+/// The seven lines in lent room; what refuses the whole refuses the call.
+pub fn movement_lines(input: &[u8], movements: &mut [u8]) -> Result<usize, Refusal> {
+    into_room(&risk_lines(input)?, movements)
+}
+
+fn risk_lines(input: &[u8]) -> Result<Vec<u8>, Refusal> {
+    let movements = movement_call(input)?;
+    Ok((1..).zip(movements).flat_map(|(risk, movement)| movement_line(risk, movement)).collect())
 }
 
 /// "a report line, MOV, 0 and the risk, a minus right before a fall"; or the REF line "in that MOV line's place".

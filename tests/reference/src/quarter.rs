@@ -67,6 +67,11 @@ pub fn print_quarter(input: &[u8]) -> Vec<u8> {
     printed
 }
 
+/// The same in lent room: "the sheets before it are answered", so that 24 and 25 refuse no call.
+pub fn quarter_call(input: &[u8], summary: &mut [u8]) -> Result<usize, Refusal> {
+    into_room(&print_quarter(input), summary)
+}
+
 /// TOT item 3 of the sheet's report.
 fn buffer_of(sheet: &[u8]) -> Result<u64, Refusal> {
     let mut report = vec![0; LONGEST_REPORT];

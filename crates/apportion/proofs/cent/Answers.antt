@@ -2,7 +2,7 @@
 use mathlib.Core.Path.{ap, ◌∙◌}
 use Prim.Native.Nat.{ℕ}
 use lib.Dec.{ltb}
-use Rattle.search.specs.Total.{one}
+use Rattle.basics.specs.Total.{one}
 use Rattle.apportion.proofs.Parts.{as_number}
 use Rattle.apportion.proofs.cent.Goals as goal
 

@@ -2,9 +2,9 @@
 use mathlib.Core.Path.{◌≡◌, refl}
 use native.Mathlib.Omega.{arith}
 use Rattle.std.proofs.lemmas.List.{map-set}
-use Rattle.search.specs.Total.{sum_to}
-use Rattle.search.proofs.Ascents.{listed_start, listed_more, listed_all}
-use Rattle.guideline.specs.Sizes.{parts}
+use Rattle.basics.specs.Total.{sum_to}
+use Rattle.basics.proofs.Ascents.{listed_start, listed_more, listed_all}
+use Rattle.sizes.specs.Sizes.{parts}
 use Rattle.apportion.proofs.Parts.{margin_within, base_is, remainder_is, takes, left_after, left_all}
 use Rattle.apportion.proofs.divided.Goals as goal
 

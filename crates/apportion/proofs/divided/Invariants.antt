@@ -1,8 +1,8 @@
 use mathlib.Core.Path.{◌≡◌}
 use Prim.Native.Nat.{◌+◌}
-use Rattle.search.specs.Total.{sum_to}
-use Rattle.search.proofs.Ascents.{Listed}
-use Rattle.guideline.specs.Sizes.{parts}
+use Rattle.basics.specs.Total.{sum_to}
+use Rattle.basics.proofs.Ascents.{Listed}
+use Rattle.sizes.specs.Sizes.{parts}
 use Rattle.apportion.specs.Shares.{value_of_part, base, remainder}
 use Rattle.apportion.specs.Steps.{quotients, rests}
 use Rattle.apportion.proofs.divided.Given as goal

@@ -9,9 +9,9 @@ use borrow.Author.Tests.{lt-ltb, le-ltb, eq-eqb, ne_eqb}
 use Rattle.std.specs.Prelude.{cond, Some}
 use Rattle.std.specs.Ordering.{is_some_and, is_lt, partial_ordering_then}
 use Rattle.std.specs.declared.cmp.Ordering.{Ordering}
-use Rattle.search.specs.Pick.{pick}
-use Rattle.search.specs.Total.{one}
-use Rattle.search.proofs.Picks.{if_eq, if_ne}
+use Rattle.basics.specs.Pick.{pick}
+use Rattle.basics.specs.Total.{one}
+use Rattle.basics.proofs.Picks.{if_eq, if_ne}
 use Rattle.apportion.proofs.Parts.{as_number}
 use Rattle.apportion.proofs.one_before.Goals as goal
 

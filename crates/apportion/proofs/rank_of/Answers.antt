@@ -2,9 +2,9 @@
 use mathlib.Core.Path.{◌≡◌, refl}
 use Prim.Native.Nat.{◌+◌}
 use native.Mathlib.Omega.{arith}
-use Rattle.search.specs.Total.{sum_to, one, count_to}
-use Rattle.search.proofs.Totals.{sum_step, count_most}
-use Rattle.guideline.specs.Sizes.{parts}
+use Rattle.basics.specs.Total.{sum_to, one, count_to}
+use Rattle.basics.proofs.Totals.{sum_step, count_most}
+use Rattle.sizes.specs.Sizes.{parts}
 use Rattle.apportion.specs.Shares.{value_of_part, before, rank}
 use Rattle.apportion.specs.Steps.{rests}
 use Rattle.apportion.proofs.Parts.{counted}

@@ -1,5 +1,5 @@
 use mathlib.Core.Path.{◌≡◌}
-use Rattle.search.specs.Total.{count_to}
+use Rattle.basics.specs.Total.{count_to}
 use Rattle.apportion.specs.Shares.{value_of_part, before}
 use Rattle.apportion.specs.Steps.{rests}
 use Rattle.apportion.proofs.rank_of.Given as goal

@@ -3,9 +3,9 @@ use mathlib.Core.Path.{refl, sym}
 use Prim.Native.Nat.{◌+◌}
 use native.Mathlib.Omega.{arith}
 use lib.Dec.{ltb}
-use Rattle.search.proofs.Totals.{one_most}
-use Rattle.search.proofs.Ascents.{listed_start, listed_more}
-use Rattle.guideline.specs.Sizes.{parts}
+use Rattle.basics.proofs.Totals.{one_most}
+use Rattle.basics.proofs.Ascents.{listed_start, listed_more}
+use Rattle.sizes.specs.Sizes.{parts}
 use Rattle.apportion.specs.Shares.{value_of_part, rank}
 use Rattle.apportion.specs.Steps.{quotients, rests}
 use Rattle.apportion.proofs.Parts.{quotient_at, part_within}

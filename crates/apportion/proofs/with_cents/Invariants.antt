@@ -1,8 +1,8 @@
 use Prim.Native.Nat.{◌+◌}
 use lib.Dec.{ltb}
-use Rattle.search.specs.Total.{one}
-use Rattle.search.proofs.Ascents.{Listed}
-use Rattle.guideline.specs.Sizes.{parts}
+use Rattle.basics.specs.Total.{one}
+use Rattle.basics.proofs.Ascents.{Listed}
+use Rattle.sizes.specs.Sizes.{parts}
 use Rattle.apportion.specs.Shares.{value_of_part, rank}
 use Rattle.apportion.specs.Steps.{quotients, rests}
 use Rattle.apportion.proofs.with_cents.Given as goal

@@ -4,7 +4,7 @@ use mathlib.Core.Bool.{true, false}
 use borrow.Author.Rules.{rules}
 use borrow.Author.Tests.{tests}
 use Rattle.std.proofs.lemmas.Iterator.{first_from_find, YieldsList-from_range}
-use Rattle.guideline.specs.Sizes.{risks}
+use Rattle.sizes.specs.Sizes.{risks}
 use Rattle.block.specs.Call.{lt_above}
 use Rattle.block.proofs.Rules.{first_pair}
 use Rattle.block.proofs.first_lt_above.Goals as goal

@@ -2,8 +2,8 @@
 use mathlib.Core.Path.{refl, sym, ap, ◌∙◌}
 use native.Mathlib.Omega.{arith}
 use Rattle.std.proofs.lemmas.Result.{err_from_is_err_and}
-use Rattle.order.specs.Marks.{marks_of}
-use Rattle.printing.specs.Lent.{stated}
+use Rattle.places.specs.Marks.{marks_of}
+use Rattle.text_answer.specs.Lent.{stated}
 use Rattle.convert.proofs.Calls.{lines_turned, lines_short, lines_written}
 use Rattle.convert.proofs.convert_lines.Goals as goal
 

@@ -2,10 +2,10 @@
 use mathlib.Core.Path.{◌≡◌, refl}
 use Prim.Native.Nat.{◌+◌}
 use native.Mathlib.Omega.{arith}
-use Rattle.search.specs.Total.{sum_to}
-use Rattle.search.proofs.Totals.{sum_most}
+use Rattle.basics.specs.Total.{sum_to}
+use Rattle.basics.proofs.Totals.{sum_most}
 use Rattle.amount.specs.Amount.{limit}
-use Rattle.guideline.specs.Sizes.{adjustable_products}
+use Rattle.sizes.specs.Sizes.{adjustable_products}
 use Rattle.codes.specs.declared.Code.TheVariants.{Crd}
 use Rattle.ledger.specs.Numbers.{adjustable_credit}
 use Rattle.ledger.proofs.Bounds.{first_most}

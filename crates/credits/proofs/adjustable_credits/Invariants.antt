@@ -1,5 +1,5 @@
 use mathlib.Core.Path.{◌≡◌}
-use Rattle.search.specs.Total.{sum_to}
+use Rattle.basics.specs.Total.{sum_to}
 use Rattle.ledger.specs.Numbers.{adjustable_credit}
 use Rattle.ledger.specs.Lines.{OfLines}
 use Rattle.credits.proofs.adjustable_credits.Given as goal

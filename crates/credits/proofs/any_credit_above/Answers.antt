@@ -4,9 +4,9 @@ use Rattle.std.proofs.lemmas.Iterator.{cases_from_any, YieldsList-from_range}
 use borrow.Author.Tests.{tests}
 use lib.Dec.{ltb}
 use Rattle.codes.specs.declared.Code.TheVariants.{Rsk}
-use Rattle.order.specs.Places.{tabled}
-use Rattle.guideline.specs.Sizes.{non_participating}
-use Rattle.search.proofs.Ranges.{any_below}
+use Rattle.places.specs.Places.{tabled}
+use Rattle.sizes.specs.Sizes.{non_participating}
+use Rattle.basics.proofs.Ranges.{any_below}
 use Rattle.credits.specs.Credits.{credit_above}
 use Rattle.credits.proofs.Credits.{above_is}
 use Rattle.credits.proofs.any_credit_above.Goals as goal

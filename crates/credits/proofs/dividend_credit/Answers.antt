@@ -2,7 +2,7 @@
 use mathlib.Core.Path.{sym, ◌∙◌}
 use Rattle.codes.specs.declared.Code.TheVariants.{Crd}
 use Rattle.ledger.proofs.Tables.{amount_is}
-use Rattle.order.proofs.Keys.{dividend_key}
+use Rattle.places.proofs.Keys.{dividend_key}
 use Rattle.credits.proofs.Credits.{no_dividend}
 use Rattle.credits.proofs.dividend_credit.Goals as goal
 

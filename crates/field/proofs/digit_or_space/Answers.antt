@@ -1,5 +1,5 @@
 -- Nothing is left of a number exactly where it is 0: the branch on that is the definition's own test. Assumes nothing.
-use Rattle.search.proofs.Sides.{tests}
+use Rattle.basics.proofs.Sides.{tests}
 use Rattle.field.specs.Field.{digit_or_space}
 use Rattle.field.proofs.digit_or_space.Goals as goal
 

@@ -3,8 +3,8 @@ use mathlib.Core.Path.{◌≡◌, sym, ap, ◌∙◌}
 use Prim.Native.Nat.{ℕ, ◌-◌, ◌*◌, ◌<◌}
 use native.Mathlib.Omega.{arith}
 use lib.Dec.{leb}
-use Rattle.search.specs.Least.{least}
-use Rattle.guideline.specs.Sizes.{fineness}
+use Rattle.basics.specs.Least.{least}
+use Rattle.sizes.specs.Sizes.{fineness}
 use Rattle.guideline.proofs.Figures.{requirement_none}
 use Rattle.wide.specs.Value.{value}
 use Rattle.figures.proofs.Numerator.{tenth_of_m, m_fits, requirement_is}

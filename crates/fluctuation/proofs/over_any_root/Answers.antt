@@ -4,7 +4,7 @@ use mathlib.Core.Path.{◌≡◌, ◌∙◌}
 use Prim.Native.Nat.{ℕ, ◌+◌, ◌*◌, ◌≤◌, ◌<◌}
 use native.Mathlib.Omega.{arith}
 use lib.Dec.{leb}
-use Rattle.search.specs.Least.{least}
+use Rattle.basics.specs.Least.{least}
 use Rattle.wide.specs.Value.{value}
 use Rattle.fluctuation.specs.Result.{scale}
 use Rattle.fluctuation.specs.Parts.{most_twentieths}

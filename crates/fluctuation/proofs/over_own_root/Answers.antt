@@ -2,11 +2,11 @@
 use mathlib.Core.Path.{◌∙◌}
 use Prim.Native.Nat.{◌*◌}
 use lib.Dec.{leb}
-use Rattle.search.specs.Least.{least}
+use Rattle.basics.specs.Least.{least}
 use Rattle.fluctuation.proofs.Radicand.{own_root_same}
 use Rattle.fluctuation.proofs.over_own_root.Goals as goal
 
 pub returns : goal.returns
 returns c =
     let e = c.product.ensures in
-    c.root_up.ensures ∙ (λ i. least (λ x. leb (e i) (x * x))) ∙ own_root_same c.args.second c.args.base c.requires.1.positive
+    c.root_up.ensures ∙ (λ i. least (λ x. leb (e i) (x * x))) ∙ own_root_same c.args.second c.args.base c.requires.1

@@ -7,8 +7,8 @@ use lib.IntN.{ℤ, pos}
 use mir.Syntax.{w8, w64}
 use mir.Val.{to_z, of_z}
 use mir.ValLaws.{to_z-of_z}
-use Rattle.search.proofs.Values.{values, values_at}
-use Rattle.guideline.specs.Sizes.{products}
+use Rattle.basics.proofs.Values.{values, values_at}
+use Rattle.sizes.specs.Sizes.{products}
 use Rattle.guideline.specs.Factors.{factors, factor}
 use Rattle.guideline.proofs.Table.{factor_small, small_fits}
 use Rattle.guideline.proofs.factor_at.Goals as goal

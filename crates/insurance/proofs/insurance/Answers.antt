@@ -4,7 +4,7 @@ use mathlib.Core.Path.{◌≡◌, sym, ap, ◌∙◌, subst}
 use mathlib.Core.List.{List}
 use Prim.Native.Nat.{ℕ, max, ◌+◌, ◌*◌, ◌≤◌}
 use native.Mathlib.Omega.{arith}
-use Rattle.guideline.specs.Sizes.{fineness}
+use Rattle.sizes.specs.Sizes.{fineness}
 use Rattle.guideline.specs.Block.{largest_of, largest, root, fine_i}
 use Rattle.wide.specs.Value.{value}
 use Rattle.root.specs.Steps.{steps}

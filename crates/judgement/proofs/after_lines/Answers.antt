@@ -5,7 +5,7 @@ use mathlib.Core.Bool.{true}
 use Rattle.codes.specs.Codes.{scalar_class}
 use Rattle.codes.specs.declared.Code.TheVariants.{Gen}
 use Rattle.sheet_line.specs.declared.Entry.{Entry}
-use Rattle.order.specs.Entries.{has_line}
+use Rattle.places.specs.Entries.{has_line}
 use Rattle.ledger.specs.Lines.{Holds}
 use Rattle.ledger.proofs.Tables.{scalar_is}
 use Rattle.judgement.proofs.Rules.{no_scalar, credit_above_lem, credits_pass}

@@ -4,8 +4,8 @@ use mathlib.Core.List.{List}
 use mathlib.Core.Bool.{false}
 use Prim.Native.Nat.{◌+◌, ◌-◌, ◌≤◌}
 use native.Mathlib.Omega.{arith}
-use Rattle.search.specs.First.{any_to}
-use Rattle.guideline.specs.Sizes.{blocks}
+use Rattle.basics.specs.First.{any_to}
+use Rattle.sizes.specs.Sizes.{blocks}
 use Rattle.guideline.specs.Buffer.{free, available, most_available}
 use Rattle.sheet_line.specs.declared.Entry.{Entry}
 use Rattle.judgement.specs.Sheet.{sheet_of}

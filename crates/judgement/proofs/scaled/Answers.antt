@@ -2,7 +2,7 @@
 use mathlib.Core.Path.{◌≡◌}
 use Prim.Native.Nat.{◌+◌, ◌*◌, ◌/◌, ◌%◌}
 use native.Mathlib.Omega.{arith}
-use Rattle.guideline.specs.Sizes.{ten_thousandths}
+use Rattle.sizes.specs.Sizes.{ten_thousandths}
 use Rattle.guideline.proofs.Totals.{buffer_split}
 use Rattle.judgement.proofs.scaled.Goals as goal
 

@@ -1,6 +1,6 @@
 use Prim.Native.Nat.{◌+◌}
 use Rattle.codes.specs.declared.Code.TheVariants.{Rsk}
-use Rattle.order.specs.Places.{tabled}
+use Rattle.places.specs.Places.{tabled}
 use Rattle.ledger.proofs.Numbers.{Copied}
 use Rattle.ledger.proofs.block_numbers.Given as goal
 

@@ -1,5 +1,5 @@
 use Prim.Native.Nat.{◌*◌}
-use Rattle.guideline.specs.Sizes.{volume_classes}
+use Rattle.sizes.specs.Sizes.{volume_classes}
 use Rattle.ledger.proofs.Numbers.{Joined}
 use Rattle.ledger.proofs.volume_numbers.Given as goal
 

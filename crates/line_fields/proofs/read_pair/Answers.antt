@@ -1,6 +1,6 @@
 -- The columns are their two bytes. Assumes nothing.
 use mathlib.Core.Path.{sym, ap, ◌∙◌}
-use Rattle.search.proofs.Values.{values, is_values}
+use Rattle.basics.proofs.Values.{values, is_values}
 use Rattle.field.specs.Field.{field}
 use Rattle.line_fields.proofs.read_pair.Goals as goal
 

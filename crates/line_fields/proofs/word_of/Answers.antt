@@ -1,6 +1,6 @@
 -- The word of the columns is made of those of the first four, of the next two and of the last eight. Assumes nothing.
 use native.Mathlib.Omega.{arith}
-use Rattle.search.proofs.Values.{values}
+use Rattle.basics.proofs.Values.{values}
 use Rattle.line_fields.proofs.Columns.{joined}
 use Rattle.line_fields.proofs.word_of.Goals as goal
 

@@ -7,12 +7,12 @@ use Rattle.std.specs.Prelude.{Result}
 use Rattle.std.proofs.lemmas.Result.{err_from_is_err_and}
 use Rattle.refusal.specs.declared.Refusal.{Refusal}
 use Rattle.guideline.specs.declared.Block.{Block}
-use Rattle.guideline.specs.Sizes.{block_numbers}
+use Rattle.sizes.specs.Sizes.{block_numbers}
 use Rattle.figures.specs.Parts.{figures_are}
 use Rattle.block.specs.Call.{stated_block, block_call}
 use Rattle.movement_input.specs.Reading.{block_of}
 use Rattle.movement_input.proofs.Numbers.{length_numbers}
-use Rattle.movement.proofs.Calls.{wrong_length, broken_line, block_refused, all_told, promised}
+use Rattle.movement.proofs.Calls.{wrong_length, broken_line, block_refused, no_room, all_told, promised}
 use Rattle.movement.proofs.movement_call.Goals.{After-accepted_block}
 use Rattle.movement.proofs.movement_call.Goals as goal
 
@@ -30,8 +30,11 @@ returns-in-Some-first_broken c =
 
 pub write_movements-requires : goal.write_movements-requires
 write_movements-requires c =
-    let read = c.in_ok-block.ensures.numbers ∙ c.block_of.ensures in
-    (ap length read ∙ length_numbers _ block_numbers, (figures_are _ _ c.figures_of-figures.ensures).4, omega arith)
+    let read = c.in_ok-block.ensures.numbers ∙ c.block_of.ensures in (
+      ap length read ∙ length_numbers _ block_numbers,
+      (figures_are _ _ c.figures_of-figures.ensures).4,
+      omega (arith, c.if-room-lt-MOVEMENT_BYTES.false),
+    )
 
 pub returns-in_err-block : goal.returns-in_err-block
 returns-in_err-block c =
@@ -40,10 +43,18 @@ returns-in_err-block c =
     let p = err_from_is_err_and c.from_residual.result c.from_residual.ensures.1 in
     rw (p.1, p.2, ← w.same) (promised _ _ _ (block_refused _ _ (ap length w.same ∙ w.long) c.in_default-first_broken.ensures e))
 
+pub returns-then-room-lt-MOVEMENT_BYTES : goal.returns-then-room-lt-MOVEMENT_BYTES
+returns-then-room-lt-MOVEMENT_BYTES c =
+    let w = c.in-Some.ensures.cases in
+    let e = said (goal.at.returns-then-room-lt-MOVEMENT_BYTES c).After-accepted_block _ c.in_ok-block.was in
+    rw (← w.same)
+    (promised _ _ _
+    (no_room _ _ (ap length w.same ∙ w.long) c.in_default-first_broken.ensures e (omega (arith, c.if-room-lt-MOVEMENT_BYTES.true))))
+
 pub returns : goal.returns
 returns c =
     let w = c.in-Some.ensures.cases in
     rw (← w.same)
     (promised _ _ _
     (all_told _ _ (ap length w.same ∙ w.long) c.in_default-first_broken.ensures (said (goal.at.returns c).After-accepted_block _ c.in_ok-block.was)
-    (omega arith) (c.in_ok-block.ensures.numbers ∙ c.block_of.ensures) c.number_at-raise.ensures c.write_movements.ensures))
+    (omega (arith, c.if-room-lt-MOVEMENT_BYTES.false)) (c.in_ok-block.ensures.numbers ∙ c.block_of.ensures) c.number_at-raise.ensures c.write_movements.ensures))

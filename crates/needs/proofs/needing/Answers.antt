@@ -1,20 +1,32 @@
--- The tests go as the definition's do. Assumes nothing.
-use Rattle.search.proofs.Sides.{tests}
-use Rattle.needs.specs.Needing.{needing}
+-- Each arm is that of the number, and its companion what the line needs. Assumes nothing.
+use mathlib.Core.Path.{sym, ◌∙◌}
+use native.Mathlib.Omega.{arith}
+use Rattle.needs.proofs.Numbered.{keyed, is_mor, is_vol, is_acq, is_crd, segregated_need, block_need}
 use Rattle.needs.proofs.needing.Goals as goal
 
+pub invariant_of-result : goal.invariant_of-result
+invariant_of-result c =
+    record {
+      key = rw (c.new-line.ensures ∙ sym (is_crd _ c.if-n-gt-LAST_ACQ.true)) (keyed _ c.requires.0 c.requires.1);
+      needed = rw (c.new-line.ensures, c.new-companion.ensures) (block_need _ (λ e. omega arith));
+    }
+
 pub returns-then-n-gt-LAST_ACQ : goal.returns-then-n-gt-LAST_ACQ
-unfolding needing
-returns-then-n-gt-LAST_ACQ c = search tests
+returns-then-n-gt-LAST_ACQ c = c.new-line.ensures ∙ sym (is_crd _ c.if-n-gt-LAST_ACQ.true)
 
 pub returns-then-n-gt-LAST_VOL : goal.returns-then-n-gt-LAST_VOL
-unfolding needing
-returns-then-n-gt-LAST_VOL c = search tests
+returns-then-n-gt-LAST_VOL c = c.new-line-then-n-gt-LAST_VOL.ensures ∙ sym (is_acq _ c.if-n-gt-LAST_VOL.true c.if-n-gt-LAST_ACQ.false)
+
+pub invariant_of-result-then-n-gt-LAST_MOR : goal.invariant_of-result-then-n-gt-LAST_MOR
+invariant_of-result-then-n-gt-LAST_MOR c =
+    record {
+      key = rw (c.new-line-then-n-gt-LAST_MOR.ensures ∙ sym (is_vol _ c.if-n-gt-LAST_MOR.true c.if-n-gt-LAST_VOL.false)) (keyed _ c.requires.0 c.requires.1);
+      needed = rw (c.new-line-then-n-gt-LAST_MOR.ensures, c.new-companion-then-n-gt-LAST_MOR.ensures) segregated_need;
+    }
 
 pub returns-then-n-gt-LAST_MOR : goal.returns-then-n-gt-LAST_MOR
-unfolding needing
-returns-then-n-gt-LAST_MOR c = search tests
+returns-then-n-gt-LAST_MOR c =
+    c.new-line-then-n-gt-LAST_MOR.ensures ∙ sym (is_vol _ c.if-n-gt-LAST_MOR.true c.if-n-gt-LAST_VOL.false)
 
-pub returns-else-n-gt-LAST_MOR : goal.returns-else-n-gt-LAST_MOR
-unfolding needing
-returns-else-n-gt-LAST_MOR c = search tests
+pub returns : goal.returns
+returns c = c.new-line-2.ensures ∙ sym (is_mor _ c.if-n-gt-LAST_MOR.false)

@@ -3,7 +3,7 @@ use mathlib.Core.Path.{◌≡◌, sym, ap, ◌∙◌}
 use Prim.Native.Nat.{ℕ, ◌+◌, ◌-◌, ◌*◌, ◌/◌, ◌≤◌}
 use native.Mathlib.Omega.{arith}
 use lib.ListN.{length}
-use Rattle.guideline.specs.Sizes.{volume_pairs}
+use Rattle.sizes.specs.Sizes.{volume_pairs}
 use Rattle.guideline.specs.Operational.{current, prior}
 use Rattle.guideline.proofs.Charges.{charged, charged_none, charged_all, charged_more, charged_fits, factor_most}
 use Rattle.operational.proofs.business.Goals.{After-charge-sum}

@@ -3,7 +3,7 @@ use mathlib.Core.Path.{◌∙◌}
 use Prim.Native.Nat.{◌+◌, ◌*◌, ◌^◌, ◌≤◌}
 use native.Mathlib.Omega.{arith}
 use lib.Dec.{leb}
-use Rattle.search.specs.Least.{least}
+use Rattle.basics.specs.Least.{least}
 use Rattle.guideline.specs.Operational.{RO, operational_numerator, operational_denominator}
 use Rattle.guideline.proofs.Charges.{numerator_fits}
 use Rattle.operational.proofs.operational.Goals.{After-general_requirement}

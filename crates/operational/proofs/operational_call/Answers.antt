@@ -4,7 +4,7 @@ use mathlib.Core.Path.{◌≡◌, sym, ap, ◌∙◌}
 use mathlib.Core.List.{[], ◌∷◌}
 use Prim.Native.Nat.{ℕ}
 use native.Mathlib.Omega.{arith}
-use Rattle.search.proofs.Picks.{if_lt, if_ge, if_ne}
+use Rattle.basics.proofs.Picks.{if_lt, if_ge, if_ne}
 use Rattle.refusal.specs.Outcome.Outcome.{accepted}
 use Rattle.operational.specs.Call.{rule7, operational_call}
 use Rattle.operational.proofs.Rules.{passed_15, in_volumes, in_general, passed_7, amounts}

@@ -3,9 +3,9 @@ use mathlib.Core.Path.{◌≡◌}
 use Prim.Native.Nat.{◌+◌, ◌≤◌}
 use native.Mathlib.Omega.{arith}
 use lib.ListN.{length}
-use Rattle.search.proofs.Stretches.{stretch_long}
+use Rattle.basics.proofs.Stretches.{stretch_long}
 use Rattle.report_line.specs.Line.{line_bytes}
-use Rattle.quarter_lines.specs.Printout.{columns}
+use Rattle.quarter_text.specs.Printout.{columns}
 use Rattle.quarter.specs.Steps.{lines_long, longest_output}
 use Rattle.quarter.proofs.Taking.{at_first, of_held, out_is, held_within, few, line_fits, taken_all, taken_many, taken_on, taken_next, taken_over}
 use Rattle.quarter.proofs.take_chunk.Goals.{In-Break}

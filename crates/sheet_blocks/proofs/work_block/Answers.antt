@@ -5,11 +5,11 @@ use Prim.Native.Nat.{◌+◌, ◌*◌, ◌≤◌, ◌<◌}
 use native.Mathlib.Omega.{arith}
 use lib.ListN.{length}
 use Rattle.amount.specs.Amount.{limit}
-use Rattle.guideline.specs.Sizes.{blocks}
+use Rattle.sizes.specs.Sizes.{blocks}
 use Rattle.guideline.specs.Block.{K, figures_of}
 use Rattle.figures.specs.Parts.{figure_list, figures_are}
 use Rattle.sheet_line.specs.declared.Entry.{Entry}
-use Rattle.order.specs.Entries.{exists}
+use Rattle.places.specs.Entries.{exists}
 use Rattle.ledger.specs.Numbers.{dividend_credit}
 use Rattle.credits.specs.Credits.{after_credit}
 use Rattle.ledger.specs.Lines.{Holds}

@@ -2,8 +2,8 @@
 use Rattle.std.proofs.Common.{ap, rules, arith}
 use Rattle.sheet_length.specs.Measured.{longest_sheet}
 use Rattle.judgement.proofs.Lengths.{above_limit}
-use Rattle.printing.specs.Printing.{printout}
-use Rattle.sheet_check.specs.Call.{listing_to}
+use Rattle.text_answer.specs.Printing.{printout}
+use Rattle.check_call.specs.Call.{listing_to}
 use Rattle.stdio.proofs.Printed.{prints}
 use Rattle.tsav_check.proofs.answer.Goals as goal
 

@@ -3,8 +3,8 @@ use Rattle.std.proofs.Common.{◌≡◌, ℕ, ◌<◌, List, length, ap, rules, 
 use Rattle.refusal.specs.declared.Place.TheVariants.{Nowhere}
 use Rattle.sheet_length.specs.Measured.{longest_sheet}
 use Rattle.sheet_length.proofs.Measures.{too_long}
-use Rattle.printing.specs.Lent.Text.{no_text}
-use Rattle.printing.specs.Printing.{printout}
+use Rattle.text_answer.specs.Lent.Text.{no_text}
+use Rattle.text_answer.specs.Printing.{printout}
 use Rattle.convert.specs.Call.{conversion}
 use Rattle.stdio.proofs.Printed.{prints}
 use Rattle.tsav_convert.proofs.answer.Goals as goal

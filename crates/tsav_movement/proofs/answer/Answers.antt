@@ -1,10 +1,10 @@
 -- What the call leaves of the bytes read is printed, and all inputs that are too long are refused alike. Assumes nothing.
 use Rattle.std.proofs.Common.{◌≡◌, ℕ, ◌<◌, List, length, ap, rules, arith}
-use Rattle.search.proofs.Picks.{if_ne}
+use Rattle.basics.proofs.Picks.{if_ne}
 use Rattle.refusal.specs.declared.Place.TheVariants.{Nowhere}
 use Rattle.movement_input.specs.Reading.{input_bytes}
-use Rattle.printing.specs.Lent.Text.{no_text}
-use Rattle.printing.specs.Printing.{printout}
+use Rattle.text_answer.specs.Lent.Text.{no_text}
+use Rattle.text_answer.specs.Printing.{printout}
 use Rattle.movement.specs.Call.{movements}
 use Rattle.stdio.proofs.Printed.{prints}
 use Rattle.tsav_movement.proofs.answer.Goals as goal

@@ -7,8 +7,8 @@ use Rattle.stdio.specs.declared.Failure.{Failure}
 use Rattle.stdio.specs.declared.Failure.TheVariants.{Unread, Unwritten}
 use Rattle.quarter.specs.declared.Quarter.{Quarter}
 use Rattle.quarter.specs.Steps.{After, Finished}
-use Rattle.quarter_lines.specs.Printout.{quarter_text}
-use Rattle.quarter_lines.specs.Demand.{QuarterDemand}
+use Rattle.quarter_text.specs.Printout.{quarter_text}
+use Rattle.quarter_text.specs.Demand.{QuarterDemand}
 use Rattle.tsav_quarter.specs.Input.{TakenAll}
 use Rattle.tsav_quarter.specs.Output.{Summarized, PrintsQuarter}
 use Rattle.tsav_quarter.proofs.answer.Goals as goal

@@ -1,7 +1,7 @@
 -- The raise passes the limit, or the raised block is accepted and its K is told beside k. Assumes nothing.
 use mathlib.Core.Path.{ap, ◌∙◌}
 use native.Mathlib.Omega.{arith}
-use Rattle.guideline.specs.Sizes.{number_columns}
+use Rattle.sizes.specs.Sizes.{number_columns}
 use Rattle.guideline.specs.Block.{K}
 use Rattle.figures.specs.Parts.{figures_are}
 use Rattle.report_line.proofs.Filled.{in_columns}

@@ -1,0 +1,44 @@
+"""`tsav export`: a sheet as rows (CSV) or as a workbook, which `tsav import` makes the same sheet of, byte for byte."""
+
+import tsav
+from tsav.command import csvfile, files, form
+from tsav.command.answer import DONE, REFUSED, Answer
+from tsav.command.columns import LENGTH, read
+from tsav.command.messages import _, ngettext
+
+NAME = "export"
+
+
+def add(commands, common) -> None:
+    parser = commands.add_parser(
+        NAME,
+        parents=[common],
+        allow_abbrev=False,
+        help=_("write a sheet as CSV or as a workbook"),
+        description=_("Writes the lines of an accepted sheet as rows in dollars; tsav import makes the same sheet of them."),
+    )
+    parser.add_argument("file", metavar=_("SHEET"), help=_("the sheet; - is standard input"))
+    parser.add_argument("-o", "--output", metavar=_("FILE"), required=True, help=_("what is written, by its ending: .csv or .xlsx"))
+    parser.set_defaults(run=run)
+
+
+def run(options) -> Answer:
+    ending = files.ending(options.output, ".csv", ".xlsx")
+    files.differ(options.file, options.output)
+    sheet = files.read(options.file, tsav.LONGEST_SHEET)
+    try:
+        tsav.sheet(sheet)
+    except tsav.Refused as refusal:
+        return _refused(options.file, refusal)
+    lines = [read(sheet[at : at + LENGTH]) for at in range(0, len(sheet), LENGTH)]
+    files.write(options.output, (csvfile if ending == ".csv" else form).content(lines))
+    text = ngettext("{file}: {count} row.", "{file}: {count} rows.", len(lines)).format(file=options.output, count=len(lines))
+    return Answer(DONE, text + "\n", {"written": options.output, "rows": len(lines)})
+
+
+def _refused(file: str, refusal) -> Answer:
+    text = _("{file} is refused by {number}, and nothing is written; tsav explain says why.")
+    if refusal.line is not None:
+        text = _("{file} is refused by {number} at line {line}, and nothing is written; tsav explain says why.")
+    text = text.format(file=files.shown(file), number=refusal.number, line=refusal.line)
+    return Answer(REFUSED, text + "\n", {"written": None, "refusal": refusal.number, "line": refusal.line})

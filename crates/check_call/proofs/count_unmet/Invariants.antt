@@ -1,0 +1,7 @@
+use mathlib.Core.Path.{◌≡◌}
+use Prim.Native.Nat.{◌-◌}
+use Rattle.check_call.specs.Walk.{counted_to}
+use Rattle.check_call.proofs.count_unmet.Given as goal
+
+abbrev pub invariant-loop-n : goal.invariant-loop-n
+invariant-loop-n l = l.count ≡ counted_to l.ledger.firsts l.ledger.seconds (l.n - 1)

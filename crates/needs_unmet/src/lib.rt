@@ -1,0 +1,54 @@
+// Whether a line's need is unmet, by the tables that hold the first and the second amounts of a sheet's lines.
+#![tactic(auto)]
+
+ghost use Rattle.std.specs.Prelude.{◌≡◌, ◌≤◌};
+ghost use Rattle.sizes.specs.Sizes.{blocks};
+ghost use Rattle.places.specs.Places.{tabled};
+ghost use Rattle.needs.specs.Needs.{some_risk, counts, all_zero, unmet_by};
+ghost use Rattle.needs_unmet.specs.Asked.{Asked};
+
+use codes::{Code, RISK_CLASSES};
+use needs::{Label, Need};
+use places::PLACES;
+
+// Whether the need of a line is unmet.
+// Kept: tables beside one another, which any caller may fill; a ledger would ask more of callers.
+pub fn unmet(firsts: &[u64; PLACES], seconds: &[u64; PLACES], need: Need) -> bool
+    ensures { result ≡ unmet_by (tabled firsts.now) (tabled seconds.now) need.line }
+{
+    let line = need.line;
+    let at = places::index_of(line.code, line.block, line.class);
+    if all_zero(firsts[at], seconds[at]) {
+        return false;
+    }
+    !counts(firsts, need.companion)
+}
+
+// Whether both amounts are zero.
+fn all_zero(first: u64, second: u64) -> bool
+    ensures { result ≡ all_zero first second }
+{
+    first == 0 && second == 0
+}
+
+// Whether a companion is there and its first amount isn't 0.
+// Kept: class 0 for whichever class there is, as `needs::needing` gives it.
+fn counts(firsts: &[u64; PLACES], companion: Label) -> bool
+    requires { Asked companion }
+    ensures { result ≡ counts (tabled firsts.now) companion }
+{
+    if companion.class == 0 {
+        return some_risk(firsts, companion.block);
+    }
+    let code = companion.code;
+    0 < ledger::amount_of(firsts, code, companion.block, companion.class)
+}
+
+// Whether an RSK line of a block has a first amount that isn't 0.
+// Kept: the block's range as a clause, as in credits, which says why.
+fn some_risk(firsts: &[u64; PLACES], block: usize) -> bool
+    requires { (1 ≤ block) × (block ≤ blocks) }
+    ensures { result ≡ some_risk (tabled firsts.now) block }
+{
+    (0..RISK_CLASSES).any(|i| 0 < ledger::amount_of(firsts, Code::Rsk, block, i + 1))
+}

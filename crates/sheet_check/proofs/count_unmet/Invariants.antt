@@ -1,7 +1,0 @@
-use mathlib.Core.Path.{◌≡◌}
-use Prim.Native.Nat.{◌-◌}
-use Rattle.sheet_check.specs.Walk.{counted_to}
-use Rattle.sheet_check.proofs.count_unmet.Given as goal
-
-abbrev pub invariant-loop-n : goal.invariant-loop-n
-invariant-loop-n l = l.count ≡ counted_to l.ledger.firsts l.ledger.seconds (l.n - 1)

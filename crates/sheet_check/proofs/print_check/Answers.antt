@@ -1,9 +1,0 @@
--- With room for the longest listing, what is printed is what the judgement has to say. Assumes nothing.
-use native.Mathlib.Omega.{arith}
-use Rattle.judged_text.proofs.Judged.{printed_text}
-use Rattle.sheet_check.proofs.Calls.{never_longer}
-use Rattle.sheet_check.proofs.print_check.Goals as goal
-
-pub returns : goal.returns
-returns c =
-    printed_text _ _ _ (never_longer _) (omega arith) c.check_call-answer.result c.check_call-answer.ensures.answer c.print_answer.ensures

@@ -1,0 +1,28 @@
+-- The line of a refusal goes in front of the room. Assumes nothing.
+use borrow.Rule.Slice.PartMut.{put_mid}
+use mathlib.Core.Path.{◌≡◌, refl, sym}
+use mathlib.Core.List.{List}
+use Prim.Native.Nat.{ℕ, ◌-◌, ◌≤◌}
+use lib.ListN.{length, take}
+use lib.Seq.{length-take-le}
+use Rattle.std.specs.Prelude.{Result, Err}
+use Rattle.refusal.specs.Outcome.{rule_number}
+use Rattle.refusal.specs.declared.Refusal.{Refusal}
+use Rattle.sizes.specs.Sizes.{number_columns}
+use Rattle.report_line.specs.Line.{line_bytes, report_line_bytes, row_in}
+use Rattle.report_line.proofs.Filled.{in_columns}
+use Rattle.report_line.proofs.ReadBack.{length_line}
+use Rattle.text_answer.specs.Printing.{refusal_row, refusal_line, Shown}
+use Rattle.text_answer.proofs.print_answer.Goals as goal
+
+module _ (a : Result ℕ Refusal) (r : List ℕ) where
+  in_front : {e : Refusal} {ys : List ℕ} → a ≡ Err e → report_line_bytes ≤ length r
+      → ys ≡ row_in (length (take report_line_bytes r) - line_bytes 0) (refusal_row (rule_number e.0) e.1) → Shown a report_line_bytes r (put_mid 0 report_line_bytes r ys)
+  unfolding refusal_line
+  in_front e h y =
+      let l = in_columns number_columns (take report_line_bytes r) _ _ _ _ (length-take-le report_line_bytes r h) y in
+      rw e (record { count = sym (length_line _ _ _ _ refl); bytes = rw l })
+
+pub returns-in-Err : goal.returns-in-Err
+returns-in-Err c =
+    in_front _ _ c.in-Err.is c.requires c.write_refusal.ensures

@@ -1,2 +1,0 @@
--- What the numbers of two words are below.
-pub mod Limits

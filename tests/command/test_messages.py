@@ -1,0 +1,145 @@
+"""Every message is in both languages; and the frame's languages, versions and statuses."""
+
+import argparse
+import re
+import string
+import subprocess
+import tempfile
+import unittest
+from pathlib import Path
+from unittest import mock
+
+import catalogue
+import tsav as library
+from running import COMMAND, INSTALLED, tsav
+from tsav.command import messages
+
+# Of argparse, what a user of these subcommands can meet.
+ARGPARSE = {found for found in catalogue.of_source(Path(argparse.__file__))}
+
+
+def names(text: str) -> set:
+    """What is put in by name, or in argparse's way."""
+    return {name for _, name, _, _ in string.Formatter().parse(text) if name is not None} | set(re.findall(r"%\(\w+\).|%[a-z]", text))
+
+
+class Messages(unittest.TestCase):
+    @classmethod
+    def setUpClass(cls):
+        cls.source = set().union(*(catalogue.of_source(file) for file in catalogue.COMMAND.glob("*.py")))
+        cls.french = [entry for file in sorted(catalogue.FRENCH.glob("*.po")) for entry in catalogue.of_french(file)]
+
+    def test_none_is_missing(self):
+        self.assertGreater(len(self.source), 100)
+        self.assertEqual(self.source - {english for english, _ in self.french}, set())
+
+    def test_none_is_without_use(self):
+        self.assertEqual({english for english, _ in self.french} - self.source - ARGPARSE, set())
+
+    def test_each_is_said_once(self):
+        said = [english for english, _ in self.french]
+        self.assertEqual([english for english in said if said.count(english) > 1], [])
+
+    def test_each_is_translated(self):
+        for english, french in self.french:
+            with self.subTest(english):
+                self.assertEqual(len(french), len(english))
+                self.assertTrue(all(text.strip() for text in french))
+
+    def test_the_same_is_put_in(self):
+        for english, french in self.french:
+            for text in french:
+                with self.subTest(text):
+                    self.assertEqual(names(text), names(english[-1]))
+
+    def test_the_french_are_other_words(self):
+        """But for those that are written alike in both."""
+        alike = {("{name} {number}",), ("options",), ("UTF-16",), ("Section",), ("Position",)}
+        same = {english for english, french in self.french if english == french}
+        self.assertLessEqual(same, alike)
+
+
+class Frame(unittest.TestCase):
+    def test_language_by_option_and_locale(self):
+        for arguments, environment, french in (
+            ((), {}, False),
+            ((), {"LANG": "fr_CA.UTF-8"}, True),
+            ((), {"LANG": "en_CA.UTF-8"}, False),
+            ((), {"LANG": "en_CA.UTF-8", "LC_ALL": "fr_CA"}, True),
+            ((), {"LANG": "fr_CA.UTF-8", "LC_ALL": "C"}, False),
+            ((), {"LANG": "de_DE.UTF-8", "LANGUAGE": "de:fr:en"}, True),
+            ((), {"LANG": "C", "LANGUAGE": "fr"}, False),
+            ((), {"LANG": "fr_FR", "LANGUAGE": "en:fr"}, False),
+            (("--lang", "fr"), {"LANG": "en_CA.UTF-8"}, True),
+            (("--lang=en",), {"LANG": "fr_CA.UTF-8"}, False),
+        ):
+            with self.subTest(arguments=arguments, **environment):
+                ran = tsav(*arguments, "explain", "--refusal", "10", **environment)
+                self.assertEqual((ran.status, ran.err), (0, ""))
+                self.assertEqual(ran.out.startswith("Refus 10"), french)
+                self.assertEqual(ran.out.startswith("Refusal 10"), not french)
+
+    @unittest.skipIf(INSTALLED, "an installed command has its own messages")
+    def test_french_not_built(self):
+        """Said where it is asked for, with status 2; where the locale alone asks, English follows."""
+        with tempfile.TemporaryDirectory() as empty, mock.patch.object(messages, "FOLDER", empty):
+            asked = tsav("--lang", "fr", "explain", "--refusal", "10")
+            self.assertEqual((asked.status, asked.out), (2, ""))
+            self.assertIn("bindings/messages", asked.err)
+            told = tsav("explain", "--refusal", "10", LANG="fr_CA.UTF-8")
+            self.assertEqual((told.status, told.err), (0, asked.err))
+            self.assertTrue(told.out.startswith("Refusal 10"))
+
+    def test_language_behind_the_subcommand(self):
+        self.assertEqual(tsav("explain", "--refusal", "10", "--lang", "fr"), tsav("--lang", "fr", "explain", "--refusal", "10"))
+
+    def test_usage(self):
+        for arguments in ((), ("explain", "--refusal", "26"), ("explain", "a", "b"), ("--lang", "de", "explain"), ("nothing",), ("--nothing",)):
+            for environment, said in (({}, ("usage:", ": error: ")), ({"LANG": "fr_CA.UTF-8"}, ("utilisation\u00a0:", "\u00a0: erreur\u00a0: "))):
+                with self.subTest(arguments=arguments, **environment):
+                    ran = tsav(*arguments, **environment)
+                    self.assertEqual((ran.status, ran.out), (2, ""))
+                    for text in said:
+                        self.assertIn(text, ran.err)
+
+    def test_help(self):
+        for arguments in (("--help",), ("explain", "--help")):
+            english, french = tsav(*arguments), tsav(*arguments, LANG="fr_CA.UTF-8")
+            self.assertEqual((english.status, french.status), (0, 0))
+            # No line of words is the same in both.
+            self.assertEqual({line for line in english.out.splitlines() if " " in line.strip()} & set(french.out.splitlines()), set())
+
+    def test_version(self):
+        for language, words in (
+            ("en", ("tsav ", "library: ", "toolchain: ")),
+            ("fr", ("tsav ", "biblioth\u00e8que\u00a0: ", "cha\u00eene d'outils\u00a0: ")),
+        ):
+            ran = tsav("--lang", language, "--version")
+            lines = ran.out.splitlines()
+            self.assertEqual((ran.status, len(lines)), (0, 3))
+            for line, word in zip(lines, words):
+                self.assertTrue(line.startswith(word), line)
+            self.assertEqual(lines[0], f"tsav {library.__version__}")
+            self.assertTrue(lines[1].endswith(f" {library.VERSION}"))
+            self.assertTrue(lines[2].endswith((catalogue.TOP / "rattle-toolchain").read_text().strip()), lines[2])
+
+    def test_not_read_and_not_written(self):
+        folder = str(catalogue.TOP)
+        for arguments, words in (
+            (("explain", folder), ("it is a folder", "c'est un dossier")),
+            (("explain", folder + "/no.sheet"), ("there is no such file or folder", "il n'y a pas de fichier ou de dossier de ce nom")),
+        ):
+            for language, said in zip(("en", "fr"), words):
+                ran = tsav("--lang", language, *arguments)
+                self.assertEqual((ran.status, ran.out), (2, ""))
+                self.assertTrue(ran.err.startswith("tsav: ") and ran.err.endswith(f"{said}\n"), ran.err)
+
+    @unittest.skipUnless(Path("/dev/full").exists(), "there is no /dev/full")
+    def test_disk_full(self):
+        for language, said in (("en", "the disk is full"), ("fr", "le disque est plein")):
+            with open("/dev/full", "wb") as full:
+                done = subprocess.run(
+                    COMMAND + ["explain", "--refusal", "1", "--lang", language], stdout=full, stderr=subprocess.PIPE, check=False
+                )
+            self.assertEqual(done.returncode, 2)
+            self.assertTrue(done.stderr.decode().endswith(f"{said}\n"), done.stderr)
