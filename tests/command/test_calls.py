@@ -27,6 +27,14 @@ NUMBERS = [100000000, 70000000, 300000, 300000, 5000000, 1000000, 250000, 100000
 NUMBERS += [2500000, 20000000, 7500000]
 FIGURES = ("i", "d", "u", "lt", "k")
 PARTS = [("RSK", klass) for klass in range(1, 8)] + [("OTH", klass) for klass in (1, 2, 3)]
+# What the parts are called.
+NAMES = {
+    "en": ("mortality", "longevity", "morbidity incidence", "morbidity termination", "lapse-sensitive", "lapse-supported", "expenses")
+    + ("property and casualty risk", "credit risk", "market risk"),
+    "fr": ("mortalit\u00e9", "long\u00e9vit\u00e9", "incidence de morbidit\u00e9", "cessation de morbidit\u00e9", "sensible aux d\u00e9ch\u00e9ances")
+    + ("fond\u00e9 sur les d\u00e9ch\u00e9ances", "d\u00e9penses")
+    + ("risque d'assurance multirisque", "risque de cr\u00e9dit", "risque de march\u00e9"),
+}
 DRAWN = 8 if INSTALLED else 40
 
 
@@ -133,6 +141,8 @@ class Calls(unittest.TestCase):
     def of_block(self, texts: dict, numbers: list, off=None) -> None:
         """The text has each amount that the call is given, in its order, and the credit where there is one."""
         for language, text in texts.items():
+            names = [line.partition("  ")[0] for line in text.splitlines()[3:13]]
+            self.assertEqual(names, list(NAMES[language]))
             shown = re.findall(r"  (-?(?:\$[0-9,.]+|[0-9\u00a0]+,[0-9]+\u00a0\$))", text.partition("\n\n")[2].partition("\n\n")[0])
             self.assertEqual(shown, [dollars(number, language) for number in numbers])
             told = dollars(off or 0, language)
@@ -199,7 +209,7 @@ class Block(Calls):
                 self.assertEqual((answer["numbers"], answer["credit"]), (numbers_of(lines, block), off))
                 self.told(answer, texts, rows, figures(report, block))
                 self.of_block(texts, answer["numbers"], off)
-        self.assertGreater(credits, DRAWN // 4)
+        self.assertGreater(credits, DRAWN // 8)
 
 
 class Shares(Calls):
@@ -229,10 +239,10 @@ class Shares(Calls):
     def shown(self, texts: dict, rows: dict, wanted, k: int) -> None:
         for language in LANGUAGES:
             last = texts[language].rstrip("\n").splitlines()[-11:]
-            for line, share in zip(last, (*wanted, k)):
-                self.assertTrue(line.endswith("  " + dollars(share, language)), line)
-            self.assertEqual([(row[0], int(row[1]), row[3]) for row in rows[language][1:]], [
-                (*part, plain(share, language)) for part, share in zip(PARTS, wanted)
+            for line, name, share in zip(last, (*NAMES[language], ""), (*wanted, k)):
+                self.assertTrue(line.startswith(name) and line.endswith("  " + dollars(share, language)), line)
+            self.assertEqual([(row[0], int(row[1]), *row[2:]) for row in rows[language][1:]], [
+                (*part, name, plain(share, language)) for part, name, share in zip(PARTS, NAMES[language], wanted)
             ])
 
     def test_typed(self):
@@ -265,13 +275,17 @@ class Movement(Calls):
                     wanted.append(None if above else tsav.block(raised).k - tsav.block(numbers).k)
                 self.assertEqual([part["movement"] for part in answer["movements"]], wanted)
                 self.assertEqual([part["refusal"] for part in answer["movements"]], [22 if moved is None else None for moved in wanted])
-                self.shown(texts, rows, wanted)
+                self.shown(texts, rows, wanted, by)
                 self.of_block(texts, numbers, answer["credit"])
         self.assertGreater(told, DRAWN)
 
-    def shown(self, texts: dict, rows: dict, wanted: list) -> None:
+    def shown(self, texts: dict, rows: dict, wanted: list, by: int) -> None:
         for language in LANGUAGES:
+            *before, _blank = texts[language].rstrip("\n").splitlines()[:-7]
+            self.assertIn(dollars(by, language), before[-1])
+            self.assertEqual([row[:2] for row in rows[language][1:]], [[str(risk), NAMES[language][risk - 1]] for risk in range(1, 8)])
             for line, row, moved in zip(texts[language].rstrip("\n").splitlines()[-7:], rows[language][1:], wanted):
+                self.assertTrue(line.startswith(row[1] + "  "), line)
                 if moved is None:
                     self.assertTrue(line.endswith(dollars(LARGEST, language)) and " 22" in line, line)
                     self.assertEqual(row[2:], ["", "22"])
@@ -284,7 +298,7 @@ class Movement(Calls):
         numbers[8], numbers[12], numbers[14] = 82008042, 20639995, 927878237
         answer, texts, rows = self.answered("movement", *map(typed, numbers), "--by", "43562.23")
         self.assertEqual(answer["movements"][5]["movement"], -1700009)
-        self.shown(texts, rows, [part["movement"] for part in answer["movements"]])
+        self.shown(texts, rows, [part["movement"] for part in answer["movements"]], 4356223)
         self.assertIn("-$17,000.09\n", texts["en"])
 
     def test_raised_too_far(self):
@@ -292,7 +306,7 @@ class Movement(Calls):
         answer = self.answered("movement", typed(LARGEST), *["0"] * 16, "--by", "5")[0]
         self.assertEqual([part["refusal"] for part in answer["movements"]], [22] + [None] * 6)
         answer, texts, rows = self.answered("movement", *[typed(LARGEST), "0"] * 7, "0", "0", "0", "--by", "0.01")
-        self.shown(texts, rows, [None] * 7)
+        self.shown(texts, rows, [None] * 7, 1)
 
 
 class Operational(Calls):
@@ -303,7 +317,7 @@ class Operational(Calls):
             lines = lines_of(sheet)
             for key in [key for key in lines if key[0] == "VOL"]:
                 if draw.random() < 0.5:
-                    lines["ACQ", *key[1:]] = draw.choice((LARGEST, draw.randrange(10 ** draw.randint(1, 14)))), 0
+                    lines[("ACQ", *key[1:])] = draw.choice((LARGEST, draw.randrange(10 ** draw.randint(1, 14)))), 0
             ordered = sorted((columns.Line(*key, *lines[key]) for key in lines), key=lambda line: line.key)
             sheet = b"".join(line.written() for line in ordered)
             try:

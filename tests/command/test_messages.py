@@ -54,7 +54,7 @@ class Messages(unittest.TestCase):
 
     def test_the_french_are_other_words(self):
         """But for those that are written alike in both."""
-        alike = {("{name} {number}",), ("options",), ("UTF-16",), ("Section",), ("Position",)}
+        alike = {("{name} {number}",), ("options",), ("UTF-16",), ("Section",), ("section",), ("Position",)}
         same = {english for english, french in self.french if english == french}
         self.assertLessEqual(same, alike)
 

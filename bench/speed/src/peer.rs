@@ -777,11 +777,11 @@ mod tests {
     fn it_answers_as_the_reference_does() {
         for index in 0..CASES {
             let case = Case::of(index);
-            exported_answer::<Picking>(&case);
-            exported_answer::<Shifting>(&case);
-            exported_answer::<Odd>(&case);
-            exported_answer::<Jumping>(&case);
-            exported_answer::<Newton>(&case);
+            answers::<Picking>(&case);
+            answers::<Shifting>(&case);
+            answers::<Odd>(&case);
+            answers::<Jumping>(&case);
+            answers::<Newton>(&case);
             let (given, lent) = generate::convert_case(1, index);
             let (mut one, mut two) = (vec![0; lent], vec![0; lent]);
             assert_eq!(convert(&given, &mut one), reference::convert_call(&given, &mut two), "conversion {index}");

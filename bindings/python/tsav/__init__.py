@@ -75,7 +75,7 @@ SHEET = 4
 # What each refusal says; 22, 24 and 25, which stand in the lines of movements and of a summary and which no call gives, are here too.
 REFUSALS = {
     1: "the sheet is longer than 629 lines",
-    2: "the sheet's length is no multiple of 40 bytes, or the numbers of a movement's are not 270: the last line is cut short, or has no line feed",
+    2: "the sheet's length is no multiple of 40 bytes, or the movement's input isn't 270 bytes long: the last line is cut short, or has no line feed",
     3: "the line breaks the layout: a number that isn't right-justified, a leading zero, a missing space or line feed, a carriage return",
     4: "the code isn't RSK, OTH, MOR, VOL, ACQ, GEN or CRD, or has other letters than line 1",
     5: "the block is outside the code's range",

@@ -176,7 +176,7 @@ pub fn check(sheet: &[u8], listing: &mut [u8]) -> Result<usize, Error> {
 }
 
 /// The movement call, of 18 lines of an amount in 14 columns, the block call's numbers and then t: how far the reported K moves as each
-/// risk's component is raised by t, a line for each risk, of which one may be REF 22. It gives their length. The bytes behind it, and all
+/// risk's component is raised by t, a line for each risk, or REF 22 in its place. It gives their length. The bytes behind it, and all
 /// of them where the numbers are refused, are left as they were.
 pub fn movement(numbers: &[u8], movements: &mut [u8]) -> Result<usize, Error> {
     compare_versions()?;

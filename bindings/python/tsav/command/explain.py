@@ -43,7 +43,7 @@ def run(options) -> Answer:
     sheet = files.read(options.file, tsav.LONGEST_SHEET)
     if options.convert:
         return _converted(name, Finder(sheet, tsav.convert))
-    return _sheet(name, sheet, Finder(sheet, tsav.sheet))
+    return of_sheet(name, sheet)
 
 
 def _refusal(number: int) -> Answer:
@@ -52,7 +52,9 @@ def _refusal(number: int) -> Answer:
     return Answer(DONE, text, {"refusal": number, "what": said.what, "mend": said.mend})
 
 
-def _sheet(name: str, sheet: bytes, finder: Finder) -> Answer:
+def of_sheet(name: str, sheet: bytes) -> Answer:
+    """Also for the subcommands that take an accepted sheet alone."""
+    finder = Finder(sheet)
     value = {"file": name, "call": "sheet", **telling.value(finder)}
     if finder.first:
         return _refused(_("{file} is refused: {refusal}. {faults}:"), name, finder, value)

@@ -20,6 +20,7 @@ from tsav.command import (
     messages,
     movement,
     operational,
+    reports,
     shares,
     template,
     versions,
@@ -28,7 +29,7 @@ from tsav.command import (
 from tsav.command.answer import FAILED, Answer, Failure
 from tsav.command.messages import _
 
-SUBCOMMANDS = (explain, imports, template, exports, warn, compare, block, shares, movement, operational, fluctuation)
+SUBCOMMANDS = (explain, imports, template, exports, warn, compare, reports, block, shares, movement, operational, fluctuation)
 
 
 def main(arguments=None) -> int:

@@ -1,0 +1,90 @@
+"""`tsav report --quarter`: the summary of a quarter, and a line for each sheet, a refused one with its refusal in words."""
+
+import hashlib
+
+import tsav
+from tsav.command import files, money, page, quarters, refusals
+from tsav.command.answer import DONE, Answer, Failure
+from tsav.command.layout import CLOSING
+from tsav.command.messages import N_, _
+from tsav.command.page import Cell, Head, Part, Row, Table
+
+_CLOSING = CLOSING.encode("ascii") + b"\n"
+
+# The items of the summary, whose numbers are sheets or counts where they aren't amounts.
+_ITEMS = {
+    1: N_("accepted sheets"),
+    2: N_("smallest buffer"),
+    3: N_("first sheet with the smallest"),
+    4: N_("largest buffer"),
+    5: N_("first sheet with the largest"),
+    6: N_("total of the buffers"),
+    7: N_("mean, in whole cents"),
+    8: N_("what is left over, in cents"),
+}
+_AMOUNTS = (2, 4, 6, 7)
+
+
+def answer(options, written) -> Answer:
+    data, names = _data(options.file)
+    said = tsav.quarter(data)
+    lines = [said[at : at + tsav.SUMMARY_LINE] for at in range(0, len(said), tsav.SUMMARY_LINE)]
+    read = [(line[:3].decode("ascii"), int(line[4:6]), int(line[7:9]), int(line[10:29])) for line in lines]
+    items = {item: value for code, _zero, item, value in read if code == "SUM"}
+    if not items:
+        # 24 or 25, of the quarter as a whole.
+        return quarters.answer(options.file[0], data)
+    sheets = [_sheet(number, names, *line) for number, line in enumerate((line for line in read if line[0] != "SUM"), 1)]
+    value = {
+        "format": "tsav quarter report 1",
+        "title": options.title,
+        "sheets": sheets,
+        "summary": {str(item): amount for item, amount in items.items()},
+        "quarter": {"sha256": hashlib.sha256(data).hexdigest()},
+    }
+    html = page.html(_page(options.title, data, sheets, items, said)) if options.output or options.pdf else b""
+    text = [_("{count} of {sheets} sheets are accepted").format(count=items[1], sheets=len(sheets)), *written(options, html, {})]
+    return Answer(DONE, "\n".join(text) + "\n", value)
+
+
+def _data(given: list) -> tuple:
+    """The quarter, and the names of its sheets' files where each has its own. One file that has closing lines is a quarter."""
+    contents = [files.read(name, quarters.MOST) for name in given]
+    for name, content in zip(given, contents):
+        if len(content) > quarters.MOST:
+            said = _("{file} is longer than {most} bytes, which no quarter is")
+            raise Failure(said.format(file=files.shown(name), most=money.number(quarters.MOST)))
+    if len(given) == 1 and _CLOSING in contents[0]:
+        return contents[0], None
+    # A last line feed that a sheet lacks would hide its closing line.
+    return b"".join(content + (b"\n" if content and not content.endswith(b"\n") else b"") + _CLOSING for content in contents), given
+
+
+def _sheet(number: int, names, code: str, refusal: int, _item: int, value: int) -> dict:
+    """A line of the summary."""
+    name = files.shown(names[number - 1]) if names else None
+    if code == "SHT":
+        return {"sheet": number, "file": name, "buffer": value, "refusal": None, "line": None, "words": None}
+    found = tsav.Refused(refusal, line=value or None)
+    place = _("line {line}").format(line=value) if value else ""
+    return {"sheet": number, "file": name, "buffer": None, "refusal": refusal, "line": value or None, "words": refusals.sentence(found, place)}
+
+
+def _page(title, data: bytes, sheets: list, items: dict, said: bytes) -> page.Page:
+    heads = [Head(_("sheet")), Head(_("file")), Head(_("what is said of it")), Head(_("base solvency buffer"), True)]
+    rows = []
+    for sheet in sheets:
+        told = sheet["words"] or _("accepted")
+        buffer = Cell("") if sheet["buffer"] is None else Cell(money.dollars(sheet["buffer"]), f"sheet.{sheet['sheet']}")
+        rows.append(Row([Cell(str(sheet["sheet"])), Cell(page.title(sheet["file"] or "")), Cell(told), buffer]))
+    summary = [
+        Row([Cell(_(_ITEMS[item])), Cell(money.dollars(value) if item in _AMOUNTS else money.number(value), f"summary.{item}")], item == 6)
+        for item, value in items.items()
+    ]
+    found = [
+        Part("sheets", _("The sheets"), [("table", Table(_("A line for each sheet"), heads, rows))]),
+        Part("summary", _("The summary"), [("table", Table(_("Of the accepted sheets"), [Head(_("figure")), Head(_("amount"), True)], summary))]),
+        Part("raw", _("Appendix: the raw summary"), [("raw", said.decode("ascii"))]),
+    ]
+    facts = [(_("SHA-256 of the quarter"), hashlib.sha256(data).hexdigest()), *page.version_facts()]
+    return page.Page(_("Report on a quarter's sheets"), title or _("The quarter's buffers"), facts, found)
