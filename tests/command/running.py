@@ -42,3 +42,12 @@ def tsav(*arguments, given=b"", alone=False, **environment) -> Ran:
     for stream in (out, err):
         stream.flush()
     return Ran(status, out.buffer.getvalue().decode("utf-8"), err.buffer.getvalue().decode("utf-8"))
+
+
+def names_of(value):
+    """The names of a JSON value, of all its parts."""
+    if isinstance(value, dict):
+        yield from value
+        value = list(value.values())
+    for part in value if isinstance(value, list) else []:
+        yield from names_of(part)

@@ -16,7 +16,7 @@ from unittest import mock
 
 import drawn
 import tsav
-from running import INSTALLED, TOP, tsav as run
+from running import INSTALLED, TOP, names_of, tsav as run
 from tsav.command import columns, fluctuation
 
 EXAMPLE = TOP / "examples" / "example.sheet"
@@ -563,12 +563,6 @@ class Guide(Calls):
             ("operational", ("operational", str(EXAMPLE))),
             ("fluctuation", ("fluctuation", "7", "1", "1")),
         ):
-            self.assertEqual(names_of(json.loads(run(*arguments, "--json").out)), rows[name] | {"call", "refusal"}, name)
+            self.assertEqual(set(names_of(json.loads(run(*arguments, "--json").out))), rows[name] | {"call", "refusal"}, name)
         answer = json.loads(run("block", *["0"] * 13, "1", "0", "0", "0", "--json").out)
-        self.assertEqual(names_of(answer), rows["refused"] | {"call", "refusal"})
-
-
-def names_of(value) -> set:
-    if isinstance(value, dict):
-        return set(value).union(*(names_of(part) for part in value.values()))
-    return set().union(*(names_of(part) for part in value)) if isinstance(value, list) else set()
+        self.assertEqual(set(names_of(answer)), rows["refused"] | {"call", "refusal"})

@@ -7,9 +7,9 @@ import unittest
 
 import tsav as library
 from drawn import sheets as drawn_sheets
-from running import TOP, tsav
+from running import TOP, names_of, tsav
 from sheets import EXAMPLE, InFolder, altered, sheet, sound, total
-from test_warn import DRAWN, SECTION, bare, names_of
+from test_warn import DRAWN, SECTION, bare
 
 ORDER = [b"RSK", b"OTH", b"MOR", b"VOL", b"ACQ", b"GEN", b"CRD"]
 

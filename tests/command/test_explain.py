@@ -9,7 +9,7 @@ import unittest
 from pathlib import Path
 
 import tsav
-from running import COMMAND, TOP, tsav as run
+from running import COMMAND, TOP, names_of, tsav as run
 from tsav.command import columns, finder, layout, lines, messages
 
 EXAMPLE = (TOP / "examples" / "example.sheet").read_bytes()
@@ -591,14 +591,6 @@ class Guide(unittest.TestCase):
         source = "".join(file.read_text(encoding="utf-8") for file in sorted(Path(lines.__file__).parent.glob("*.py")))
         self.assertEqual({cause for cause in told if f'"{cause}"' not in source}, set())
         self.assertEqual(set(layout.NAMES) - told, set())
-
-
-def names_of(value):
-    if isinstance(value, dict):
-        yield from value
-        value = list(value.values())
-    for part in value if isinstance(value, list) else []:
-        yield from names_of(part)
 
 
 def bare(value):

@@ -90,6 +90,17 @@ class Frame(unittest.TestCase):
             self.assertEqual((told.status, told.err), (0, asked.err))
             self.assertTrue(told.out.startswith("Refusal 10"))
 
+    def test_closed_streams(self):
+        """A closed standard output is a write that fails, status 2; a closed standard error stops nothing."""
+        shell = ["sh", "-c", '"$@" --lang en explain --refusal 10 >&-', "sh", *COMMAND]
+        ran = subprocess.run(shell, capture_output=True, text=True, timeout=120, check=False)
+        self.assertEqual((ran.returncode, ran.stdout), (2, ""))
+        self.assertTrue(ran.stderr.startswith("tsav: the answer can't be written: "), ran.stderr)
+        shell[2] = shell[2].replace(">&-", "2>&-")
+        ran = subprocess.run(shell, capture_output=True, text=True, timeout=120, check=False)
+        self.assertEqual((ran.returncode, ran.stderr), (0, ""))
+        self.assertTrue(ran.stdout.startswith("Refusal 10"))
+
     def test_language_behind_the_subcommand(self):
         self.assertEqual(tsav("explain", "--refusal", "10", "--lang", "fr"), tsav("--lang", "fr", "explain", "--refusal", "10"))
 

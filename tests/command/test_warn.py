@@ -8,7 +8,7 @@ from fractions import Fraction
 
 import tsav as library
 from drawn import sheets as drawn_sheets
-from running import INSTALLED, TOP, tsav
+from running import INSTALLED, TOP, names_of, tsav
 from sheets import EXAMPLE, SOUND, InFolder, altered, sheet, sound, total
 from tsav.command import columns, labels, messages
 
@@ -386,14 +386,6 @@ def bare(value):
     if isinstance(value, dict):
         return {name: bare(part) for name, part in value.items() if name not in ("title", "reason", "name", "what")}
     return [bare(part) for part in value] if isinstance(value, list) else value
-
-
-def names_of(value):
-    if isinstance(value, dict):
-        yield from value
-        value = list(value.values())
-    for part in value if isinstance(value, list) else []:
-        yield from names_of(part)
 
 
 class Guide(InFolder):

@@ -57,7 +57,7 @@ def run_process(*arguments, given: bytes = b"", **environment):
 class InFolder(unittest.TestCase):
     """A test in a folder of its own, with one sheet that stands there from before."""
 
-    BEFORE = b"before\n"
+    BEFORE = b"GEN  0  4          12345              0\n"
 
     def setUp(self):
         folder = tempfile.TemporaryDirectory()

@@ -49,6 +49,11 @@ class Guide(InFolder):
         Path("figures.csv").write_text('GEN,0,4,1,\nRSK,1,1,"1,000",0\n', encoding="utf-8")
         self.assertEqual(run("import", "figures.csv", "-o", "my.sheet"), (1, said, ""))
 
+    def test_what_is_replaced(self):
+        """export replaces nothing unless it is told to, import a sheet alone."""
+        for said in ("`tsav template` and `tsav export` don't replace a file that is there", "`tsav export --replace` does", "`tsav import` replaces a sheet alone"):
+            self.assertIn(said, " ".join(SECTION.split()))
+
     def test_limits(self):
         for number in (csvfile.LONGEST, workbook.LONGEST, workbook._LONGEST_UNPACKED, workbook._MOST_ROWS, workbook._MOST_COLUMNS):
             self.assertIn(f" {number:,}", SECTION)
@@ -60,7 +65,7 @@ class Guide(InFolder):
         Path("bad.csv").write_text("RSK,1,1,1,2\n", encoding="utf-8")
         answers = [json.loads(run("import", name, "-o", "my.sheet", "--json")[1]) for name in ("good.csv", "bad.csv")]
         self.assertEqual([sorted(answers[0]), sorted([*answers[1], *answers[1]["faults"][0]])], named["import"])
-        answers = [json.loads(run("export", name, "-o", "out.csv", "--json")[1]) for name in (EXAMPLE, "bad.csv")]
+        answers = [json.loads(run("export", name, "-o", "out.csv", "--replace", "--json")[1]) for name in (EXAMPLE, "bad.csv")]
         self.assertEqual([sorted(answer) for answer in answers], named["export"])
 
     def test_the_headings(self):

@@ -18,7 +18,7 @@ class RoundTrips(InFolder):
         Path("in.sheet").write_bytes(sheet)
         rows = sheet.count(b"\n")
         said = {"en": f"{name}: {rows} row", "fr": f"{name}\u00a0: {rows} ligne"}[written]
-        status, found, wrong = run("export", "in.sheet", "-o", name, "--lang", written)
+        status, found, wrong = run("export", "in.sheet", "--replace", "-o", name, "--lang", written)
         self.assertEqual((status, wrong, found[: len(said)]), (0, "", said))
         self.assertEqual(Path(name).read_bytes().startswith(b"PK"), name.endswith(".xlsx"))
         self.assertEqual(self.sheet(name, Path(name).read_bytes(), read), sheet)
@@ -43,7 +43,7 @@ class RoundTrips(InFolder):
             ("en", "Code,Block,Class,First amount,Second amount\nRSK,1,1,1234567.89,0.05\nGEN,0,4,1.0500,0.00\n"),
             ("fr", "Code;Bloc;Classe;Premier montant;Second montant\nRSK;1;1;1234567,89;0,05\nGEN;0;4;1,0500;0,00\n"),
         ):
-            run("export", "in.sheet", "-o", "figures.csv", "--lang", language)
+            run("export", "in.sheet", "--replace", "-o", "figures.csv", "--lang", language)
             self.assertEqual(Path("figures.csv").read_bytes(), text.encode("ascii"))
 
     @needs_openpyxl
@@ -55,7 +55,7 @@ class RoundTrips(InFolder):
         draw = random.Random(SEED)
         for sheet in sheets(50, SEED + 1):
             Path("in.sheet").write_bytes(sheet)
-            run("export", "in.sheet", "-o", "figures.csv")
+            run("export", "in.sheet", "--replace", "-o", "figures.csv")
             heading, *rows = Path("figures.csv").read_text(encoding="utf-8").splitlines(keepends=True)
             draw.shuffle(rows)
             self.assertEqual(self.sheet("figures.csv", "".join([heading, *rows]).encode("utf-8")), sheet)
@@ -70,7 +70,7 @@ class RoundTrips(InFolder):
             Path("in.sheet").write_bytes(sheet)
             for name in ("out.csv", "out.xlsx"):
                 Path(name).write_bytes(self.BEFORE)
-                status, said, wrong = run("export", "in.sheet", "-o", name)
+                status, said, wrong = run("export", "in.sheet", "--replace", "-o", name)
                 self.assertEqual((status, said, wrong), (1, f"in.sheet is {told} and nothing is written; tsav explain says why.\n", ""))
                 self.assertEqual(Path(name).read_bytes(), self.BEFORE)
 

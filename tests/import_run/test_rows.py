@@ -132,10 +132,55 @@ class Refused(InFolder):
 
     def test_headings(self):
         whole = "Code,Block,Class,First amount,Second amount"
-        self.cell(f"Code,Block,Class,First amount\n{SCALAR}", ("A1", 1, 1, f"'Code' is no code {CODES}, and a heading has all of: {HEADING}"))
+        self.cell(f"Codes,Number,Kind,Dollars\n{SCALAR}", ("A1", 1, 1, f"'Codes' is no code {CODES}, and a heading has all of: {HEADING}"))
         self.cell(f"{whole},Bloc\n{SCALAR}", ("F1", 1, 6, "the heading names this column twice"))
         self.cell(f"RSK,1,1,5,5\n{whole}\n{SCALAR}", ("A1", 1, 1, "RSK stands above the heading, where no row is read"))
         self.cell(f"{whole}\n{SCALAR}{whole}\n", ("A3", 3, 1, f"'Code' is no code {CODES}, and a heading has all of: {HEADING}"))
+
+    def test_headings_that_lack_a_column(self):
+        """The cell that was to name it, or the heading; nothing is said of the rows below, whose columns aren't known."""
+        begins, of = "the heading that begins here lacks {}: a heading has all of: %s" % HEADING, f"and a heading has all of: {HEADING}"
+        self.cell(f"Code,Block,Class,First amount\n{SCALAR}", ("A1", 1, 1, begins.format("Second amount")))
+        self.cell("\n,First amount,Code,Block\n,1,GEN,0,4\n", ("B2", 2, 2, begins.format("Class, Second amount")))
+        self.cell(f"Code,Block,Clas,First amount,Second amount,Note\nx,y,z,1,2,3\n{SCALAR}", ("C1", 1, 3, f"'Clas' names no column: Class is missing, {of}"))
+        self.cell(
+            f"Code;Block;Class;Gross;Second amuont\n{SCALAR}",
+            ("D1", 1, 4, f"'Gross' names no column: First amount is missing, {of}"),
+            ("E1", 1, 5, f"'Second amuont' names no column: Second amount is missing, {of}"),
+        )
+        self.cell(f"Capital, 2026\nCodes;Block;Class;First amount;Second amount\n{SCALAR}", ("A2", 2, 1, f"'Codes' names no column: Code is missing, {of}"))
+        self.cell(
+            f"Code,Block,Class,First amount,First amount\n{SCALAR}",
+            ("A1", 1, 1, begins.format("Second amount")),
+            ("E1", 1, 5, "the heading names this column twice"),
+        )
+        columns = "Code, Bloc, Classe, Premier montant, Second montant"
+        self.cell(
+            f"Code;Blocs;Classe;Premier montant\n{SCALAR}",
+            ("A1", 1, 1, f"il manque à l'en-tête qui commence ici Second montant\u00a0: un en-tête a toutes les colonnes {columns}"),
+            ("B1", 1, 2, f"«\u00a0Blocs\u00a0» ne nomme aucune colonne\u00a0: il manque Bloc, et un en-tête a toutes les colonnes {columns}"),
+            language="fr",
+        )
+        # However wide it is and however long its cells are.
+        wide = "Code,Block," + "x" * 100_000 + "," * 100_000 + ",".join(["y"] * 100_000)
+        began = time.process_time()
+        told = at("A1", 1, 1, begins.format("Class, First amount, Second amount"))
+        self.refused("figures.csv", f"{wide}\n{SCALAR}".encode("ascii"), told)
+        self.assertLess(time.process_time() - began, 30)
+
+    def test_an_empty_scalar(self):
+        """Its cell, with the other faults; where another row has the scalar it is a row that is left out."""
+        empty = "it is empty, and the scalar may not be left out: type a number like 1 or 1.05"
+        heading = "Code,Block,Class,First amount,Second amount\n"
+        self.cell(f"{heading}GEN,0,4,,\nRSK,1,1,5,5\n", ("D2", 2, 4, empty))
+        self.cell(f"{heading}GEN,0,4\nRSK,1,1,5,6\n", ("D2", 2, 4, empty), ("E3", 3, 5, "the level and trend part is above the gross component"))
+        self.cell("First amount,Code,Block,Class,Second amount\n,GEN,0,4\n", ("A2", 2, 1, empty))
+        self.cell(
+            "GEN;0;4;;\n", ("D1", 1, 4, "c'est vide, et le facteur scalaire est nécessaire\u00a0: tapez un nombre comme 1 ou 1,05"), language="fr"
+        )
+        found = json.loads(run("import", "figures.csv", "-o", "out.sheet", "--json")[1])["faults"]
+        self.assertEqual(found, [{"cell": "D1", "row": 1, "column": 4, "text": empty, "refusal": 12}])
+        self.assertEqual(self.sheet("figures.csv", f"GEN,0,4,,\n{SCALAR}".encode("ascii")), b"GEN  0  4          10000              0\n")
 
     def test_quotation_marks(self):
         several = "row 2: a cell has several lines: is a quotation mark missing?"
@@ -257,6 +302,44 @@ class Files(InFolder):
                 self.assertEqual(run("import", read_from, "-o", written_to), (2, "", f"tsav: {said}\n"))
         self.assertEqual(sorted(path.name for path in self.folder.iterdir()), ["figures.csv", "folder", "out.sheet", "pipe"])
         self.assertEqual(Path("figures.csv").read_text(encoding="utf-8"), PLAIN)
+
+    def test_what_is_no_sheet_is_not_replaced(self):
+        Path("figures.csv").write_text(PLAIN, encoding="utf-8")
+        other = {
+            "text.csv": PLAIN.encode("utf-8"),
+            "filled in.xlsx": b"PK\x03\x04" + bytes(76),
+            "short.sheet": self.BEFORE[:-1],
+            "long.sheet": self.BEFORE * 630,
+            "lines.txt": self.BEFORE + b"x" * 40 + self.BEFORE,
+        }
+        for name, content in other.items():
+            Path(name).write_bytes(content)
+            for language, said in (
+                ("en", f"{name} is there already, and is no sheet: give another name"),
+                ("fr", f"{name} existe déjà, et n'est pas une feuille\u00a0: donnez un autre nom"),
+            ):
+                with self.subTest(name=name, language=language):
+                    self.assertEqual(run("import", "figures.csv", "-o", name, "--lang", language), (2, "", f"tsav: {said}\n"))
+                    self.assertEqual(Path(name).read_bytes(), content)
+        # An empty file, and a sheet that the call refuses, stand for a sheet.
+        for content in (b"", self.BEFORE * 629, b"rsk  1  1              1              1\n"):
+            Path("out.sheet").write_bytes(content)
+            self.assertEqual(run("import", "figures.csv", "-o", "out.sheet")[0], 0)
+            self.assertEqual(Path("out.sheet").read_bytes(), SHEET)
+
+    def test_export_replaces_when_it_is_told_to(self):
+        for name in ("figures.csv", "figures.xlsx"):
+            Path(name).write_bytes(b"filled in")
+            for language, said in (
+                ("en", f"{name} is there already: give another name, or --replace"),
+                ("fr", f"{name} existe déjà\u00a0: donnez un autre nom, ou --replace"),
+            ):
+                with self.subTest(name=name, language=language):
+                    self.assertEqual(run("export", EXAMPLE, "-o", name, "--lang", language), (2, "", f"tsav: {said}\n"))
+                    self.assertEqual(Path(name).read_bytes(), b"filled in")
+        self.assertEqual(run("export", EXAMPLE, "--replace", "-o", "figures.csv"), (0, f"figures.csv: {len(EXAMPLE.read_bytes()) // 40} rows.\n", ""))
+        self.assertEqual(self.sheet("figures.csv", Path("figures.csv").read_bytes()), EXAMPLE.read_bytes())
+        self.assertEqual(run("export", EXAMPLE, "--replace", "-o", "new.csv")[0], 0)
 
     def test_usage(self):
         for arguments in (("import",), ("import", "--lang", "de", "x", "-o", "y"), ("import", "figures.csv"), ("import", "-o", "out.sheet"), ("import", "a", "b", "-o", "out.sheet"), ("export", "x")):

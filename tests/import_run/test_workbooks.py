@@ -24,6 +24,7 @@ MERGED = "the cell is merged with others: split them, and fill each"
 FORMULA = "a formula stands here: copy it, and paste its value"
 DATE = "the cell has a date's format: give it a number's, and type the number again"
 FINER = "it is finer than a cent: round it to the cent, up or down as it must be"
+BESIDE = "nothing belongs here: empty the cell, or give its column a heading"
 WORKSHEET = "xl/worksheets/sheet1.xml"
 
 
@@ -78,7 +79,7 @@ class Workbooks(InFolder):
             ([7, 1, 1, 5, 0], ("A2", 2, 1, f"7 is no code {CODES}, and a heading has all of: {HEADING}")),
             (["RSK", 1, 1, 5, 6], ("E2", 2, 5, "the level and trend part is above the gross component")),
             (["GEN", 0, 4, 1, 0], ("A3", 3, 1, "GEN, block 0, class 4 stands in row 2 already")),
-            (["RSK", 1, 1, 5, 0, 7], ("F2", 2, 6, "nothing belongs here: was an amount split at a comma or a semicolon within it?")),
+            (["RSK", 1, 1, 5, 0, 7], ("F2", 2, 6, BESIDE)),
         ):
             with self.subTest(row=row):
                 self.refused("figures.xlsx", with_rows(row), at(*told))
@@ -106,7 +107,7 @@ class Workbooks(InFolder):
         self.refused("figures.xlsx", with_rows(["RSK", 1, 1, "#REF!", 0]), at("D2", 2, 4, "#REF! is no figure"))
 
     def test_merged_cells(self):
-        for merged, *cells in (("D2:E2", "D2", "E2"), ("A2:A3", "A2", "A3"), ("D1:D3", "D2", "D3"), ("A1:XFD1048576", "A1", "A2", "A3")):
+        for merged, *cells in (("D2:E2", "D2", "E2"), ("A2:A3", "A2", "A3"), ("D1:D3", "D1"), ("A1:XFD1048576", "A1", "A2", "A3")):
             content = book([*ROWS[1:], ["OTH", 1, 1, 5, 0]] if cells[0] == "A1" else [*ROWS[:1], *ROWS[1:]])
             made = parts(content)
             made[WORKSHEET] = made[WORKSHEET].replace(b"</sheetData>", b'</sheetData><mergeCells count="1"><mergeCell ref="%b"/></mergeCells>' % merged.encode())
@@ -220,7 +221,7 @@ class Hostile(InFolder):
         last = b'<row r="1048576"><c r="F1048576"><v>1</v></c></row>'
         self.bounded(
             self.changed(WORKSHEET, b"</sheetData>", last + b"</sheetData>"),
-            at("F1048576", 1048576, 6, "nothing belongs here: was an amount split at a comma or a semicolon within it?"),
+            at("F1048576", 1048576, 6, BESIDE),
         )
         # What is far out and empty, as spreadsheets write it for a format, is nothing.
         empty = b'<row r="1048576"><c r="A1048576" s="0"/><c r="XFD1048576" s="0"/></row>'
@@ -349,6 +350,35 @@ class Templates(InFolder):
                         row[5].value = second / 100
             made.save(name)
             self.assertEqual(self.sheet(name, Path(name).read_bytes()), EXAMPLE.read_bytes())
+
+    def test_an_empty_scalar_and_a_heading_that_is_misspelt(self):
+        for language, empty, misspelt in (
+            (
+                "en",
+                "it is empty, and the scalar may not be left out: type a number like 1 or 1.05",
+                "'{}' names no column: {} is missing, and a heading has all of: Code, Block, Class, First amount, Second amount",
+            ),
+            (
+                "fr",
+                "c'est vide, et le facteur scalaire est nécessaire\u00a0: tapez un nombre comme 1 ou 1,05",
+                "«\u00a0{}\u00a0» ne nomme aucune colonne\u00a0: il manque {}, et un en-tête a toutes les colonnes Code, Bloc, Classe, Premier montant, Second montant",
+            ),
+        ):
+            name = f"{language}.xlsx"
+            run("template", "-o", name, "--lang", language)
+            content = Path(name).read_bytes()
+            made = openpyxl.load_workbook(name)
+            sheet = made.worksheets[0]
+            row = next(row[0].row for row in sheet.iter_rows(min_row=2) if tuple(cell.value for cell in row[:3]) == columns.SCALAR)
+            self.refused(name, content, at(f"E{row}", row, 5, empty, language), language=language)
+            for cell, typed in (("A1", "Codes"), ("C1", "Clas"), ("E1", "Amount"), ("F1", "x")):
+                with self.subTest(language=language, cell=cell):
+                    before = sheet[cell].value
+                    sheet[cell].value = typed
+                    made.save(name)
+                    said = misspelt.format(typed, before)
+                    self.refused(name, Path(name).read_bytes(), at(cell, 1, ord(cell[0]) - 64, said, language), language=language)
+                    sheet[cell].value = before
 
     def test_one_that_is_there_stays(self):
         Path("figures.xlsx").write_bytes(b"filled in")

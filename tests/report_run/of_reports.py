@@ -3,10 +3,11 @@
 import random
 from pathlib import Path
 
-from tsav.command import columns
+from tsav.command import columns, layout
 
 TOP = Path(__file__).resolve().parents[2]
 EXAMPLE = (TOP / "examples" / "example.sheet").read_bytes()
+CLOSED = EXAMPLE + layout.CLOSING.encode("ascii") + b"\n"
 SCALAR_ALONE = columns.Line("GEN", 0, 4, 10_000, 0).written()
 _LARGEST = 99_999_999_999_999
 

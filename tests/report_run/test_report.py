@@ -4,6 +4,7 @@ import csv
 import hashlib
 import html.parser
 import io
+import itertools
 import json
 import os
 import re
@@ -15,7 +16,7 @@ from unittest import mock
 
 import tsav
 from command import INSTALLED, InFolder, run, run_process
-from of_reports import EXAMPLE, FULL, SHEETS, TOP
+from of_reports import CLOSED, EXAMPLE, FULL, SHEETS, TOP
 from tsav.command import compared, shapes
 
 try:
@@ -31,7 +32,7 @@ needs_jinja = unittest.skipUnless(jinja2, "Jinja2 is not installed")
 
 
 class Read(html.parser.HTMLParser):
-    """A page's texts by the keys of their figures, its tags, and the identities that are given and referred to."""
+    """A page's texts by the keys of their figures, the cells of its tables' rows, its tags, and the identities that are given and referred to."""
 
     def __init__(self, page: str):
         super().__init__()
@@ -39,7 +40,8 @@ class Read(html.parser.HTMLParser):
         self.tags: list = []
         self.named: set = set()
         self.referred: set = set()
-        self.open: list = []
+        self.rows: list = []
+        self.in_cell = False
         self.key = None
         self.text: list = []
         self.feed(page)
@@ -51,9 +53,19 @@ class Read(html.parser.HTMLParser):
         self.named.update({found["id"]} if "id" in found else set())
         self.referred.update(found.get("aria-labelledby", "").split())
         self.key = found.get("data-figure")
+        if tag == "tr":
+            self.rows.append([])
+        if tag in ("th", "td"):
+            self.rows[-1].append("")
+        self.in_cell = tag in ("th", "td") or tag == "span" and self.in_cell
+
+    def handle_endtag(self, tag):
+        self.in_cell = self.in_cell and tag == "span"
 
     def handle_data(self, data):
         self.text.append(data)
+        if self.in_cell:
+            self.rows[-1][-1] += data
         if self.key:
             self.figures.setdefault(self.key, []).append(data)
             self.key = None
@@ -144,6 +156,21 @@ class Reports(InFolder):
         text = " ".join(Read(page("warned.sheet", "--before", "example.sheet")).text)
         for warning in told:
             self.assertIn(f"Section {warning['section']}: {warning['title']}. {warning['reason']}", text)
+
+    @needs_jinja
+    def test_lines_of_warnings(self):
+        """Each line and each amount that tsav warn tells, as it tells them, in both languages."""
+        Path("warned.sheet").write_bytes(EXAMPLE.replace(b"          10000  ", b"              1  "))
+        for sheet, language in itertools.product(("warned.sheet", "full.sheet", "scalar.sheet"), ("en", "fr")):
+            with self.subTest(sheet=sheet, language=language):
+                told = json.loads(run("warn", sheet, "--before", "example.sheet", "--json", "--lang", language)[1])["warnings"]
+                lines = run("warn", sheet, "--before", "example.sheet", "--lang", language)[1].split("\n")
+                wanted = [line for line in lines if re.match(r" +[A-Z]{3} [ 0-9]{2} [ 0-9]{2} ", line)]
+                self.assertEqual(len(wanted), sum(len(warning["lines"]) for warning in told))
+                self.assertGreater(len(wanted), 1)
+                wanted += [line for line in lines for warning in told for one in warning["amounts"] if line.startswith(f"   {one['name']} ")]
+                rows = Read(page(sheet, "--before", "example.sheet", language=language)).rows
+                self.assertEqual({" ".join(line.split()) for line in wanted} - {" ".join(" ".join(row).split()) for row in rows}, set())
 
     @needs_jinja
     def test_shares_that_are_refused(self):
@@ -288,6 +315,62 @@ class Reports(InFolder):
         self.assertEqual((status, wrong), (1, ""))
         self.assertIn("refusal 25", said)
         self.assertFalse(Path("page.html").exists())
+
+    def test_quarters_that_are_not_closed(self):
+        """A single file that was meant to be a quarter is refused as explain tells it, and what stood there stays."""
+        quarter = (TOP / "examples" / "example.quarter").read_bytes()
+        for given in (
+            CLOSED[:-1],
+            CLOSED[:-1] + b" \n",
+            CLOSED[:-1] + b"\r\n",
+            CLOSED[:-2] + b"\n",
+            CLOSED.replace(b"\n", b"\r"),
+            quarter[:-1],
+            quarter.replace(b"\n", b"\r\n"),
+            quarter.decode("ascii").encode("utf-16"),
+            CLOSED * 61,
+        ):
+            with self.subTest(given[-60:]):
+                Path("open.quarter").write_bytes(given)
+                Path("page.html").write_bytes(b"before")
+                told = run("explain", "--quarter", "open.quarter")
+                self.assertEqual(told[0], 1)
+                self.assertEqual(run("report", "--quarter", "open.quarter", "-o", "page.html"), told)
+                self.assertEqual(Path("page.html").read_bytes(), b"before")
+        told = run("explain", "--quarter", "-", given=EXAMPLE)
+        self.assertEqual(run("report", "--quarter", "-", "--json", given=EXAMPLE)[0], told[0])
+
+    def test_files_of_a_quarter(self):
+        """As tsav-quarter takes them: one that isn't one sheet, or would hide its closing line, is refused by its name."""
+        Path("closed.sheet").write_bytes(CLOSED)
+        Path("open.sheet").write_bytes(EXAMPLE[:-1])
+        Path("hidden.sheet").write_bytes(CLOSED[:-1])
+        for files in (
+            ("closed.sheet", "example.sheet"),
+            ("example.sheet", "closed.sheet"),
+            ("hidden.sheet", "example.sheet"),
+            ("example.sheet", "open.sheet"),
+            ("open.sheet",),
+        ):
+            with self.subTest(files):
+                status, said, wrong = run("report", "--quarter", *files, "-o", "page.html")
+                self.assertEqual((status, said), (2, ""))
+                (bad,) = [name for name in files if name != "example.sheet"]
+                self.assertTrue(wrong.startswith(f"tsav: {bad} "), wrong)
+                self.assertFalse(Path("page.html").exists())
+
+    @needs_jinja
+    def test_quarter_of_no_sheet(self):
+        """An empty file has none; among others it is one, without a scalar."""
+        Path("empty.sheet").write_bytes(b"")
+        status, said, wrong = run("report", "--quarter", "empty.sheet", "-o", "page.html")
+        self.assertEqual((status, said, wrong), (0, "0 of 0 sheets are accepted\npage.html is written\n", ""))
+        read = Read(Path("page.html").read_text(encoding="utf-8")).figures
+        self.assertEqual({key: amount(texts[0]) for key, texts in read.items()}, {f"summary.{item}": 0 for item in range(1, 9)})
+        value = json.loads(run("report", "--quarter", "empty.sheet", "--json")[1])
+        self.assertEqual((value["sheets"], set(value["summary"].values())), ([], {0}))
+        value = json.loads(run("report", "--quarter", "example.sheet", "empty.sheet", "--json")[1])
+        self.assertEqual([(sheet["file"], sheet["refusal"]) for sheet in value["sheets"]], [("example.sheet", None), ("empty.sheet", 12)])
 
     @needs_jinja
     @unittest.skipUnless(weasyprint, "WeasyPrint is not installed")

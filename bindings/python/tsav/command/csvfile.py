@@ -14,18 +14,19 @@ _DELIMITERS = ",;\t"
 
 
 def rows(content: bytes):
-    """The rows that aren't empty, and whether they were split at commas."""
+    """The rows that aren't empty, and what they were split at."""
     text = _text(content)
-    # Of a heading the delimiter is known for certain; otherwise it is the first sign that can be one.
-    for delimiter in _DELIMITERS:
-        try:
-            found = _split(text, delimiter)
-        except tables.Unreadable:
-            continue
-        if tables.heading(found) is not None:
-            return found, delimiter == ","
+    # Of a heading the delimiter is known for certain, also of one that lacks a column; otherwise it is the first sign that can be one.
+    for heading in (tables.heading, tables.broken_heading):
+        for delimiter in _DELIMITERS:
+            try:
+                found = _split(text, delimiter)
+            except tables.Unreadable:
+                continue
+            if heading(found) is not None:
+                return found, delimiter
     delimiter = _first_delimiter(text)
-    return _split(text, delimiter), delimiter == ","
+    return _split(text, delimiter), delimiter
 
 
 def content(lines) -> bytes:

@@ -55,17 +55,26 @@ def paragraph(count: int, doubt: Doubt) -> str:
     head = _("{count}. Section {section}: {title}").format(count=count, section=doubt.section, title=doubt.title)
     told = [doubt.reason]
     if doubt.rows:
-        told += [_MARGIN + line for line in grid(_rows(doubt.rows), left=2)]
+        told += [_MARGIN + line for line in grid(_headed(doubt.rows), left=2)]
     if doubt.amounts:
         told += [_MARGIN + line for line in grid([(amount.name, amount.shown()) for amount in doubt.amounts])]
     return "\n".join([head] + [_MARGIN + line for line in told]) + "\n"
 
 
-def _rows(rows) -> list:
+def _headed(rows) -> list:
     """The cells of each, below the names of the amounts."""
-    names = tuple(amount.name for amount in rows[0].amounts)
-    heading = [("", "", *names)] if names else []
-    return heading + [(place(row.key), _name(row), *(amount.shown() for amount in row.amounts)) for row in rows]
+    names = amount_names(rows)
+    return ([("", "", *names)] if names else []) + [cells(row) for row in rows]
+
+
+def amount_names(rows) -> list:
+    """The rows of a doubt have the same ones."""
+    return [amount.name for amount in rows[0].amounts]
+
+
+def cells(row: Row) -> tuple:
+    """The line, what it is, and its amounts."""
+    return place(row.key), _name(row), *(amount.shown() for amount in row.amounts)
 
 
 def place(key: columns.Key) -> str:

@@ -19,12 +19,15 @@ def add(commands, common) -> None:
     )
     parser.add_argument("file", metavar=_("SHEET"), help=_("the sheet; - is standard input"))
     parser.add_argument("-o", "--output", metavar=_("FILE"), required=True, help=_("what is written, by its ending: .csv or .xlsx"))
+    parser.add_argument("--replace", action="store_true", help=_("replace a file that is there"))
     parser.set_defaults(run=run)
 
 
 def run(options) -> Answer:
     ending = files.ending(options.output, ".csv", ".xlsx")
     files.differ(options.file, options.output)
+    if not options.replace:
+        files.new(options.output, _("{file} is there already: give another name, or --replace"))
     sheet = files.read(options.file, tsav.LONGEST_SHEET)
     try:
         tsav.sheet(sheet)

@@ -64,6 +64,12 @@ def differ(read_from: str, written_to: str) -> None:
         raise Failure(_("{file} is what is read: give another name to write").format(file=written_to))
 
 
+def new(name: str, otherwise: str) -> None:
+    """Refuses, in these words, to replace a file that is there: somebody may have filled it in."""
+    if os.path.lexists(name):
+        raise Failure(otherwise.format(file=name))
+
+
 def ending(name: str, *endings: str) -> str:
     """Which of these a file's name has, in letters of any size."""
     for found in endings:

@@ -13,8 +13,8 @@ _LAST_ROW = 700
 
 # The columns by their letters. Code, block, class and amounts are those of tables.COLUMNS; the others are notes.
 _CODE, _BLOCK, _CLASS, _NAME, _FIRST, _SECOND = "A", "B", "C", "D", "E", "F"
-# Section and dollars are the same words in French.
-_NOTES = {"D": N_("Line"), "G": N_("First amount is"), "H": N_("Second amount is"), "I": "Section", "J": N_("Unit")}
+# Dollars is the same word in French.
+_NOTES = dict(zip("DGHIJ", tables.NOTES))
 _NAMED = {_CODE: "code", _BLOCK: "block", _CLASS: "class", _FIRST: "first", _SECOND: "second"}
 _WIDTHS = {"A": 7, "B": 8, "C": 8, "D": 58, "E": 23, "F": 23, "G": 44, "H": 34, "I": 16, "J": 12}
 

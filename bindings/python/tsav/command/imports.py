@@ -1,8 +1,10 @@
 """`tsav import`: figures in a file of rows (CSV) or a workbook become a sheet, in its order, if the sheet call accepts it."""
 
+import os
+
 import tsav
 from tsav.command import columns, compared, csvfile, files, labels, money, tables, workbook
-from tsav.command.answer import DONE, REFUSED, Answer
+from tsav.command.answer import DONE, REFUSED, Answer, Failure
 from tsav.command.messages import N_, _, ngettext
 from tsav.command.tables import Fault
 
@@ -23,12 +25,14 @@ def add(commands, common) -> None:
         ),
     )
     parser.add_argument("file", metavar=_("FILE"), help=_("the figures, CSV or a workbook (.xlsx); - is standard input"))
-    parser.add_argument("-o", "--output", metavar=_("SHEET"), required=True, help=_("the sheet that is written, once it is accepted"))
+    written = _("the sheet that is written, once it is accepted; it replaces a sheet alone")
+    parser.add_argument("-o", "--output", metavar=_("SHEET"), required=True, help=written)
     parser.set_defaults(run=run)
 
 
 def run(options) -> Answer:
     files.differ(options.file, options.output)
+    _only_a_sheet(options.output)
     content = files.read(options.file, max(csvfile.LONGEST, workbook.LONGEST))
     try:
         table = read(content)
@@ -44,6 +48,17 @@ def run(options) -> Answer:
         left = ngettext("{count} row without amounts is left out.", "{count} rows without amounts are left out.", table.empty)
         text += " " + left.format(count=table.empty)
     return Answer(DONE, text + "\n", {"written": options.output, "lines": count, "rows_left_out": table.empty, "faults": []})
+
+
+def _only_a_sheet(name: str) -> None:
+    """Refuses to replace a file that is none, as a workbook that somebody filled in: lines of 40 bytes, or nothing yet."""
+    # What is no file at all is refused when it is written.
+    if not os.path.isfile(name):
+        return
+    there = files.read(name, tsav.LONGEST_SHEET)
+    length = columns.LENGTH
+    if len(there) > tsav.LONGEST_SHEET or len(there) % length or there[length - 1 :: length].strip(b"\n"):
+        raise Failure(_("{file} is there already, and is no sheet: give another name").format(file=name))
 
 
 def read(content: bytes) -> tables.Table:
@@ -96,6 +111,9 @@ def refusals(table: tables.Table):
     """What can't be read of this table, and every line that the sheet call refuses alone; where there is none, what it refuses of the sheet
     as a whole."""
     faults = table.faults + [fault for line, row in table.lines for fault in _of_line(line, row, table.columns)]
+    if table.scalar and not any((line.code, line.block, line.klass) == columns.SCALAR for line, _row in table.lines):
+        text = _("it is empty, and the scalar may not be left out: type a number like 1 or 1.05")
+        faults.append(Fault(table.scalar, table.columns["first"], text, 12))
     if faults:
         return faults
     number = _refusal(line for line, _row in table.lines)

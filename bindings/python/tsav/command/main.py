@@ -5,6 +5,7 @@ gives an Answer or raises Failure. Add the module to SUBCOMMANDS; `--lang` and `
 """
 
 import argparse
+import errno
 import json
 import os
 import sys
@@ -34,11 +35,15 @@ SUBCOMMANDS = (explain, imports, template, exports, warn, compare, reports, bloc
 
 def main(arguments=None) -> int:
     given = sys.argv[1:] if arguments is None else list(arguments)
+    if sys.stderr is None:
+        sys.stderr = open(os.devnull, "w", encoding="utf-8")
     # A letter that the terminal doesn't have is no reason to say nothing.
-    for stream in (sys.stdout, sys.stderr):
+    for stream in filter(None, (sys.stdout, sys.stderr)):
         stream.reconfigure(errors="replace")
     try:
         _choose_language(given)
+        if sys.stdout is None:
+            raise Failure(_("the answer can't be written: {why}").format(why=os.strerror(errno.EBADF)))
         options = _parser().parse_args(given)
         answer = options.run(options)
         _write(answer, options.json)

@@ -3,12 +3,13 @@
 from fractions import Fraction
 
 import tsav
-from tsav.command import drawings, exactly, labels, refusals
+from tsav.command import doubts, drawings, exactly, labels, refusals
 from tsav.command.chain import Chain, sum_of
 from tsav.command.chain_block import RISKS
 from tsav.command.chain_operational import FACTORS, GENERAL, VOLUMES
 from tsav.command.drawings import LESS, MORE, TOTAL, Given
 from tsav.command.messages import N_, _
+from tsav.command.money import NO_BREAK
 from tsav.command.page import Cell, Head, Part, Row, Table, amount, chain_heads, chain_row, source
 
 
@@ -116,9 +117,25 @@ def warnings(found: list) -> Part:
     if not found:
         return Part("warnings", _("Warnings"), [("text", _("No warnings."))])
     said = _("Section {section}: {title}. {reason}")
-    told = [said.format(section=doubt.section, title=doubt.title, reason=doubt.reason) for doubt in found]
-    items = [("text", _("tsav warn says of this sheet what looks wrong; it is accepted all the same.")), ("list", told)]
+    items = [("text", _("tsav warn says of this sheet what looks wrong; it is accepted all the same."))]
+    for doubt in found:
+        items.append(("text", said.format(section=doubt.section, title=doubt.title, reason=doubt.reason)))
+        items += [("table", table) for table in _of_doubt(doubt)]
     return Part("warnings", _("Warnings"), items)
+
+
+def _of_doubt(doubt: doubts.Doubt):
+    """Its lines, and its amounts."""
+    if doubt.rows:
+        heads = [Head(_("line of the sheet")), Head(_("figure")), *(Head(name, True) for name in doubts.amount_names(doubt.rows))]
+        rows = []
+        for place, *others in map(doubts.cells, doubt.rows):
+            # Code, block and class stay on one line.
+            rows.append(Row([Cell(NO_BREAK.join(place.split())), *map(Cell, others)]))
+        yield Table(_("Lines that it is about"), heads, rows, many=True)
+    if doubt.amounts:
+        rows = [Row([Cell(some.name), Cell(some.shown())]) for some in doubt.amounts]
+        yield Table(_("Amounts that it is about"), [Head(_("figure")), Head(_("amount"), True)], rows)
 
 
 def changes(links: list, before: str) -> Part:

@@ -5,11 +5,8 @@ import hashlib
 import tsav
 from tsav.command import files, money, page, quarters, refusals
 from tsav.command.answer import DONE, Answer, Failure
-from tsav.command.layout import CLOSING
 from tsav.command.messages import N_, _
 from tsav.command.page import Cell, Head, Part, Row, Table
-
-_CLOSING = CLOSING.encode("ascii") + b"\n"
 
 # The items of the summary, whose numbers are sheets or counts where they aren't amounts.
 _ITEMS = {
@@ -48,16 +45,25 @@ def answer(options, written) -> Answer:
 
 
 def _data(given: list) -> tuple:
-    """The quarter, and the names of its sheets' files where each has its own. One file that has closing lines is a quarter."""
+    """The quarter as `tsav-quarter FILE..` reads it, and the names of its sheets' files where each has its own. A single file that was
+    meant to be a quarter is taken as it is, so that it is refused as one; so is an empty one, which has no sheet."""
     contents = [files.read(name, quarters.MOST) for name in given]
     for name, content in zip(given, contents):
         if len(content) > quarters.MOST:
             said = _("{file} is longer than {most} bytes, which no quarter is")
             raise Failure(said.format(file=files.shown(name), most=money.number(quarters.MOST)))
-    if len(given) == 1 and _CLOSING in contents[0]:
+    if given == [files.STANDARD_INPUT] or len(given) == 1 and (not contents[0] or quarters.meant(contents[0])):
         return contents[0], None
-    # A last line feed that a sheet lacks would hide its closing line.
-    return b"".join(content + (b"\n" if content and not content.endswith(b"\n") else b"") + _CLOSING for content in contents), given
+    return b"".join(_closed(name, content) for name, content in zip(given, contents)), given
+
+
+def _closed(name: str, content: bytes) -> bytes:
+    """A sheet with a closing line behind it, which a last line without its line feed would hide."""
+    if quarters.closed(content):
+        raise Failure(_("{file} has a closing line, and is more than one sheet").format(file=files.shown(name)))
+    if content and not content.endswith(b"\n"):
+        raise Failure(_("{file} doesn't end in a line feed").format(file=files.shown(name)))
+    return content + quarters.CLOSING + b"\n"
 
 
 def _sheet(number: int, names, code: str, refusal: int, _item: int, value: int) -> dict:

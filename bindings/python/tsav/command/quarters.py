@@ -14,8 +14,8 @@ from tsav.command.whole import narrow, return_mark
 
 # 60 sheets are a fortieth of this: what is longer is no quarter, and may have no end.
 MOST = 64 * 1024 * 1024
-_CLOSING = layout.CLOSING.encode("ascii")
-_CLOSED = re.compile(rb"^%b\n" % _CLOSING, re.MULTILINE)
+CLOSING = layout.CLOSING.encode("ascii")
+_CLOSED = re.compile(rb"^%b\n" % CLOSING, re.MULTILINE)
 _TOO_MANY = 24
 _NOT_CLOSED = 25
 
@@ -63,6 +63,21 @@ def answer(name: str, data: bytes) -> Answer:
     }
     bad = any(finder.first for finder in sheets)
     return Answer(REFUSED if bad or refused else DONE, "\n".join(_text(name, refused, faults, sheets, parts)), value)
+
+
+def closed(data: bytes) -> bool:
+    """Whether it has a closing line: a last line without its line feed is none."""
+    return bool(_CLOSED.search(data))
+
+
+def meant(data: bytes) -> bool:
+    """Whether something in it was meant to be a closing line, whatever the call says of it."""
+    text = narrow(data) or data
+    return CLOSING in text or any(_dashes(decoded(line.strip())) for line in text.split(b"\n"))
+
+
+def _dashes(text: str) -> bool:
+    return set(text) <= set(layout.DASHES) and len(text) > 9
 
 
 def _lines(data: bytes) -> list:
@@ -120,10 +135,10 @@ def _closed(data: bytes) -> tuple:
     if text is not None:
         mark = Mark(1, "utf-16", _("two bytes for each letter: the file was saved as UTF-16"), _("a byte for each letter"))
         return _fault(1, data.split(b"\n")[0], mark), text
-    if _CLOSING + b"\r\n" in data:
-        at = data.index(_CLOSING + b"\r\n")
-        mark = return_mark(_CLOSING + b"\r", _("a carriage return at the end of a closing line"))
-        return _fault(1 + data[:at].count(b"\n"), _CLOSING + b"\r", mark), data.replace(b"\r\n", b"\n")
+    if CLOSING + b"\r\n" in data:
+        at = data.index(CLOSING + b"\r\n")
+        mark = return_mark(CLOSING + b"\r", _("a carriage return at the end of a closing line"))
+        return _fault(1 + data[:at].count(b"\n"), CLOSING + b"\r", mark), data.replace(b"\r\n", b"\n")
     parts, rest = _parts(data)
     return _last_closed(data[: len(data) - len(rest.sheet)], rest)
 
@@ -139,7 +154,7 @@ def _last_closed(before: bytes, rest: Part) -> tuple:
     last = kept[start:]
     wanted = _("39 minus signs and a line feed, as the last line")
     text = decoded(last)
-    if last == _CLOSING:
+    if last == CLOSING:
         behind = rest.sheet[len(kept) :]
         if behind.startswith(b"\r"):
             last += b"\r"
@@ -148,19 +163,19 @@ def _last_closed(before: bytes, rest: Part) -> tuple:
             column = _("a line feed in column {column}").format(column=columns.LENGTH)
             mark = Mark(columns.LENGTH, "no-line-feed", _("nothing behind the closing line"), column)
         return _fault(number, last, mark), before + kept + b"\n"
-    if set(text) <= set(layout.DASHES) and len(text) > 9:
+    if _dashes(text):
         if set(text) == {"-"}:
             found = ngettext("{count} minus sign", "{count} minus signs", len(text)).format(count=len(text))
         else:
             found = _("{count} dashes that aren't all minus signs").format(count=len(text))
-        return _fault(number, last, Mark(1, "closing-line", found, wanted)), before + kept[:start] + _CLOSING + b"\n"
-    if last.endswith(_CLOSING):
-        sheet = kept[: -len(_CLOSING)]
-        mark = Mark(len(text) - len(_CLOSING) + 1, "no-line-feed", _("the closing line behind a line without its line feed"), wanted)
-        return _fault(number, last, mark), before + sheet + b"\n" + _CLOSING + b"\n"
+        return _fault(number, last, Mark(1, "closing-line", found, wanted)), before + kept[:start] + CLOSING + b"\n"
+    if last.endswith(CLOSING):
+        sheet = kept[: -len(CLOSING)]
+        mark = Mark(len(text) - len(CLOSING) + 1, "no-line-feed", _("the closing line behind a line without its line feed"), wanted)
+        return _fault(number, last, mark), before + sheet + b"\n" + CLOSING + b"\n"
     mark = Mark(len(text) + 1, "not-closed", _("nothing behind the last sheet"), wanted)
     fault = _fault(number, last, mark)._replace(instead=layout.CLOSING)
-    return fault, before + kept + b"\n" + _CLOSING + b"\n"
+    return fault, before + kept + b"\n" + CLOSING + b"\n"
 
 
 def _fault(number: int, line: bytes, mark: Mark, advice: str = "") -> Fault:

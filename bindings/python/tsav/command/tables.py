@@ -5,6 +5,7 @@ The rows come in any order. A heading that names the five columns may stand on t
 order, among others with notes. Without a heading the five columns are the first five, and there is no sixth.
 """
 
+import difflib
 import re
 import unicodedata
 from decimal import Decimal
@@ -12,7 +13,7 @@ from typing import NamedTuple, Optional
 
 from tsav.command import amounts, labels
 from tsav.command.columns import CODES, SCALAR, Line, key
-from tsav.command.messages import _, language
+from tsav.command.messages import N_, _, language
 from tsav.command.visible import visible
 
 # The columns that a row is read from, each with what a heading may call it, in both languages whatever is spoken: the first two names are those
@@ -25,11 +26,19 @@ COLUMNS = {
     "second": ("Second amount", "Second montant", "Deuxième montant", "Amount 2", "Montant 2"),
 }
 
+# What the columns of notes are called that `tsav template` and `tsav export` write. Section is the same word in French.
+NOTES = (N_("Line"), N_("First amount is"), N_("Second amount is"), "Section", N_("Unit"))
+
 # What a comma leaves of an amount that it splits: 000, 234.50 $.
 _MAY_BE_A_REST = re.compile(r"\s*[0-9]+([.,][0-9]+)?\s*\$?\s*")
 
-# A heading stands among these rows, if there is one.
+# A heading stands among these rows, if there is one. One that lacks some of the five columns names so many of them at least; and so alike
+# is a heading with a letter too many or too few.
 _HEADING_ROWS = 20
+_FEWEST_NAMES = 2
+_ALIKE = 0.6
+# What is misspelt is looked for in no more cells, and no more of each.
+_HEADING_CELLS = 64
 
 
 class Unreadable(ValueError):
@@ -61,12 +70,13 @@ class Odd(NamedTuple):
 
 class Table(NamedTuple):
     """What was read: the lines, each with the number of its row, in the order of a sheet; the faults of the other rows; the columns'
-    numbers by their names; and how many rows were left out because both their amounts are empty."""
+    numbers by their names; how many rows were left out because both their amounts are empty; and the scalar's row, if it is one of these."""
 
     lines: list
     faults: list
     columns: dict
     empty: int
+    scalar: Optional[int]
 
 
 def cell_name(row: int, column: int) -> str:
@@ -91,23 +101,38 @@ def column_names() -> dict:
 
 def heading(rows) -> Optional[int]:
     """At which place of these rows the heading stands, if there is one."""
-    return next((at for at, row in enumerate(rows[:_HEADING_ROWS]) if len(_names(row)) == len(COLUMNS)), None)
+    return _names_at_least(rows, len(COLUMNS))
 
 
-def read(rows, split_at_commas: bool = False) -> Table:
-    """The lines of these rows, none of which is empty. Where they were split at commas, a number under a heading of notes may be the rest
-    of an amount."""
+def broken_heading(rows) -> Optional[int]:
+    """Where there is no heading: at which place a row stands that was to be one, and lacks a column."""
+    return _names_at_least(rows, _FEWEST_NAMES)
+
+
+def _names_at_least(rows, count: int) -> Optional[int]:
+    return next((at for at, row in enumerate(rows[:_HEADING_ROWS]) if len(_names(row)) >= count), None)
+
+
+def read(rows, delimiter: str = "") -> Table:
+    """The lines of these rows, none of which is empty. A delimiter that they were split at may have stood in an amount; a comma may have left
+    the rest of one under a heading of notes."""
     at = heading(rows)
     if at is None:
-        reader = _Reader({name: column for column, name in enumerate(COLUMNS, 1)}, len(COLUMNS), notes=False)
+        reader = _Reader({name: column for column, name in enumerate(COLUMNS, 1)}, len(COLUMNS), delimiter)
+        broken = broken_heading(rows)
+        if broken is not None:
+            # Of which column a cell is isn't known then.
+            reader.lacking(rows[broken])
+            rows = []
     else:
         width = max(column for column, cell in enumerate(rows[at].cells, 1) if cell != "")
-        reader = _Reader(_names(rows[at]), width, notes=not split_at_commas)
+        reader = _Reader(_names(rows[at]), width, delimiter)
         reader.titles(rows[:at])
-        reader.twice(rows[at])
-    for row in rows if at is None else rows[at + 1 :]:
+        reader.twice(rows[at], reader.columns)
+        rows = rows[at + 1 :]
+    for row in rows:
         reader.row(row)
-    return Table([reader.lines[place] for place in sorted(reader.lines)], reader.faults, reader.columns, reader.empty)
+    return Table([reader.lines[place] for place in sorted(reader.lines)], reader.faults, reader.columns, reader.empty, reader.scalar)
 
 
 def _plain(cell) -> str:
@@ -131,12 +156,31 @@ def _names(row: Row) -> dict:
     return named
 
 
+def _meant(unknown: dict, missing) -> dict:
+    """Which of these cells, by their columns, were to name the missing columns: those that are most alike; of the others none, unless there
+    are as many as columns are missing."""
+    found, left = {}, list(missing)
+    pairs = [(_likeness(cell, name), -column, name) for column, cell in unknown.items() for name in missing]
+    for likeness, column, name in sorted(pairs, reverse=True):
+        if likeness >= _ALIKE and name in left and -column not in found:
+            found[-column] = name
+            left.remove(name)
+    others = [column for column in unknown if column not in found]
+    if len(others) == len(left):
+        found.update(zip(others, left))
+    return found
+
+
+def _likeness(cell, name: str) -> float:
+    return max(difflib.SequenceMatcher(None, _plain(cell)[:_HEADING_CELLS], _plain(known)).ratio() for known in COLUMNS[name])
+
+
 class _Reader:
     """Reads row after row, and keeps what comes of them."""
 
-    def __init__(self, columns: dict, width: int, notes: bool):
-        self.columns, self.width, self.notes = columns, width, notes
-        self.lines, self.faults, self.empty = {}, [], 0
+    def __init__(self, columns: dict, width: int, delimiter: str):
+        self.columns, self.width, self.delimiter = columns, width, delimiter
+        self.lines, self.faults, self.empty, self.scalar = {}, [], 0, None
 
     def fault(self, row: int, column: int, text: str) -> None:
         self.faults.append(Fault(row, column, text))
@@ -148,11 +192,37 @@ class _Reader:
                 if isinstance(cell, str) and cell.strip().upper() in CODES:
                     self.fault(row.number, column, _("{cell} stands above the heading, where no row is read").format(cell=shown(cell)))
 
-    def twice(self, heading: Row) -> None:
+    def twice(self, heading: Row, columns: dict) -> None:
         for column, cell in enumerate(heading.cells, 1):
             name = _NAMED.get(_plain(cell))
-            if name and self.columns[name] != column:
+            if name and columns[name] != column:
                 self.fault(heading.number, column, _("the heading names this column twice"))
+
+    def lacking(self, heading: Row) -> None:
+        """A heading that hasn't all of the columns: the cells that were to name the others, and what no cell was to name."""
+        named, written = _names(heading), column_names()
+        self.twice(heading, named)
+        notes = {_plain(text) for note in NOTES for text in (note, _(note))}
+        unknown = {
+            column: cell
+            for column, cell in enumerate(heading.cells[:_HEADING_CELLS], 1)
+            if cell != "" and _plain(cell) not in notes and _plain(cell) not in _NAMED
+        }
+        missing = [name for name in COLUMNS if name not in named]
+        meant = _meant(unknown, missing)
+        columns = ", ".join(written.values())
+        for column, name in meant.items():
+            cell = unknown[column]
+            text = _("{cell} names no column: {name} is missing, and a heading has all of: {columns}")
+            if isinstance(cell, Odd):
+                self.fault(heading.number, column, cell.why)
+            else:
+                self.fault(heading.number, column, text.format(cell=quoted(cell), name=written[name], columns=columns))
+        lacking = ", ".join(written[name] for name in missing if name not in meant.values())
+        if lacking:
+            text = _("the heading that begins here lacks {lacking}: a heading has all of: {columns}")
+            first = next(column for column, cell in enumerate(heading.cells, 1) if cell != "")
+            self.fault(heading.number, first, text.format(lacking=lacking, columns=columns))
 
     def row(self, row: Row) -> None:
         named = {name: row.cells[column - 1] if column <= len(row.cells) else "" for name, column in self.columns.items()}
@@ -170,6 +240,8 @@ class _Reader:
             return
         if named["first"] == "" and named["second"] == "":
             self.empty += 1
+            if (code, block, klass) == SCALAR:
+                self.scalar = row.number
             return
         first, second = self._amounts(row, code, block, klass, named)
         if len(self.faults) == before:
@@ -181,9 +253,10 @@ class _Reader:
             if cell == "" or column in self.columns.values():
                 continue
             if column > self.width:
-                self.fault(row.number, column, _("nothing belongs here: was an amount split at a comma or a semicolon within it?"))
+                split = _("nothing belongs here: was an amount split at a comma or a semicolon within it?")
+                self.fault(row.number, column, split if self.delimiter else _("nothing belongs here: empty the cell, or give its column a heading"))
                 return False
-            if not self.notes and isinstance(cell, str) and _MAY_BE_A_REST.fullmatch(cell):
+            if self.delimiter == "," and isinstance(cell, str) and _MAY_BE_A_REST.fullmatch(cell):
                 self.fault(row.number, column, _("a number stands among the notes: was an amount split at a comma within it?"))
                 return False
         return True

@@ -1,10 +1,9 @@
 """`tsav template`: a workbook to fill in, which `tsav import` makes a sheet of."""
 
 import argparse
-import os
 
 from tsav.command import files, form
-from tsav.command.answer import DONE, Answer, Failure
+from tsav.command.answer import DONE, Answer
 from tsav.command.columns import BLOCKS, CODES, PARTICIPATING, TERRITORIES, classes
 from tsav.command.messages import _, ngettext
 
@@ -37,9 +36,7 @@ def blocks(text: str) -> tuple:
 
 def run(options) -> Answer:
     files.ending(options.output, ".xlsx")
-    # One that somebody has filled in is more than this command can make again.
-    if os.path.lexists(options.output):
-        raise Failure(_("{file} is there already: give another name, or delete it").format(file=options.output))
+    files.new(options.output, _("{file} is there already: give another name, or delete it"))
     rows = [(code, block, klass, None, None) for block in (*options.blocks, 0) for code, klass in lines(block)]
     files.write(options.output, form.content(rows))
     text = ngettext("{file}: {count} row to fill in.", "{file}: {count} rows to fill in.", len(rows))
