@@ -47,7 +47,10 @@ class LibreOffice(InFolder):
             self.refused(
                 name,
                 Path(name).read_bytes(),
-                {"en": "the scalar is missing: a row of GEN, block 0, class 4", "fr": "il manque le facteur scalaire\u00a0: une ligne de GEN, bloc 0, classe 4"}[language],
+                {
+                    "en": "cell E43 (row 43, column 5): it is empty, and the scalar may not be left out: type a number like 1 or 1.05",
+                    "fr": "cellule E43 (ligne 43, colonne 5)\u00a0: c'est vide, et le facteur scalaire est nécessaire\u00a0: tapez un nombre comme 1 ou 1,05",
+                }[language],
                 language=language,
             )
             for row in figures.iter_rows(min_row=2):
