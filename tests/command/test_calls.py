@@ -6,7 +6,6 @@ import io
 import json
 import random
 import re
-import shlex
 import tempfile
 import unittest
 from decimal import ROUND_CEILING, Decimal, localcontext
@@ -187,7 +186,7 @@ class Block(Calls):
             self.of_block(texts, NUMBERS)
 
     def test_the_guides_credit(self):
-        """Where docs/GUIDE.md takes it off by hand."""
+        """Where docs/PROGRAMMING.md takes it off by hand."""
         lines = [("RSK", 1, 1, 100000000, 70000000), ("RSK", 1, 3, 5000000, 1000000), ("OTH", 1, 2, 20000000, 0)]
         lines += [("MOR", 1, 1, 40000000, 25000000), ("GEN", 0, 4, 10000, 0)]
         given = b"".join(columns.Line(*line).written() for line in lines)
@@ -420,7 +419,7 @@ class Refused(Calls):
                 answer, texts, rows = self.answered(*arguments, given=sheet, status=1)
                 self.assertEqual((answer["call"], answer["refusal"], answer["line"], answer["position"]), (arguments[0], number, line, None))
                 self.assertEqual(rows["en"][1:], [[str(number), str(line or ""), ""]])
-                self.assertIn("tsav explain", texts["en"])
+                self.assertIn("tsav-convert" if sheet.islower() else "tsav explain", texts["en"])
                 self.assertIn(f"refusal {number} at line {line}." if line else f"refusal {number}.", texts["en"])
                 self.assertIn(f"refus {number}", texts["fr"])
 
@@ -528,30 +527,10 @@ class Usage(Calls):
                 self.assertEqual(run("--lang", language, *arguments, alone=True), run("--lang", language, *arguments))
 
 
-class Guide(Calls):
-    """What docs/GUIDE.md says of them is so."""
+class Page(Calls):
+    """What docs/PROGRAMMING.md says of them is so."""
 
-    GUIDE = (TOP / "docs" / "GUIDE.md").read_text(encoding="utf-8")
-    SECTION = GUIDE.partition("### One call at a time\n")[2].partition("\n### ")[0]
-
-    def samples(self) -> list:
-        """Each command of the section, with what stands below it."""
-        found = re.findall(r"(?m)^    tsav (.*)\n\n((?:    .*\n|\n(?=    ))*)", self.SECTION)
-        return [(shlex.split(command), re.sub("(?m)^    ", "", said)) for command, said in found]
-
-    def test_samples(self):
-        self.assertEqual(len(self.samples()), 4)
-        for command, said in self.samples():
-            with self.subTest(command):
-                place = str(EXAMPLE.parent) + "/"
-                ran = run(*(argument.replace("examples/", place) for argument in command))
-                self.assertEqual((ran.status, ran.out.replace(place, "examples/")), (0, said))
-
-    def test_names_of_rows(self):
-        rows = re.findall(r"(?m)^\| ([1-7]) \| `(.*)` \| `(.*)` \|$", self.SECTION)
-        self.assertEqual([(int(row), (english, french)) for row, english, french in rows], [
-            (number, row.typed) for number, row in fluctuation.ROWS.items()
-        ])
+    SECTION = (TOP / "docs" / "PROGRAMMING.md").read_text(encoding="utf-8").partition("### One call at a time\n")[2]
 
     def test_json(self):
         """Each answer has the names that the section has for it, and no others."""

@@ -5,6 +5,7 @@ import json
 import random
 import re
 import subprocess
+import tempfile
 import unittest
 from pathlib import Path
 
@@ -206,6 +207,47 @@ class Lines(Explain):
             for part in said:
                 self.assertIn(part, fault["advice"])
 
+    def test_one_unit_in_a_line(self):
+        """An amount beside one in dollars is read as dollars too, and what it is in cents is said."""
+        beside = line("RSK", 1, 2, 300000, 300000)
+        for text, instead, said in (
+            ("RSK  1  2          3,000        3000.00", None, ()),
+            ("RSK  1  2      1,000,000     700,000.00", line("RSK", 1, 2, 100000000, 70000000), ("1,000,000 is then 100000000", "type 1000000.")),
+            ("RSK  1  2     700,000.00        700 000", line("RSK", 1, 2, 70000000, 70000000), ("700 000 is then 70000000", "type 700000.")),
+            ("RSK  1  2        3000.00           3000", beside, ("3000 is then 300000", "type 3000.")),
+            ("RSK  1  2          $3000           3000", beside, ("3000 is then 300000", "type 3000.")),
+            ("RSK  1  2        3000.00        3000.00", beside, ()),
+            ("RSK  1  2        3000.00              0", line("RSK", 1, 2, 300000, 0), ()),
+            ("RSK  1  2        300,000        300 000", None, ()),
+            ("RSK  1  2 99999999999999           0.00", None, ("99999999999999 is then 9999999999999900",)),
+        ):
+            with self.subTest(text):
+                fault = self.explained(changed(2, text))["faults"][0]
+                self.assertEqual(fault["instead"], instead)
+                for part in said:
+                    self.assertIn(part, fault["advice"])
+                self.assertEqual("Both amounts" in (fault["advice"] or ""), bool(said))
+
+    def test_what_a_file_is(self):
+        """A workbook, rows and a sheet in thousands are told to be what they are, with the command that makes a sheet of them."""
+        rows = b"Code,Block,Class,First amount,Second amount\nRSK,1,1,5,5\nGEN,0,4,1,\n"
+        for given, said in (
+            (b"PK\x03\x04" + bytes(200), ("It is a workbook", "C'est un classeur", "tsav import {} -o my.sheet")),
+            (b"\xd0\xcf\x11\xe0" + bytes(200), ("It is a workbook", "C'est un classeur", "tsav import {} -o my.sheet")),
+            (rows, ("It is a file of rows (CSV)", "C'est un fichier de lignes (CSV)", "tsav import {} -o my.sheet")),
+            (rows.replace(b",", b";"), ("It is a file of rows (CSV)", "C'est un fichier de lignes (CSV)", "tsav import {} -o my.sheet")),
+            (THOUSANDS, ("It is a sheet in thousands of dollars", "C'est une feuille en milliers de dollars", "tsav-convert {} -o my.sheet")),
+            (changed(2, SECOND[:-1]), None),
+            (b"a letter\n", None),
+        ):
+            for words, language in enumerate(LANGUAGES):
+                with self.subTest(given=given[:20], language=language):
+                    ran = run("explain", "--lang", language, given=given)
+                    self.assertEqual((ran.status, said is not None), (1, "-o my.sheet" in ran.out))
+                    if said:
+                        told = ran.out.splitlines()[2]
+                        self.assertTrue(told.startswith(said[words]) and told.endswith(said[2].format(("FILE", "FICHIER")[words])), told)
+
     def test_several_causes_in_a_line(self):
         fault = self.one(self.explained(changed(2, "RSK\t1  2    3,000.00           03000.00")))
         self.assertEqual(
@@ -288,6 +330,29 @@ class Lines(Explain):
         fault = self.one(self.explained(THOUSANDS))
         self.assertEqual((fault["refusal"], fault["line"], fault["cause"]), (4, 1, "thousands-of-dollars"))
         self.explained(THOUSANDS, "--convert", status=0)
+
+    def test_the_converter_is_named_once(self):
+        """Above the faults with the file, otherwise in what is to be done: of a sheet of a quarter, in JSON, and beside another command."""
+        closed = THOUSANDS + CLOSING
+        for given, arguments, command in (
+            (THOUSANDS, (), "-o my.sheet"),
+            (closed, ("--quarter",), "cents."),
+            (THOUSANDS, ("--json",), "cents."),
+            (b"rsk,1,1,5,5\ngen,0,4,10000,0\n", (), "cents."),
+        ):
+            for language, explained in zip(LANGUAGES, (" by --convert.", " par --convert.")):
+                with self.subTest(given=given[:20], arguments=arguments, language=language):
+                    out = run("explain", "--lang", language, *arguments, given=given).out
+                    self.assertEqual((out.count("tsav-convert"), out.count(explained)), (1, 1))
+                    self.assertIn(command, out.partition("tsav-convert")[2].split("\n")[0])
+
+    def test_a_file_is_not_made_of_itself(self):
+        with tempfile.TemporaryDirectory() as folder:
+            for name, made in (("my.sheet", "cents.sheet"), ("other.sheet", "my.sheet")):
+                file = Path(folder) / name
+                file.write_bytes(THOUSANDS)
+                for language in LANGUAGES:
+                    self.assertIn(f"tsav-convert {file} -o {made}\n", run("explain", str(file), "--lang", language).out)
 
     def test_refusals_without_a_sheet(self):
         for number in range(1, 26):
@@ -563,21 +628,10 @@ class Drawn(unittest.TestCase):
             call(found.rows.data())
 
 
-class Guide(unittest.TestCase):
-    """What docs/GUIDE.md says of it is so."""
+class Page(unittest.TestCase):
+    """What docs/PROGRAMMING.md says of it is so."""
 
-    SECTION = (TOP / "docs" / "GUIDE.md").read_text(encoding="utf-8").partition("### A refused sheet, told in words\n")[2].partition("\n### ")[0]
-
-    def test_example(self):
-        shown = self.SECTION.partition("\nsays\n\n")[2].partition("\n- ")[0]
-        text = "".join(told[4:] + "\n" for told in shown.rstrip("\n").split("\n"))
-        given = sheet(*LINES[:7], "OTH  1  1       25000.00              0", *LINES[8:12])
-        out = run("explain", given=given).out.replace("standard input", "my.sheet", 1)
-        self.assertEqual(text, out)
-
-    def test_options(self):
-        for option in re.findall(r"`tsav explain (--[a-z]+)", self.SECTION):
-            self.assertIn(option, run("explain", "--help").out)
+    SECTION = (TOP / "docs" / "PROGRAMMING.md").read_text(encoding="utf-8").partition("### Explain\n")[2].partition("\n### ")[0]
 
     def test_names(self):
         """Every name of an answer is in the section, and every cause: none of the source is left out, and none is there that isn't."""

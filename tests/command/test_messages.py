@@ -1,6 +1,7 @@
 """Every message is in both languages; and the frame's languages, versions and statuses."""
 
 import argparse
+import os
 import re
 import string
 import subprocess
@@ -12,10 +13,23 @@ from unittest import mock
 import catalogue
 import tsav as library
 from running import COMMAND, INSTALLED, tsav
-from tsav.command import messages
+from tsav.command import arguments, messages
 
-# Of argparse, what a user of these subcommands can meet.
-ARGPARSE = {found for found in catalogue.of_source(Path(argparse.__file__))}
+# Of argparse, what the command says in its own words, or what no user of these subcommands can meet.
+OWN = {
+    "usage: ", "positional arguments", "options", "optional arguments", "show this help message and exit", "%(heading)s:", "subcommands",
+    "argument %(argument_name)s: %(message)s", "unrecognized arguments: %s", "%(prog)s: error: %(message)s\n",
+}  # fmt: skip
+NEVER = {
+    "%r is not callable", "'required' is an invalid argument for positionals", ".__call__() not defined", "argument \"-\" with mode %r",
+    "can't open '%(filename)s': %(error)s", "cannot have multiple subparser arguments", "cannot merge actions - two groups are named %r",
+    "conflicting option string: %s", "conflicting subparser alias: %s", "conflicting subparser: %s", "dest= is required for options like %r",
+    "expected %s argument", "invalid %(type)s value: %(value)r", "invalid conflict_resolution value: %r", " (default: %(default)s)",
+    "invalid option string %(option)r: must start with a character %(prefix_chars)r", "mutually exclusive arguments must be optional",
+    "one of the arguments %s is required", "unexpected option string: %s", "unknown parser %(parser_name)r (choices: %(choices)s)",
+    "show program's version number and exit", "%(prog)s: warning: %(message)s\n", "argument '%(argument_name)s' is deprecated",
+    "command '%(parser_name)s' is deprecated", "option '%(option)s' is deprecated",
+}  # fmt: skip
 
 
 def names(text: str) -> set:
@@ -34,7 +48,13 @@ class Messages(unittest.TestCase):
         self.assertEqual(self.source - {english for english, _ in self.french}, set())
 
     def test_none_is_without_use(self):
-        self.assertEqual({english for english, _ in self.french} - self.source - ARGPARSE, set())
+        self.assertEqual({english for english, _ in self.french} - self.source, set())
+
+    def test_argparse_has_no_other_sentence(self):
+        """That of this Python: each is one that is translated, one that the command says itself, or one that nobody meets."""
+        found = {texts[0] for texts in catalogue.of_source(Path(argparse.__file__))}
+        self.assertEqual(found - set(arguments.OF_ARGPARSE) - OWN - NEVER, set())
+        self.assertLessEqual(set(arguments.OF_ARGPARSE), found)
 
     def test_each_is_said_once(self):
         said = [english for english, _ in self.french]
@@ -54,7 +74,7 @@ class Messages(unittest.TestCase):
 
     def test_the_french_are_other_words(self):
         """But for those that are written alike in both."""
-        alike = {("{name} {number}",), ("options",), ("UTF-16",), ("Section",), ("section",), ("Position",)}
+        alike = {("{name} {number}",), ("options",), ("UTF-16",), ("Section",), ("section",), ("Position",), ("arguments",)}
         same = {english for english, french in self.french if english == french}
         self.assertLessEqual(same, alike)
 
@@ -113,6 +133,33 @@ class Frame(unittest.TestCase):
                     for text in said:
                         self.assertIn(text, ran.err)
 
+    def test_errors_whatever_the_version(self):
+        """What argparse says, and what the command says in its place, word for word in both languages."""
+        for given, english, french in (
+            (("explain", "a", "b"), "unknown arguments: b", "arguments inconnus\u00a0: b"),
+            (("explain", "--refusal", "26"), "argument --refusal: a refusal is a number from 1 to 25", "argument --refusal\u00a0: un refus est un nombre de 1 \u00e0 25"),
+            (("explain", "--refusal", "x"), "argument --refusal: a refusal is a number from 1 to 25", "argument --refusal\u00a0: un refus est un nombre de 1 \u00e0 25"),
+            (("explain", "--refusal"), "argument --refusal: expected one argument", "argument --refusal\u00a0: une valeur est attendue"),
+            (("explain", "--convert=1"), "argument --convert: ignored explicit argument '1'", "argument --convert\u00a0: ne prend pas de valeur, or '1' est donn\u00e9"),
+            (("explain", "--convert", "--quarter"), "argument --quarter: not allowed with argument --convert", "argument --quarter\u00a0: ne va pas avec l'argument --convert"),
+            (("warn",), "the following arguments are required: SHEET", "il manque les arguments\u00a0: FEUILLE"),
+            (("report",), "the following arguments are required: FILE", "il manque les arguments\u00a0: FICHIER"),
+        ):
+            for language, said, error in (("en", english, "error: "), ("fr", french, "erreur\u00a0: ")):
+                with self.subTest(given=given, language=language):
+                    ran = tsav("--lang", language, *given)
+                    self.assertEqual((ran.status, ran.out), (2, ""))
+                    self.assertTrue(ran.err.splitlines()[-1].endswith(f"{error}{said}"), ran.err)
+
+    def test_usage_of_two_lines(self):
+        """One below the other, behind the same words."""
+        for language, before in (("en", "usage: "), ("fr", "utilisation\u00a0: ")):
+            for subcommand in ("block", "shares", "movement"):
+                first, second = tsav("--lang", language, subcommand, "--help").out.splitlines()[:2]
+                with self.subTest(subcommand=subcommand, language=language):
+                    self.assertTrue(first.startswith(f"{before}tsav {subcommand} "), first)
+                    self.assertTrue(second.startswith(" " * len(before) + f"tsav {subcommand} "), second)
+
     def test_help(self):
         for arguments in (("--help",), ("explain", "--help")):
             english, french = tsav(*arguments), tsav(*arguments, LANG="fr_CA.UTF-8")
@@ -131,8 +178,20 @@ class Frame(unittest.TestCase):
             for line, word in zip(lines, words):
                 self.assertTrue(line.startswith(word), line)
             self.assertEqual(lines[0], f"tsav {library.__version__}")
-            self.assertTrue(lines[1].endswith(f" {library.VERSION}"))
-            self.assertTrue(lines[2].endswith((catalogue.TOP / "rattle-toolchain").read_text().strip()), lines[2])
+            self.assertIn(f" {library.VERSION}", lines[1])
+            if "TSAV_LIBRARY" not in os.environ:
+                self.assertTrue(lines[2].endswith((catalogue.TOP / "rattle-toolchain").read_text().strip()), lines[2])
+
+    def test_version_of_another_library(self):
+        """Its own number and its name; of its toolchain nothing is known, and the package's isn't named."""
+        place = str(Path(library._library._name).resolve()) if "/" in library._library._name else library._library._name
+        for language, unknown in (("en", "not known of the library that TSAV_LIBRARY names"), ("fr", "inconnue pour la biblioth\u00e8que que nomme TSAV_LIBRARY")):
+            with mock.patch.object(library._library, "tsav_version", lambda: 7):
+                ran = tsav("--lang", language, "--version", TSAV_LIBRARY=place)
+            lines = ran.out.splitlines()
+            self.assertEqual((ran.status, len(lines)), (0, 3))
+            self.assertTrue(lines[1].endswith(f" {library.VERSION if INSTALLED else 7}, {place}"), lines[1])
+            self.assertTrue(lines[2].endswith(unknown), lines[2])
 
     def test_not_read_and_not_written(self):
         folder = str(catalogue.TOP)

@@ -12,7 +12,7 @@ from running import INSTALLED, TOP, names_of, tsav
 from sheets import EXAMPLE, SOUND, InFolder, altered, sheet, sound, total
 from tsav.command import columns, labels, messages
 
-SECTION = (TOP / "docs" / "GUIDE.md").read_text(encoding="utf-8").partition("### What looks wrong, and what moved\n")[2].partition("\n### ")[0]
+SECTION = (TOP / "docs" / "PROGRAMMING.md").read_text(encoding="utf-8").partition("### Warn and compare\n")[2].partition("\n### ")[0]
 
 # A process each where an installed command is tried.
 DRAWN = 20 if INSTALLED else 200
@@ -357,6 +357,33 @@ class Frame(InFolder):
                     ran = tsav(*arguments, "--lang", language, given=given)
                     self.assertEqual((ran.status, ran.out.count(said), ran.out.count("\n")), (1, len(refused), len(refused)))
 
+    def test_what_is_no_sheet_in_cents(self):
+        """It is told to be what it is, with the command that makes a sheet of it, by every subcommand that takes a sheet."""
+        thousands, rows = (TOP / "examples" / "thousands.sheet").read_bytes(), b"Code,Block,Class,First amount,Second amount\nGEN,0,4,1,\n"
+        for data, what, made in (
+            (thousands, "It is a sheet in thousands of dollars. This makes one in cents of it: ", "tsav-convert {} -o my.sheet"),
+            (rows, "It is a file of rows (CSV). If its amounts are in dollars, this makes a sheet of it: ", "tsav import {} -o my.sheet"),
+            (b"PK\x03\x04" + bytes(400), "It is a workbook. If its amounts are in dollars, this makes a sheet of it: ", "tsav import {} -o my.sheet"),
+        ):
+            name = self.file("a file", data)
+            good = self.file("good.sheet", sound())
+            said = what + made.format(f"'{name}'")
+            for arguments in (
+                ("warn", name),
+                ("warn", good, "--before", name),
+                ("compare", good, name),
+                ("export", name, "-o", str(self.folder / "new.csv")),
+                ("block", name, "--block", "1"),
+                ("operational", name),
+                ("report", name, "--csv", str(self.folder / "new.csv")),
+                ("report", good, "--before", name, "--csv", str(self.folder / "new.csv")),
+            ):
+                with self.subTest(what=what, arguments=arguments[:1]):
+                    ran = tsav(*arguments)
+                    self.assertEqual((ran.status, ran.err, ran.out.count(said)), (1, "", 1), ran.out)
+                    self.assertFalse((self.folder / "new.csv").exists())
+            self.assertIn(said, json.loads(tsav("warn", name, "--json").out)["refused"][0]["what"])
+
     def test_not_read(self):
         missing = str(self.folder / "no.sheet")
         for arguments in ((missing,), ("-", "--before", missing), (str(self.folder),), ("-", "--before", "-"), ()):
@@ -388,14 +415,8 @@ def bare(value):
     return [bare(part) for part in value] if isinstance(value, list) else value
 
 
-class Guide(InFolder):
-    """What docs/GUIDE.md says of it is so."""
-
-    def test_example(self):
-        shown = SECTION.partition("tsav warn my.sheet\n\nsays\n\n")[2].partition("\n- ")[0]
-        text = "".join(line[4:] + "\n" for line in shown.rstrip("\n").split("\n"))
-        given = EXAMPLE.replace(b"GEN  0  1      200000000              0\n", b"").replace(b"GEN  0  4          10000", b"GEN  0  4              1")
-        self.assertEqual(text, tsav("warn", "-", given=given).out.replace("standard input", "my.sheet", 1))
+class Page(InFolder):
+    """What docs/PROGRAMMING.md says of it is so."""
 
     def test_causes(self):
         """Every cause of the source is in the table with its sections, and none is there that isn't; and so with the names of amounts."""

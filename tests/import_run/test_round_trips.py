@@ -62,16 +62,19 @@ class RoundTrips(InFolder):
 
     def test_a_sheet_that_is_refused_is_not_exported(self):
         for sheet, told in (
-            (b"", "refused by 12,"),
-            (b"RSK  1  1              1              2\n", "refused by 9 at line 1,"),
-            (b"rsk  1  1              1              1\n", "refused by 4 at line 1,"),
-            (b"x" * 100_000, "refused by 1,"),
+            (b"", "refusal 12. There is no scalar line. tsav explain says what to mend."),
+            (b"RSK  1  1              1              2\n", "refusal 9 at line 1. A level and trend part is above its gross component. tsav explain says what to mend."),
+            (
+                b"rsk  1  1              1              1\n",
+                "refusal 4 at line 1. It is a sheet in thousands of dollars. This makes one in cents of it: tsav-convert in.sheet -o my.sheet",
+            ),
+            (b"x" * 100_000, "refusal 1. The sheet has more than 25,160 bytes, which are 629 lines. tsav explain says what to mend."),
         ):
             Path("in.sheet").write_bytes(sheet)
             for name in ("out.csv", "out.xlsx"):
                 Path(name).write_bytes(self.BEFORE)
                 status, said, wrong = run("export", "in.sheet", "--replace", "-o", name)
-                self.assertEqual((status, said, wrong), (1, f"in.sheet is {told} and nothing is written; tsav explain says why.\n", ""))
+                self.assertEqual((status, said, wrong), (1, f"in.sheet is refused: {told} Nothing is written.\n", ""))
                 self.assertEqual(Path(name).read_bytes(), self.BEFORE)
 
 

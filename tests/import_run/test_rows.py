@@ -101,7 +101,7 @@ class Refused(InFolder):
     def test_cells(self):
         self.cell(f'RSK,1,1,"1,000",5\n{SCALAR}', ("D1", 1, 4, f"'1,000': {EITHER}"))
         self.cell(f"\nRSK;1;1;1000;1.000\n{SCALAR.replace(',', ';')}", ("E2", 2, 5, f"'1.000': {EITHER}"))
-        self.cell(f"RSK,1,1,0.005,1\n{SCALAR}", ("D1", 1, 4, "'0.005': it has more than two decimals, and an amount is in whole cents"))
+        self.cell(f"RSK,1,1,0.005,1\n{SCALAR}", ("D1", 1, 4, "'0.005': it has more than two decimals, and an amount is in whole cents: round it, up or down as it must be"))
         self.cell("GEN,0,4,1.00005", ("D1", 1, 4, "'1.00005': it is finer than 0.0001"))
         self.cell(f"RKS,1,1,1,1\n{SCALAR}", ("A1", 1, 1, f"'RKS' is no code {CODES}, and a heading has all of: {HEADING}"))
         self.cell(f",1,1,1,1\n{SCALAR}", ("A1", 1, 1, f"'' is no code {CODES}, and a heading has all of: {HEADING}"))
@@ -114,6 +114,32 @@ class Refused(InFolder):
         self.cell(f"RSK,1,1,,5\n{SCALAR}", ("D1", 1, 4, "it is empty: type 0 where there is nothing"))
         self.cell(f"RSK,1,1,-5,5\n{SCALAR}", ("D1", 1, 4, "'-5': it is below zero, or has a sign"))
         self.cell(f"RSK,,x,5,5\n{SCALAR}", ("B1", 1, 2, "it is empty: type 0 where there is nothing"), ("C1", 1, 3, "'x': a whole number of at most two digits belongs here"))
+
+    def test_words_in_french(self):
+        """Decimals as French has them, also in what is said of a cell."""
+        scalar = "GEN;0;4;1;0\n"
+        for amount, told in (
+            ("1.000", "ce peut être 1000 ou 1,000\u00a0: tapez-le sans signe entre les milliers, ou avec deux décimales"),
+            ("50000.005", "il y a plus de deux décimales, et un montant est en cents entiers\u00a0: arrondissez-le, vers le haut ou vers le bas comme il se doit"),
+        ):
+            self.cell(f"OTH;1;1;{amount};0\n{scalar}", ("D1", 1, 4, f"«\u00a0{amount}\u00a0»\u00a0: {told}"), language="fr")
+        self.cell(f"OTH;33;1;5;0\n{scalar}", ("B1", 1, 2, "OTH n'a pas de bloc 33; ses blocs sont 1 à 32"), language="fr")
+
+    def test_a_sheet_is_no_table(self):
+        """It is told to be one, whether the sheet call accepts it or not."""
+        thousands = EXAMPLE.with_name("thousands.sheet").read_bytes()
+        sheet = "it is a sheet already, in fixed columns; tsav explain says what the sheet call says of it, and tsav export makes rows of it"
+        for content, said in (
+            (EXAMPLE.read_bytes(), sheet),
+            (EXAMPLE.read_bytes().replace(b"\n", b"\r\n")[40:], sheet),
+            (b"\xef\xbb\xbfA title\n" + EXAMPLE.read_bytes()[:-1], sheet),
+            (thousands, "it is a sheet already, in thousands of dollars; tsav-convert makes one in cents of it"),
+        ):
+            with self.subTest(content[:20]):
+                self.refused("figures.csv", content, said)
+        self.refused(
+            "figures.csv", thousands, "c'est déjà une feuille, en milliers de dollars; tsav-convert en fait une en cents", language="fr"
+        )
 
     def test_amounts_that_their_commas_split(self):
         self.cell(f"RSK,1,1,1,000,000,700,000\n{SCALAR}", ("F1", 1, 6, SPLIT))
@@ -199,9 +225,9 @@ class Refused(InFolder):
 
     def test_by_the_call(self):
         """Each refusal of the sheet call that figures can have, at the cell that is to be mended."""
-        self.cell(f"RSK,33,1,5,5\n{SCALAR}", ("B1", 1, 2, "of RSK one of these: 1 to 32"))
-        self.cell(f"CRD,16,1,5,0\n{SCALAR}", ("B1", 1, 2, "of CRD one of these: 0, 17 to 32"))
-        self.cell(f"VOL,1,9,5,5\n{SCALAR}", ("C1", 1, 3, "of VOL in block 1 one of these: 1 to 8"))
+        self.cell(f"RSK,33,1,5,5\n{SCALAR}", ("B1", 1, 2, "RSK has no block 33; its blocks are 1 to 32"))
+        self.cell(f"CRD,16,1,5,0\n{SCALAR}", ("B1", 1, 2, "CRD has no block 16; its blocks are 0, 17 to 32"))
+        self.cell(f"VOL,1,9,5,5\n{SCALAR}", ("C1", 1, 3, "VOL has no class 9 in block 1; its classes there are 1 to 8"))
         self.cell(f"GEN,0,5,1,1\n{SCALAR}", ("E1", 1, 5, "there is no second amount in such a row: leave it empty, or type 0"))
         self.cell(f"RSK,1,1,5,5.01\n{SCALAR}", ("E1", 1, 5, "the level and trend part is above the gross component"))
         for scalar in ("2.0001", "0", "10000", "105"):
@@ -225,9 +251,9 @@ class Refused(InFolder):
             self.refused("figures.csv", text.encode("utf-8"), "the scalar is missing: a row of GEN, block 0, class 4")
 
     def test_in_french(self):
-        self.cell(f'RSK;1;1;1,000;5\n{SCALAR.replace(",", ";")}', ("D1", 1, 4, "«\u00a01,000\u00a0»\u00a0: ce peut être 1000 ou 1.000\u00a0: tapez-le sans signe entre les milliers, ou avec deux décimales"), language="fr")
+        self.cell(f'RSK;1;1;1,000;5\n{SCALAR.replace(",", ";")}', ("D1", 1, 4, "«\u00a01,000\u00a0»\u00a0: ce peut être 1000 ou 1,000\u00a0: tapez-le sans signe entre les milliers, ou avec deux décimales"), language="fr")
         self.cell(f"RSK,1,1,5,5.01\n{SCALAR}", ("E1", 1, 5, "les composantes niveau et tendance dépassent la composante brute"), language="fr")
-        self.cell(f"CRD,16,1,5,0\n{SCALAR}", ("B1", 1, 2, "pour CRD, une de ces valeurs\u00a0: 0, 17 à 32"), language="fr")
+        self.cell(f"CRD,16,1,5,0\n{SCALAR}", ("B1", 1, 2, "CRD n'a pas de bloc 16; ses blocs sont 0, 17 à 32"), language="fr")
         self.refused("figures.csv", b"", "il manque le facteur scalaire\u00a0: une ligne de GEN, bloc 0, classe 4", language="fr")
 
     def test_all_faults_are_told(self):

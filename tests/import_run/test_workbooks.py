@@ -75,7 +75,8 @@ class Workbooks(InFolder):
             (["RSK", 1, 1, -5, 0], ("D2", 2, 4, "-5: it is below zero, or has a sign")),
             (["RSK", 1, 1, 1e12, 0], ("D2", 2, 4, "1000000000000: above $999,999,999,999.99")),
             (["RSK", 1.5, 1, 5, 0], ("B2", 2, 2, "1.5: a whole number of at most two digits belongs here")),
-            (["RSK", 1, True, 5, 0], ("C2", 2, 3, "True is no figure")),
+            (["RSK", 1, True, 5, 0], ("C2", 2, 3, "TRUE is no figure")),
+            (["RSK", 1, 1, False, 0], ("D2", 2, 4, "FALSE is no figure")),
             ([7, 1, 1, 5, 0], ("A2", 2, 1, f"7 is no code {CODES}, and a heading has all of: {HEADING}")),
             (["RSK", 1, 1, 5, 6], ("E2", 2, 5, "the level and trend part is above the gross component")),
             (["GEN", 0, 4, 1, 0], ("A3", 3, 1, "GEN, block 0, class 4 stands in row 2 already")),
@@ -83,6 +84,11 @@ class Workbooks(InFolder):
         ):
             with self.subTest(row=row):
                 self.refused("figures.xlsx", with_rows(row), at(*told))
+        for value, told in (
+            (50000.005, "50000,005\u00a0: c'est plus fin que le cent\u00a0: arrondissez-le au cent, vers le haut ou vers le bas comme il se doit"),
+            (True, "VRAI n'est pas un montant"),
+        ):
+            self.refused("figures.xlsx", with_rows(["RSK", 1, 1, value, 0]), f"cellule D2 (ligne 2, colonne 4)\u00a0: {told}", language="fr")
         # A sum that was pasted as its value: openpyxl itself would write 16 digits of it.
         made = parts(with_rows(["RSK", 1, 1, 5, 0.25]))
         made[WORKSHEET] = made[WORKSHEET].replace(b"<v>0.25</v>", b"<v>0.30000000000000004</v>")

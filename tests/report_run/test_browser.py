@@ -1,4 +1,5 @@
-"""The page in a browser, at the widths of a phone, a desk and a sheet of paper, in both languages: nothing overflows, and all figures are visible."""
+"""The page in a browser, at the widths of a phone, a desk and a sheet of paper, in both languages: nothing overflows, and all figures are visible; read
+back, they are those of the calls."""
 
 import html
 import json
@@ -6,11 +7,14 @@ import re
 import shutil
 import subprocess
 import unittest
+from fractions import Fraction
 from pathlib import Path
 
-from command import InFolder
+import tsav
+from command import InFolder, run
 from of_reports import SHEETS
-from test_report import needs_jinja, page
+from test_report import APART, as_shown, needs_jinja, number, page
+from tsav.command import compared
 
 BROWSER = next(filter(None, map(shutil.which, ("chromium", "chromium-browser", "google-chrome"))), None)
 
@@ -33,12 +37,17 @@ window.addEventListener("load", () => {
       name: frame.name, scroll: inside.documentElement.scrollWidth, width,
       out: out.slice(0, 5).map((e) => e.outerHTML.slice(0, 120)), figures: figures.length, hidden: hidden.length,
       overlap: overlap.slice(0, 3).map((e) => e.textContent.slice(0, 80)),
-      read: Object.fromEntries(figures.map((e) => [e.dataset.figure, e.innerText])),
+      read: figures.map((e) => [e.dataset.figure, e.innerText]),
     };
   });
   document.body.textContent = "SAID" + encodeURIComponent(JSON.stringify(said)) + "END";
 });
 """
+
+
+def before(name: str) -> str:
+    """The last sheet of one."""
+    return "example.sheet" if name != "example" else "scalar.sheet"
 
 
 def measured(pages: dict) -> list:
@@ -67,7 +76,7 @@ class Browser(InFolder):
         pages = {}
         for language in ("en", "fr"):
             for name in SHEETS:
-                text = page(f"{name}.sheet", "--before", "example.sheet" if name != "example" else "scalar.sheet", language=language)
+                text = page(f"{name}.sheet", "--before", before(name), language=language)
                 for kind, width in WIDTHS.items():
                     shown = text.replace("@media print", "@media all").replace("@media screen and", "@media not all and") if kind == "print" else text
                     pages[f"{name} {language} {kind}"] = (width, shown)
@@ -78,9 +87,33 @@ class Browser(InFolder):
                 self.assertGreater(frame["figures"], 20)
                 self.assertEqual((frame["hidden"], frame["out"], frame["overlap"]), (0, [], []))
                 self.assertLessEqual(frame["scroll"], frame["width"])
-        read = {frame["name"]: frame["read"] for frame in said}
+                name, language, _kind = frame["name"].split()
+                self.read_back(name, language, frame["read"])
+        read = {frame["name"]: dict(frame["read"]) for frame in said}
         self.assertEqual(read["example en phone"]["total.buffer"], "$1,632,657.83")
         self.assertEqual(read["example fr desk"]["total.buffer"].replace("\u00a0", " "), "1 632 657,83 $")
+
+    def read_back(self, name: str, language: str, read: list) -> None:
+        """Every text that the browser shows of a figure is the figure of the JSON, none is left out; and those of the report are the sheet call's."""
+        status, said, _wrong = run("report", f"{name}.sheet", "--before", before(name), "--json")
+        self.assertEqual(status, 0)
+        value = json.loads(said)
+        wanted = {figure["key"]: as_shown(figure) for figure in value["figures"]}
+        for ending, of in (("", "change"), (".now", "now"), (".before", "before")):
+            total = Fraction(0)
+            for link in value["changes"]:
+                wanted[f"change.{link['key']}{ending}"] = {Fraction(link[of]) / 100}
+                total += Fraction(link[of])
+            wanted[f"change.total.buffer{ending}"] = {total / 100}
+        for key, text in read:
+            self.assertIn(number(text, language), wanted[key], key)
+        left = {key for key in wanted if not APART.fullmatch(key)} - {key for key, _text in read}
+        self.assertEqual(left, set())
+        shown = {key: number(text, language) * 100 for key, text in read}
+        for (code, block, item), told in compared.figures(tsav.sheet(SHEETS[name])).items():
+            totals, figures = ("total.k", "operational.ro", "total.buffer"), ("i", "d", "u", "lt", "k")
+            key = f"block.{block}.{figures[item - 1]}" if code == "BLK" else totals[item - 1]
+            self.assertEqual(shown[key], Fraction(told, 2 if code == "BLK" and item < 3 else 1), key)
 
     def test_the_measure_can_fail(self):
         wide = '<!DOCTYPE html><body><div style="width:500px">x</div><span data-figure="a" style="display:none">1</span></body>'

@@ -36,6 +36,37 @@ class Chains(unittest.TestCase):
             with self.subTest(key):
                 self.assertEqual(exactly.decimal(chain.amount(key)), text)
 
+    def test_added_up_again(self):
+        """By the factors of the chain and its figures alone, as a reader would: Q, I and D of every block, and each territory's charges."""
+        for sheet in (*SHEETS.values(), *drawn.sheets(40, 43)):
+            amounts = {key: figure.amount for key, figure in chain_whole.build(sheet).figures.items()}
+            for block in [key[: -len(".q")] for key in amounts if key.endswith(".q")]:
+                nets = [amounts[f"{block}.risk.{i}.net"] for i in range(1, 8)]
+                weighted = [sum(amounts[f"factor.correlation.{i}.{j}"] * nets[j - 1] for j in range(1, 8)) for i in range(1, 8)]
+                products = [net * weight for net, weight in zip(nets, weighted)]
+                self.assertEqual(weighted, [amounts[f"{block}.risk.{i}.weighted"] for i in range(1, 8)])
+                self.assertEqual(products, [amounts[f"{block}.risk.{i}.product"] for i in range(1, 8)])
+                self.assertEqual((sum(products), max(nets)), (amounts[f"{block}.q"], amounts[f"{block}.floor"]))
+                least = amounts[f"{block}.i"] - amounts[f"{block}.pc"]
+                half = Fraction(1, 2)
+                self.assertTrue(least >= max(nets) and least**2 >= sum(products))
+                self.assertTrue(least == max(nets) or (least - half) ** 2 < sum(products))
+                i, a, d = (amounts[f"{block}.{name}"] for name in "iad")
+                self.assertEqual(amounts[f"{block}.radicand"], a * a + 2 * amounts["factor.between"] * a * i + i * i)
+                self.assertTrue(d == 0 or (d - half) ** 2 < amounts[f"{block}.radicand"])
+                self.assertGreaterEqual((d + half) ** 2, amounts[f"{block}.radicand"])
+            for territory in {re.match(r"territory\.[0-9]+", key)[0] for key in amounts if key.startswith("territory.")}:
+                for ending in ("volume_charge", "growth_charge", "charge"):
+                    self.assertEqual(sum(amounts[f"{territory}.volume.{k}.{ending}"] for k in range(1, 9)), amounts[f"{territory}.{ending}"])
+
+    def test_the_factors_are_symmetric(self):
+        """As section 11.2.1 prints them, with the ones of the diagonal."""
+        amounts = {key: figure.amount for key, figure in chain_whole.build(EXAMPLE).figures.items()}
+        for i in range(1, 8):
+            self.assertEqual(amounts[f"factor.correlation.{i}.{i}"], 1)
+            for j in range(1, 8):
+                self.assertEqual(amounts[f"factor.correlation.{i}.{j}"], amounts[f"factor.correlation.{j}.{i}"])
+
     def test_every_report_line(self):
         for name, sheet in SHEETS.items():
             chain = chain_whole.build(sheet)
@@ -143,7 +174,7 @@ class Decimals(unittest.TestCase):
             exactly.decimal(Fraction(1, 3))
 
     def test_dollars(self):
-        for language, shown in (("en", ("$5.625", "-$1,000.00", "$0.00")), ("fr", ("5,625\u00a0$", "-1\u00a0000,00\u00a0$", "0,00\u00a0$"))):
+        for language, shown in (("en", ("$5.625", "\u2212$1,000.00", "$0.00")), ("fr", ("5,625\u00a0$", "\u22121\u00a0000,00\u00a0$", "0,00\u00a0$"))):
             messages.choose(language)
             self.assertEqual(tuple(map(exactly.dollars, (Fraction(1125, 2), -100_000, 0))), shown)
         messages.choose("en")

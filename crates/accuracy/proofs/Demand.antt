@@ -6,7 +6,7 @@ use Rattle.guideline.specs.Block.{U, LT, Vh, AcceptedBlock}
 use Rattle.guideline.specs.Buffer.{Sheet, buffer, AcceptedSheet}
 use Rattle.accuracy.specs.Demand.{BlockDemand, BufferDemand}
 use Rattle.guideline.proofs.Figures.{v_is, u_small, fine_d_high, fine_d_third, d_high, d_third, requirement_rises, k_twice, k_high}
-use Rattle.accuracy.proofs.Exactly.{m_rises, fraction_rises, fine_i_at, fine_d_at, i_at, d_at, fits_below, fits_reported, k_not_below, k_near_by}
+use Rattle.accuracy.proofs.ExactFigures.{m_rises, fraction_rises, fine_i_at, fine_d_at, i_at, d_at, fits_below, fits_reported, k_not_below, k_near_by}
 use Rattle.accuracy.proofs.ExactBuffer.{buffer_at_lem, buffer_near}
 
 pub block_demand : (b : List ℕ) → AcceptedBlock b → BlockDemand b

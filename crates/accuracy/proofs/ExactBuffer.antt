@@ -15,7 +15,7 @@ use Rattle.accuracy.specs.Fraction.{◌≤ᶠ◌, whole, hundredths}
 use Rattle.accuracy.specs.Exact.{k_at}
 use Rattle.guideline.specs.Buffer.{Sheet, sum_k, buffer, AcceptedSheet}
 use Rattle.accuracy.specs.ExactBuffer.{Choice, sum_at, StrictlyBelowBuffer, less_allowance}
-use Rattle.accuracy.proofs.Exactly.{k_bound, k_near_by}
+use Rattle.accuracy.proofs.ExactFigures.{k_bound, k_near_by}
 use Rattle.guideline.proofs.Totals.{ro_law, bracket_is, buffer_law}
 
 -- ---- sums of fractions

@@ -16,7 +16,7 @@ use Rattle.guideline.specs.Buffer.{Sheet, AcceptedSheet}
 use Rattle.accuracy.specs.LeastNumbers.{BlockLeast, OperationalLeast, BufferLeast}
 use Rattle.accuracy.proofs.Fractions.{square_is}
 use Rattle.guideline.proofs.Figures.{q, q_is, root_law, fine_d_law, i_law, d_law, k_law, k_none}
-use Rattle.accuracy.proofs.Exactly.{k_at_some, k_at_none, v_pos, fine_i_at, i_at}
+use Rattle.accuracy.proofs.ExactFigures.{k_at_some, k_at_none, v_pos, fine_i_at, i_at}
 use Rattle.guideline.proofs.Totals.{ro_law, buffer_law}
 
 module _ (b : List ℕ) (v : AcceptedBlock b) where

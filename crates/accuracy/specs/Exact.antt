@@ -3,11 +3,11 @@ use Rattle.std.specs.Prelude.{◌≡◌, List, ℕ, ◌+◌, ◌-◌, ◌*◌, �
 use Rattle.std.proofs.Common.{sym, ap, ◌∙◌, mul-pos, arith}
 use Rattle.std.proofs.Math.Decide.{dec_lt}
 use Rattle.std.proofs.Math.IntN.{sub_ℕ}
+use Rattle.integer.specs.Larger.{larger}
 use Rattle.integer.proofs.Integer.{as_diff, diff_eq, diff_add, diff_mul}
+use Rattle.integer.proofs.Difference.{cut_larger, diff_less, times_diff}
 use Rattle.basics.specs.Pick.{pick}
 use Rattle.guideline.specs.Block.{PC, a, U, LT, Vh, largest, Q4}
-use Rattle.guideline.specs.Difference.{larger, cut_larger}
-use Rattle.accuracy.specs.Difference.{diff_less, times_diff}
 use Rattle.accuracy.specs.Fraction.{Fraction, numerator, ◌≤ᶠ◌, ◌<ᶠ◌, whole, ratio, quarters, thrice, square_less, radicand_at, ≤ᶠ_trans, ≤ᶠ-<ᶠ_trans, square_rises}
 
 -- 'A fraction i is at or above the exact I when i is at least the largest y + 2PC and (i − 2PC)² is at least Q; any other is below it'

@@ -1,9 +1,9 @@
 -- The exact buffer of section 11.3, after document 01, 'The exact values', and the allowance of the reported one. Assumes nothing.
 use Rattle.std.specs.Prelude.{◌≡◌, List, [], ◌∷◌, ℕ, ◌+◌, ◌*◌, pos, ◌*ℤ◌}
 use Rattle.std.proofs.Common.{sym, arith}
+use Rattle.integer.proofs.Difference.{times_diff}
 use Rattle.sizes.specs.Sizes.{ten_thousandths, fineness, block_allowance}
 use Rattle.guideline.specs.Operational.{operational_numerator, operational_denominator}
-use Rattle.accuracy.specs.Difference.{times_diff}
 use Rattle.accuracy.specs.Fraction.{Fraction, numerator, ◌≤ᶠ◌, ◌<ᶠ◌, whole, ratio, plus, ≤ᶠ-<ᶠ_trans}
 use Rattle.accuracy.specs.Exact.{Fits, k_at}
 use Rattle.guideline.specs.Buffer.{Sheet, count, GFD, free}

@@ -9,9 +9,8 @@ use Rattle.std.specs.Prelude.{◌≡◌, ◌↔◌, ℕ, suc, ◌+◌, ◌-◌, 
 use Rattle.std.proofs.Common.{sym, ap, ◌∙◌, mul-pos, mul-le-mul, mul-le-mul_right, mul-lt-mul_of_pos_right, le_of_mul-le-mul_right, lt_of_mul-lt-mul_right, arith}
 use Rattle.std.proofs.Math.IntN.{sub_ℕ}
 use Rattle.integer.proofs.Integer.{as_diff, neg_as_diff, diff_eq, diff_add, diff_mul}
+use Rattle.integer.proofs.Difference.{less_diff, diff_le, diff_lt, diff_less, diff_times, times_diff}
 use Rattle.sizes.specs.Sizes.{fineness}
-use Rattle.accuracy.specs.Difference.{diff_le, diff_lt, diff_less, diff_times, times_diff}
-use Rattle.guideline.specs.Difference.{less_diff}
 
 -- `numerator⁺` less `numerator⁻`, over the denominator
 pub record Fraction : Type 0 where

@@ -1,5 +1,4 @@
 -- The exact values in document 01's letters, demand 3, and the least numbers.
-pub mod Difference
 pub mod Fraction
 pub mod Exact
 pub mod ExactBuffer

@@ -1,2 +1,3 @@
--- The limit of an amount, and the first that passes it.
+-- The limit of an amount, and the first that passes it; rule 7.
 pub mod Amount
+pub mod Rule7

@@ -1,5 +1,6 @@
 -- What the code finds part by part is what the definitions say of the list of margins: a quotient with its rest, what they leave of K, and the
 -- cents by ranks among the rests. Assumes nothing.
+-- In order: a quotient and its rest; K × margin over the sum, part by part; the cents.
 use mathlib.Core.Path.{◌≡◌, refl, sym, ap, ◌∙◌}
 use mathlib.Core.Bool.{Bool, true, false}
 use mathlib.Core.List.{List}
@@ -20,7 +21,7 @@ use Rattle.sizes.specs.Sizes.{parts}
 use Rattle.apportion.specs.Shares.{value_of_part, total, base, remainder, left_over, before, rank, cent, share, shares}
 use Rattle.apportion.specs.Steps.{Shareable, quotients, rests}
 use Rattle.apportion.proofs.Ranks.{rank_alike}
-use Rattle.apportion.proofs.Fair.{of_part, base_most}
+use Rattle.apportion.proofs.Fairness.{of_part, base_most}
 
 -- a test as a number
 pub as_number : (t : Bool) → bool_byte t ≡ one t

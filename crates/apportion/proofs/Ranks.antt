@@ -1,5 +1,6 @@
 -- Ranks in a strict order: of n parts exactly m have a rank below m, where m is at most n. By induction on n: a new last part leaves the rank of
 -- each part before it and raises that of each after it by one. Assumes nothing.
+-- In order: the order; ranks; the counting law.
 use mathlib.Core.Path.{◌≡◌, refl, sym, ap, ◌∙◌}
 use mathlib.Core.Bool.{Bool, true, false, true≢false}
 use Prim.Native.Nat.{ℕ, zero, suc, ◌+◌, ◌-◌, ◌≤◌, ◌<◌}

@@ -1,4 +1,4 @@
--- What is true of the shares, after document 02, #112. proofs/Fair proves it of every K and all margins that are not all zero. Assumes nothing.
+-- What is true of the shares, after document 02, #112. proofs/Fairness proves it of every K and all margins that are not all zero. Assumes nothing.
 use Rattle.std.specs.Prelude.{◌≡◌, ℕ, ◌+◌, ◌*◌, ◌≤◌, ◌<◌}
 use Rattle.sizes.specs.Sizes.{parts}
 use Rattle.apportion.specs.Shares.{total}

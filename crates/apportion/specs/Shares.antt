@@ -6,7 +6,7 @@ use Rattle.basics.specs.Pick.{pick}
 use Rattle.basics.specs.Total.{sum_to, one, count_to}
 use Rattle.basics.specs.Ascending.{list_to}
 use Rattle.sizes.specs.Sizes.{parts}
-use Rattle.guideline.specs.Factors.{numbered}
+use Rattle.basics.specs.Numbered.{numbered}
 
 -- the number that a list has for part p
 abbrev pub value_of_part : List ℕ → ℕ → ℕ

@@ -90,13 +90,13 @@ fn rank_of(divided: &[Division<u64>; PARTS], part: usize) -> u64
     let rest = divided[part - 1].rest;
     let mut before = 0u64;
     for (other, share) in divided.iter().enumerate() {
-        before += one_before(share.rest, other + 1, rest, part);
+        before += one_if_before(share.rest, other + 1, rest, part);
     }
     before
 }
 
 // One where a part with rest r and number q comes before one with rest s and number p: the larger rest first, and of equal ones the lower number.
-fn one_before(r: u64, q: usize, s: u64, p: usize) -> u64
+fn one_if_before(r: u64, q: usize, s: u64, p: usize) -> u64
     ensures { result ≡ one (pick (eqb r s) (ltb q p) (ltb s r)) }
 {
     u64::from((s, q) < (r, p))

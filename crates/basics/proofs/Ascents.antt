@@ -13,7 +13,7 @@ use Rattle.basics.specs.Pick.{pick}
 use Rattle.basics.specs.Each.{Each}
 use Rattle.basics.specs.Ascending.{ascending, list_to}
 use Rattle.basics.proofs.Picks.{if_true, if_false, by_test}
-use Rattle.basics.proofs.Eaches.{each_append, each_picked}
+use Rattle.basics.proofs.Elements.{each_append, each_picked}
 use Rattle.basics.proofs.Stretches.{Wrote, nothing, front, next, all_written, from_front}
 
 -- what n adds to the numbers before it, where it passes and where it doesn't

@@ -4,10 +4,10 @@ pub mod Sides
 pub mod Halving
 pub mod LeastOf
 pub mod Firsts
-pub mod Anys
+pub mod Existence
 pub mod Ranges
 pub mod Values
-pub mod Eaches
+pub mod Elements
 pub mod Ascents
 pub mod Stretches
 pub mod Roots

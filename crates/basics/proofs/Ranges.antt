@@ -8,7 +8,7 @@ use lib.ListN.{length, get_or}
 use Rattle.std.specs.List.{range_with_len, IsAnyAnswer}
 use Rattle.std.proofs.lemmas.List.FromFn.{length-range_with_len, get_or-range_with_len}
 use Rattle.basics.specs.First.{any_to}
-use Rattle.basics.proofs.Anys.{one_of, none_of}
+use Rattle.basics.proofs.Existence.{one_of, none_of}
 
 at_range : (n i : ℕ) → i < n → get_or (range_with_len 0 n) i 0 ≡ i
 at_range n i h = get_or-range_with_len 0 n i 0 h ∙ omega arith

@@ -3,5 +3,6 @@ pub mod Pick
 pub mod Least
 pub mod First
 pub mod Each
+pub mod Numbered
 pub mod Ascending
 pub mod Total

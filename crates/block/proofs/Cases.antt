@@ -8,6 +8,7 @@ use Rattle.basics.specs.First.{first_from}
 use Rattle.refusal.specs.Outcome.Outcome.{refused}
 use Rattle.refusal.specs.declared.Place.TheVariants.{Position}
 use Rattle.amount.specs.Amount.{first_above}
+use Rattle.amount.specs.Rule7.{rule7}
 use Rattle.block.specs.Call.{first_lt_above, rule9, rule8, block_call}
 
 -- an amount above the limit
@@ -39,5 +40,5 @@ pub cases :
     ∷ refused 8 (Position 13)
     ∷ refused 8 (Position 13)
     ∷ refused 9 (Position 5) ∷ []
-unfolding pick first_from first_above first_lt_above rule9 rule8 block_call
+unfolding pick first_from first_above first_lt_above rule9 rule8 rule7 block_call
 cases = refl

@@ -16,7 +16,8 @@ use Rattle.refusal.specs.Outcome.Outcome.{accepted, refused}
 use Rattle.refusal.specs.declared.Place.TheVariants.{Position}
 use Rattle.basics.specs.First.{FoundAt}
 use Rattle.amount.specs.Amount.{limit, first_above}
-use Rattle.sizes.specs.Sizes.{risks}
+use Rattle.amount.proofs.Rule7.{refused_7, passed_7}
+use Rattle.sizes.specs.Sizes.{risks, last_lt_position}
 use Rattle.guideline.specs.Block.{AcceptedBlock, lt, figures_of}
 use Rattle.guideline.proofs.Figures.{accepted_of_lem}
 use Rattle.figures.specs.RootSteps.{steps_of}
@@ -48,15 +49,15 @@ module _ (b : List ℕ) where
       let before = λ (j : ℕ) (l : j < i). rw (pair_at j 0 (omega arith)) at (a j 0 (omega arith) (omega arith)) in
       (sym (sought_found (lt_above b) risks i (omega arith) t (record { within = omega arith; before = before })), omega arith)
 
-  pub refused_7 : {r : ℕ} → (r ≡ first_above b) × (r < length b) → block_call b ≡ refused 7 (Position r)
+  pub turned_by_7 : {r : ℕ} → (r ≡ first_above b) × (r < length b) → block_call b ≡ refused 7 (Position r)
   unfolding block_call
-  refused_7 (e, h) = rw e (if_lt _ (rw e at h))
+  turned_by_7 h = refused_7 b (rule8 b) h
 
-  pub passed_7 : length b ≤ first_above b → block_call b ≡ rule8 b
+  pub past_7 : length b ≤ first_above b → block_call b ≡ rule8 b
   unfolding block_call
-  passed_7 h = if_ge _ h
+  past_7 h = passed_7 b (rule8 b) h
 
-  pub refused_8 : (lt b 7 ≡ 0 → ⊥) → rule8 b ≡ refused 8 (Position 13)
+  pub refused_8 : (lt b 7 ≡ 0 → ⊥) → rule8 b ≡ refused 8 (Position last_lt_position)
   unfolding rule8
   refused_8 n = if_ne _ n
 

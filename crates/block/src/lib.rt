@@ -5,17 +5,17 @@ ghost use Rattle.std.specs.Prelude.{◌≡◌, IfOk};
 ghost use Rattle.basics.specs.First.{FoundAt};
 ghost use Rattle.sizes.specs.Sizes.{risks};
 ghost use Rattle.guideline.specs.Block.{AcceptedBlock};
-ghost use Rattle.block.specs.Call.{stated, stated_block, stated_numbers, block_call, first_lt_above};
+ghost use Rattle.block.specs.Call.{stated, stated_block, stated_tested, block_call, first_lt_above};
 ghost use Rattle.block.specs.Accepted.{BlockDemand3, FewSteps};
 
-use figures::Worked;
+use figures::FiguresAndSteps;
 use guideline::Block;
 use refusal::{Place, Refusal, Rule};
-use sizes::{BLOCK_NUMBERS, RISKS};
+use sizes::{BLOCK_NUMBERS, LAST_LT_POSITION, RISKS};
 
 // A block of any 17 numbers: seven pairs IR, LT, then PC, credit, market. Where it is accepted, the figures meet demand 3,
 // and no root took more than 58 steps.
-pub fn block_call(b: &[u64; BLOCK_NUMBERS]) -> Result<Worked, Refusal>
+pub fn block_call(b: &[u64; BLOCK_NUMBERS]) -> Result<FiguresAndSteps, Refusal>
     ensures outcome { stated result ≡ block_call b.now }
     ensures demand3 { BlockDemand3 b.now (stated result) }
     ensures few_steps { FewSteps (stated result) }
@@ -35,14 +35,14 @@ pub fn accepted_block(b: &[u64; BLOCK_NUMBERS]) -> Result<Block, Refusal>
 
 // Rules 7, 8 and 9 of any 17 numbers. The answer holds no copy of the numbers: one in an enum is stored by bytes and copied by words, which waits.
 fn tested(b: &[u64; BLOCK_NUMBERS]) -> Result<(), Refusal>
-    ensures outcome { stated_numbers b.now result ≡ block_call b.now }
+    ensures outcome { stated_tested b.now result ≡ block_call b.now }
     ensures passed { IfOk result (λ nothing. AcceptedBlock b.now) }
 {
     if let Some(above) = amount::first_above(b) {
         return Err(Refusal(Rule::AmountAboveLimit, Place::Position(above)));
     }
-    if b[13] != 0 {
-        return Err(Refusal(Rule::SecondAmount, Place::Position(13)));
+    if b[LAST_LT_POSITION] != 0 {
+        return Err(Refusal(Rule::SecondAmount, Place::Position(LAST_LT_POSITION)));
     }
     if let Some(risk) = first_lt_above(b) {
         return Err(Refusal(Rule::TrendAboveComponent, Place::Position(2 * risk + 1)));

@@ -1,5 +1,5 @@
 -- The plainest program with each miscalibration, which has one figure that is miscalibrated, all others of the paper, and refuses all that the
--- call refuses, meets its premise: the theorems in Refuted and Nearest are about programs that there are. Assumes nothing.
+-- call refuses, meets its premise: the theorems in Refutations and NearestRoots are about programs that there are. Assumes nothing.
 use mathlib.Core.Path.{◌≡◌, refl, sym, ap, ◌∙◌}
 use mathlib.Core.List.{List}
 use Prim.Native.Nat.{ℕ, ◌+◌, ◌-◌, ◌*◌, ◌/◌, ◌≤◌, ◌<◌}
@@ -21,10 +21,11 @@ use Rattle.guideline.specs.Block.{seven, PC, U, LT, largest, root, fine_d, repor
 use Rattle.figures.specs.RootSteps.{steps_of}
 use Rattle.block.specs.Call.{block_call}
 use Rattle.block.specs.Accepted.{BlockDemand3}
-use Rattle.block.proofs.Accepted.{block_demanded}
+use Rattle.block.proofs.Acceptance.{block_demanded}
 use Rattle.operational.specs.Call.{operational_call}
-use Rattle.calibration.specs.Miscalibrations.{put_in_place, put_at, GivesFigure, GivesRO, pc_in_risk, PcInOneRisk, PcLeftOut, i_from, ys_halved, LTHalvedInY, v_halved, WholeHalf, KeepsWholeD, LTHalvedInV, k_lost, nearest, KeepsWhole, k_by_roots, IToNearest, DToNearest}
-use Rattle.calibration.proofs.Nearest.{nearest_is}
+use Rattle.calibration.specs.Miscalibrations.{put_in_place, put_at, GivesFigure, GivesRO, pc_in_risk, PcInOneRisk, PcLeftOut, i_from, ys_halved, LTHalvedInY}
+use Rattle.calibration.specs.Miscalibrations.{v_halved, WholeHalf, KeepsWholeD, LTHalvedInV, k_lost, nearest, KeepsWhole, k_by_roots, IToNearest, DToNearest}
+use Rattle.calibration.proofs.NearestRoots.{nearest_is}
 
 -- where it accepts, the figure is x
 pub in_place : (o : Outcome) (x : ℕ) (vs : List ℕ) → put_in_place o x ≡ accepted vs → get_or vs 0 0 ≡ x

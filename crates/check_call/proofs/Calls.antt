@@ -15,30 +15,30 @@ use Rattle.judgement.specs.Judgement.Judgement.{turned_away, sound}
 use Rattle.judgement.specs.Judgement.Findings.{figures}
 use Rattle.ledger.specs.declared.Ledger.{Ledger}
 use Rattle.judgement.specs.Steps.{LinesOf}
-use Rattle.judgement.proofs.Accepted.{sound_passed}
-use Rattle.judgement.proofs.Alike.{sound_ascending}
+use Rattle.judgement.proofs.Acceptance.{sound_passed}
+use Rattle.judgement.proofs.AlikeSheets.{sound_ascending}
 use Rattle.judgement.proofs.Rules.{findings_figures}
 use Rattle.needs.specs.Listing.{listing}
 use Rattle.needs.specs.Listed.{ListedExactly}
 use Rattle.needs.specs.Needing.{most_listed, longest_listing, needing, line_at}
-use Rattle.needs.proofs.Numbered.{keyed}
-use Rattle.needs.proofs.Gathered.{same_gathered, listing_gathered, longest}
-use Rattle.needs.proofs.Exactly.{listed_exactly}
+use Rattle.needs.proofs.LineNumbers.{keyed}
+use Rattle.needs.proofs.ListedLines.{same_gathered, listing_gathered, longest}
+use Rattle.needs.proofs.ExactListing.{listed_exactly}
 use Rattle.text_answer.specs.Lent.{Done, TooLong}
 use Rattle.text_answer.specs.Printing.{ReadsRefusal, printout}
-use Rattle.sheet_answer.proofs.Judged as judged
-use Rattle.sheet_answer.proofs.Judged.{by_answer, of_lines}
-use Rattle.needs_unmet.proofs.Held.{same_unmet}
+use Rattle.sheet_answer.proofs.Judgements as judged
+use Rattle.sheet_answer.proofs.Judgements.{by_answer, of_lines}
+use Rattle.needs_unmet.proofs.Lookups.{same_unmet}
 use Rattle.check_call.specs.Call.{listing_to, check_call, ListsExactly}
-use Rattle.check_call.specs.Walk.{walked_call}
+use Rattle.check_call.specs.Tabled.{tabled_call}
 
 -- ---- the call's answers
 
 module _ (s r : List ℕ) where
-  pub walks : (n : ℕ) (rows : List (ℕ × List ℕ)) (sum ro x : ℕ) → figures n rows sum ro x ≡ findings (judgement s) → (l : Ledger)
+  pub off_tables : (n : ℕ) (rows : List (ℕ × List ℕ)) (sum ro x : ℕ) → figures n rows sum ro x ≡ findings (judgement s) → (l : Ledger)
       → LinesOf (judgement s) l
-      → walked_call l.firsts l.seconds r ≡ check_call s r
-  walks n rows sum ro x e t H =
+      → tabled_call l.firsts l.seconds r ≡ check_call s r
+  off_tables n rows sum ro x e t H =
       let w = findings_figures (judgement s) e in
       let es = w.0 in
       of_lines listing s r w.1

@@ -1,3 +1,3 @@
 -- Laws of the check: the listing that is gathered of the tables, and the call's answers. Assumes nothing.
-pub mod Walking
+pub mod Listing
 pub mod Calls

@@ -5,12 +5,13 @@
 #![tactic(auto)]
 
 ghost use Rattle.std.specs.Prelude.{◌≡◌, ◌++◌, ◌+◌, ◌≤◌, length, drop};
-ghost use Rattle.text_answer.specs.Lent.{stated, Done};
+ghost use Rattle.refusal.specs.Outcome.{stated_number};
+ghost use Rattle.text_answer.specs.Lent.{Done};
 ghost use Rattle.text_answer.specs.Printing.{printout, Printed};
 ghost use Rattle.judgement.specs.Judgement.{judgement};
 ghost use Rattle.needs.specs.Needing.{most_listed};
 ghost use Rattle.check_call.specs.Call.{listing_to, check_call, ListsExactly};
-ghost use Rattle.check_call.specs.Walk.{walked, walked_call, counted_to, one_at, PutAt};
+ghost use Rattle.check_call.specs.Tabled.{tabled_listing, tabled_call, counted_to, one_at, PutAt};
 
 use figures::NumberedFigures;
 use ledger::Ledger;
@@ -20,8 +21,8 @@ use sizes::BLOCKS;
 
 // A sheet of any bytes, and lent room of any length: nothing is written into it before every rule passes.
 pub fn check_call(sheet: &[u8], room: &mut [u8]) -> Result<usize, Refusal>
-    ensures answer { ◌≡◌ {A = Done} (record { outcome = stated result; room = room.new }) (check_call sheet.now room.old) }
-    ensures lists_exactly { ListsExactly sheet.now (stated result) room.new }
+    ensures answer { ◌≡◌ {A = Done} (record { outcome = stated_number result; room = room.new }) (check_call sheet.now room.old) }
+    ensures lists_exactly { ListsExactly sheet.now (stated_number result) room.new }
 {
     let mut ledger = Ledger::new();
     let mut rows = [NumberedFigures::default(); BLOCKS];
@@ -42,13 +43,16 @@ pub fn print_check(sheet: &[u8], room: &mut [u8; LONGEST_LISTING]) -> usize
 // Rule 14, and then the listing of the lines that the ledger holds.
 // Kept: the room beside the ledger, here and in two below; it is the caller's memory, lent for the call.
 fn list(ledger: &Ledger, room: &mut [u8]) -> Result<usize, Refusal>
-    ensures { ◌≡◌ {A = Done} (record { outcome = stated result; room = room.new }) (walked_call ledger.now.firsts ledger.now.seconds room.old) }
+    ensures { ◌≡◌ {A = Done} (record { outcome = stated_number result; room = room.new }) (tabled_call ledger.now.firsts ledger.now.seconds room.old) }
 {
     let length = LISTED_BYTES * count_unmet(ledger);
     if room.len() < length {
         return Err(Refusal(Rule::RoomTooShort, Place::Nowhere));
     }
-    write_listing(ledger, room);
+    // Kept: a test of its own. Where no need is unmet the lines that can need another are not looked up a second time.
+    if 0 < length {
+        write_listing(ledger, room);
+    }
     Ok(length)
 }
 
@@ -67,8 +71,8 @@ fn count_unmet(ledger: &Ledger) -> usize
 
 // The listing, from the room's start on.
 fn write_listing(ledger: &Ledger, room: &mut [u8])
-    requires { length (walked ledger.now.firsts ledger.now.seconds) ≤ length room.old }
-    ensures { let t = walked ledger.now.firsts ledger.now.seconds in room.new ≡ t ++ drop (length t) room.old }
+    requires { length (tabled_listing ledger.now.firsts ledger.now.seconds) ≤ length room.old }
+    ensures { let t = tabled_listing ledger.now.firsts ledger.now.seconds in room.new ≡ t ++ drop (length t) room.old }
 {
     let mut at = 0;
     for n in 1..=MOST_LISTED {

@@ -1,2 +1,2 @@
 -- Laws of the codes. Assumes nothing.
-pub mod Ranges
+pub mod Table

@@ -1,33 +1,23 @@
--- The codes of a line: document 01's table of them, the sheet and the report. A code more is a clause more in each definition.
--- Bytes are numbers: R is 82. Assumes nothing.
-use Rattle.std.specs.Prelude.{Option, Some, None, ℕ, zero, suc, ◌+◌, ◌≤◌, List, [], ◌∷◌, Bool, false, eqb, get_or}
+-- The codes of a line: document 01's table of them, the sheet and the report. All that is said of a code stands here, but for what
+-- it needs (needs) and the letters that a converter looks at (scaled_line): a code more is one in the list and a row of the table. Bytes are numbers: R is 82. Assumes nothing.
+use Rattle.std.specs.Prelude.{Option, Some, None, ℕ, zero, suc, ◌+◌, ◌-◌, ◌*◌, ◌≤◌, List, [], ◌∷◌, Bool, true, false, eqb, get_or}
 use Rattle.basics.specs.Pick.{pick}
-use Rattle.sizes.specs.Sizes.{non_participating, blocks, risks, other_amounts, territories, volume_classes, adjustable_products}
+use Rattle.sizes.specs.Sizes.{non_participating, participating, blocks, risks, other_amounts, territories, volume_classes, volume_pairs, adjustable_products}
 use Rattle.codes.specs.declared.Code.{Code}
 use Rattle.codes.specs.declared.Code.TheVariants.{Rsk, Oth, Mor, Vol, Acq, Gen, Crd}
-use Rattle.codes.specs.declared.Range.{Range}
+use Rattle.codes.specs.declared.Row.{Row}
 
 -- the codes, in the table's order, with document 02's MOR after OTH, ACQ after VOL and CRD last
 abbrev pub codes : List Code
 codes = Rsk ∷ Oth ∷ Mor ∷ Vol ∷ Acq ∷ Gen ∷ Crd ∷ []
 
--- the bytes of a code: RSK, OTH, MOR, VOL, ACQ, GEN, CRD
-abbrev pub letters_of : Code → List ℕ
-letters_of Rsk = 82 ∷ 83 ∷ 75 ∷ []
-letters_of Oth = 79 ∷ 84 ∷ 72 ∷ []
-letters_of Mor = 77 ∷ 79 ∷ 82 ∷ []
-letters_of Vol = 86 ∷ 79 ∷ 76 ∷ []
-letters_of Acq = 65 ∷ 67 ∷ 81 ∷ []
-letters_of Gen = 71 ∷ 69 ∷ 78 ∷ []
-letters_of Crd = 67 ∷ 82 ∷ 68 ∷ []
-
 -- RSK's classes: mortality to expenses
 abbrev pub risk_classes : ℕ
 risk_classes = risks
 
--- RSK's class of expenses, which have no level and trend part
-abbrev pub expenses_class : ℕ
-expenses_class = 7
+-- RSK's classes with a level and trend part: all but the last, expenses
+abbrev pub trend_classes : ℕ
+trend_classes = risk_classes - 1
 
 -- OTH's classes: property and casualty, credit, market
 abbrev pub other_classes : ℕ
@@ -69,24 +59,88 @@ credits_class = 5
 abbrev pub scalar_class : ℕ
 scalar_class = 4
 
--- the columns Block and Class of the table, for the range that a block falls under: 1–32 and 1–7, 1–32 and 1–3, 1–16 and 1, 1–16 and 1–8
--- twice, 0 and 1–5; of CRD 0 and 1–16, or 17–32 and 1
-abbrev pub range_of : Code → ℕ → Range
-range_of Rsk b = record { lowest = 1; highest = blocks; classes = risk_classes }
-range_of Oth b = record { lowest = 1; highest = blocks; classes = other_classes }
-range_of Mor b = record { lowest = 1; highest = non_participating; classes = mortality_classes }
-range_of Vol b = record { lowest = 1; highest = territories; classes = volume_classes }
-range_of Acq b = record { lowest = 1; highest = territories; classes = acquired_classes }
-range_of Gen b = record { lowest = 0; highest = 0; classes = general_classes }
-range_of Crd zero = record { lowest = 0; highest = 0; classes = adjustable_products }
-range_of Crd (suc b) = record { lowest = non_participating + 1; highest = blocks; classes = dividend_classes }
+-- the RSK lines that there can be: 224
+abbrev pub risk_lines : ℕ
+risk_lines = blocks * risk_classes
+
+-- the MOR lines: 16
+abbrev pub mortality_lines : ℕ
+mortality_lines = non_participating * mortality_classes
+
+-- the lines that can have a second amount, those of RSK, MOR and VOL: 368, RSK's expenses with them, whose second amount is 0
+abbrev pub paired_lines : ℕ
+paired_lines = risk_lines + mortality_lines + volume_pairs
+
+-- the OTH lines: 96
+abbrev pub other_lines : ℕ
+other_lines = blocks * other_classes
+
+-- the ACQ lines: 128
+abbrev pub acquired_lines : ℕ
+acquired_lines = territories * acquired_classes
+
+-- the CRD lines, of block 0 and of the participating blocks: 32
+abbrev pub credit_lines : ℕ
+credit_lines = adjustable_products + participating * dividend_classes
+
+-- the lines that a sheet can have, one for each code, block and class: 629
+abbrev pub most_lines : ℕ
+most_lines = paired_lines + other_lines + acquired_lines + general_classes + credit_lines
+
+-- a row of the table, column by column
+abbrev row : List ℕ → ℕ → ℕ → ℕ → ℕ → ℕ → Bool → ℕ → Bool → ℕ → ℕ → Row
+row l r low high c p t s m f n =
+    record {
+      letters = l;
+      rank = r;
+      lowest = low;
+      highest = high;
+      classes = c;
+      paired = p;
+      trend = t;
+      scalar = s;
+      makes_block = m;
+      first_place = f;
+      block_places = n;
+    }
+
+-- The table: a row for each code, and two for CRD, that of block 0 and that of the others. Its columns:
+-- letters: RSK, OTH, MOR, VOL, ACQ, GEN, CRD
+-- rank: the place in the order of codes, 'RSK, OTH, MOR, VOL, GEN, CRD' (document 02, #105), with ACQ, which 'stands after VOL' (#106)
+-- lowest, highest: the first block and the last
+-- classes: the last class, from 1 on
+-- paired: the last class with a second amount, 0 for none; of RSK all have one but expenses, as LT(7) is zero
+-- trend: whether the second amount is a part of the first, as of RSK, level and trend
+-- scalar: the class of the scalar g, 0 for none
+-- makes_block: whether a line makes its block exist: 'A block exists when it has an RSK or OTH line'
+-- first_place, block_places: where the code's lines begin in the tables, and how many of them a block has, of those from 1 on: no word of the papers
+abbrev pub row_of : Code → ℕ → Row
+row_of Rsk b = row (82 ∷ 83 ∷ 75 ∷ []) 0 1 blocks risk_classes trend_classes true 0 true 0 risk_classes
+row_of Oth b = row (79 ∷ 84 ∷ 72 ∷ []) 1 1 blocks other_classes 0 false 0 true paired_lines other_classes
+row_of Mor b = row (77 ∷ 79 ∷ 82 ∷ []) 2 1 non_participating mortality_classes mortality_classes false 0 false risk_lines mortality_classes
+row_of Vol b = row (86 ∷ 79 ∷ 76 ∷ []) 3 1 territories volume_classes volume_classes false 0 false (risk_lines + mortality_lines) volume_classes
+row_of Acq b = row (65 ∷ 67 ∷ 81 ∷ []) 4 1 territories acquired_classes 0 false 0 false (paired_lines + other_lines) acquired_classes
+row_of Gen b = row (71 ∷ 69 ∷ 78 ∷ []) 5 0 0 general_classes 0 false scalar_class false (paired_lines + other_lines + acquired_lines) 0
+row_of Crd zero =
+    row (67 ∷ 82 ∷ 68 ∷ []) 6 0 0 adjustable_products 0 false 0 false (paired_lines + other_lines + acquired_lines + general_classes) dividend_classes
+row_of Crd (suc b) =
+    row (67 ∷ 82 ∷ 68 ∷ []) 6 (non_participating + 1) blocks dividend_classes 0 false 0 false
+    (paired_lines + other_lines + acquired_lines + general_classes) dividend_classes
+
+-- the letters of a code, which all its rows have
+abbrev pub letters_of : Code → List ℕ
+letters_of k = (row_of k 0).letters
+
+-- its rank
+abbrev pub rank : Code → ℕ
+rank k = (row_of k 0).rank
 
 -- a block and a class that a code has
 pub record Key (k : Code) (b c : ℕ) : Type 0 where
-  pub low : (range_of k b).lowest ≤ b
-  pub high : b ≤ (range_of k b).highest
+  pub low : (row_of k b).lowest ≤ b
+  pub high : b ≤ (row_of k b).highest
   pub one : 1 ≤ c
-  pub most : c ≤ (range_of k b).classes
+  pub most : c ≤ (row_of k b).classes
 
 -- columns 1 to 3 of a line are these letters
 unfoldable pub is_code : List ℕ → List ℕ → Bool

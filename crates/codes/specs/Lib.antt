@@ -1,3 +1,2 @@
 -- The codes of a sheet's line. Assumes nothing.
 pub mod Codes
-pub mod Rows

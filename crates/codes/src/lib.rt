@@ -1,14 +1,12 @@
-// The code in columns 1 to 3, and the blocks and classes that it has.
+// The code in columns 1 to 3, and the table of all that is said of a code.
 #![tactic(auto)]
 
 ghost use Rattle.std.specs.Prelude.{◌≡◌, ◌≤◌, length};
-ghost use Rattle.codes.specs.Codes.{letters_of, range_of, code_of};
-ghost use Rattle.codes.specs.Rows.{place_of, row_of, range_at};
+ghost use Rattle.codes.specs.Codes.{letters_of, row_of, code_of};
 
-use cast::word;
 use sizes::{
-    ADJUSTABLE_PRODUCTS, BLOCKS, NON_PARTICIPATING, OTHER_AMOUNTS, RISKS, TERRITORIES,
-    VOLUME_CLASSES,
+    ADJUSTABLE_PRODUCTS, BLOCKS, NON_PARTICIPATING, OTHER_AMOUNTS, PARTICIPATING, RISKS,
+    TERRITORIES, VOLUME_CLASSES, VOLUME_PAIRS,
 };
 
 // The code of a line.
@@ -23,20 +21,36 @@ pub enum Code {
     Crd,
 }
 
-// The blocks and the classes that a code has: blocks from the lowest to the highest, classes from 1 on. CRD has two such ranges, one for
-// block 0 and one for the others.
+// A row of the table of codes: what is said of a code, and of CRD in block 0 or in the others.
 #[derive(Clone, Copy)]
-pub struct Range {
+pub struct Row {
+    // The code's letters, as in columns 1 to 3.
+    pub letters: [u8; 3],
+    // Its place in the order of codes.
+    pub rank: u64,
+    // Its blocks.
     pub lowest: u64,
     pub highest: u64,
+    // Its classes, from 1 on.
     pub classes: u64,
+    // The last class with a second amount; 0 for none.
+    pub paired: u64,
+    // Whether the second amount is a part of the first, level and trend. Volumes may fall or rise, and T may pass S.
+    pub trend: bool,
+    // The class of the scalar g; 0 for none.
+    pub scalar: u64,
+    // Whether its lines make their block exist.
+    pub makes_block: bool,
+    // The place of its first line in the tables, and how many of its lines a block has, of those from 1 on.
+    pub first_place: usize,
+    pub block_places: usize,
 }
 
 // RSK's classes: mortality to expenses.
 pub const RISK_CLASSES: usize = RISKS;
 
-// RSK's class of expenses, which have no level and trend part.
-pub const EXPENSES_CLASS: usize = 7;
+// RSK's classes with a level and trend part: all but the last, expenses.
+pub const TREND_CLASSES: usize = RISK_CLASSES - 1;
 
 // OTH's classes: property and casualty, credit, market.
 pub const OTHER_CLASSES: usize = OTHER_AMOUNTS;
@@ -68,6 +82,31 @@ pub const SCALAR_CLASS: usize = 4;
 // CRD's classes of a participating block: one, its dividend credit.
 pub const DIVIDEND_CLASSES: usize = 1;
 
+// The RSK lines that there can be.
+const RISK_LINES: usize = BLOCKS * RISK_CLASSES;
+
+// The MOR lines.
+const MORTALITY_LINES: usize = NON_PARTICIPATING * MORTALITY_CLASSES;
+
+// The lines that can have a second amount, those of RSK, MOR and VOL, which come first in the tables.
+pub const PAIRED_LINES: usize = RISK_LINES + MORTALITY_LINES + VOLUME_PAIRS;
+
+// The OTH lines.
+const OTHER_LINES: usize = BLOCKS * OTHER_CLASSES;
+
+// The ACQ lines.
+const ACQUIRED_LINES: usize = TERRITORIES * ACQUIRED_CLASSES;
+
+// The CRD lines, of block 0 and of the participating blocks.
+const CREDIT_LINES: usize = ADJUSTABLE_PRODUCTS + PARTICIPATING * DIVIDEND_CLASSES;
+
+// The lines that a sheet can have, one for each code, block and class.
+pub const MOST_LINES: usize = PAIRED_LINES
+    + OTHER_LINES
+    + ACQUIRED_LINES
+    + GENERAL_CLASSES
+    + CREDIT_LINES;
+
 // The code whose letters columns 1 to 3 are.
 #[tactic(auto, unfolding(crate::specs::Codes::code_among, crate::specs::Codes::is_code, basics::specs::Pick::pick))]
 pub fn read_code(s: &[u8]) -> Option<Code>
@@ -91,104 +130,131 @@ impl From<Code> for [u8; 3] {
     ghost from_gives = { λ code letters. letters ≡ letters_of code };
 
     fn from(code: Code) -> [u8; 3] {
-        match code {
-            Code::Rsk => *b"RSK",
-            Code::Oth => *b"OTH",
-            Code::Mor => *b"MOR",
-            Code::Vol => *b"VOL",
-            Code::Acq => *b"ACQ",
-            Code::Gen => *b"GEN",
-            Code::Crd => *b"CRD",
-        }
+        ROWS[code as usize].letters
     }
 }
 
-// The range of a code that a block falls under.
-#[tactic(auto, using(crate::proofs::Ranges::range_in_row))]
-pub fn range_of(code: Code, block: u64) -> Range
-    ensures { result ≡ range_of code block }
-{
-    range_at(row_of(code, block))
-}
+// The rows, in the order of codes, and behind them all the second one of CRD, that of block 0.
+static ROWS: [Row; 8] = [
+    // RSK
+    Row {
+        letters: *b"RSK",
+        rank: 0,
+        lowest: 1,
+        highest: BLOCKS as u64,
+        classes: RISK_CLASSES as u64,
+        paired: TREND_CLASSES as u64,
+        trend: true,
+        scalar: 0,
+        makes_block: true,
+        first_place: 0,
+        block_places: RISK_CLASSES,
+    },
+    // OTH
+    Row {
+        letters: *b"OTH",
+        rank: 1,
+        lowest: 1,
+        highest: BLOCKS as u64,
+        classes: OTHER_CLASSES as u64,
+        paired: 0,
+        trend: false,
+        scalar: 0,
+        makes_block: true,
+        first_place: PAIRED_LINES,
+        block_places: OTHER_CLASSES,
+    },
+    // MOR
+    Row {
+        letters: *b"MOR",
+        rank: 2,
+        lowest: 1,
+        highest: NON_PARTICIPATING as u64,
+        classes: MORTALITY_CLASSES as u64,
+        paired: MORTALITY_CLASSES as u64,
+        trend: false,
+        scalar: 0,
+        makes_block: false,
+        first_place: RISK_LINES,
+        block_places: MORTALITY_CLASSES,
+    },
+    // VOL
+    Row {
+        letters: *b"VOL",
+        rank: 3,
+        lowest: 1,
+        highest: TERRITORIES as u64,
+        classes: VOLUME_CLASSES as u64,
+        paired: VOLUME_CLASSES as u64,
+        trend: false,
+        scalar: 0,
+        makes_block: false,
+        first_place: RISK_LINES + MORTALITY_LINES,
+        block_places: VOLUME_CLASSES,
+    },
+    // ACQ
+    Row {
+        letters: *b"ACQ",
+        rank: 4,
+        lowest: 1,
+        highest: TERRITORIES as u64,
+        classes: ACQUIRED_CLASSES as u64,
+        paired: 0,
+        trend: false,
+        scalar: 0,
+        makes_block: false,
+        first_place: PAIRED_LINES + OTHER_LINES,
+        block_places: ACQUIRED_CLASSES,
+    },
+    // GEN
+    Row {
+        letters: *b"GEN",
+        rank: 5,
+        lowest: 0,
+        highest: 0,
+        classes: GENERAL_CLASSES as u64,
+        paired: 0,
+        trend: false,
+        scalar: SCALAR_CLASS as u64,
+        makes_block: false,
+        first_place: PAIRED_LINES + OTHER_LINES + ACQUIRED_LINES,
+        block_places: 0,
+    },
+    // CRD, the dividend credit of a participating block
+    Row {
+        letters: *b"CRD",
+        rank: 6,
+        lowest: NON_PARTICIPATING as u64 + 1,
+        highest: BLOCKS as u64,
+        classes: DIVIDEND_CLASSES as u64,
+        paired: 0,
+        trend: false,
+        scalar: 0,
+        makes_block: false,
+        first_place: PAIRED_LINES + OTHER_LINES + ACQUIRED_LINES + GENERAL_CLASSES,
+        block_places: DIVIDEND_CLASSES,
+    },
+    // CRD of block 0, adjustable products
+    Row {
+        letters: *b"CRD",
+        rank: 6,
+        lowest: 0,
+        highest: 0,
+        classes: ADJUSTABLE_PRODUCTS as u64,
+        paired: 0,
+        trend: false,
+        scalar: 0,
+        makes_block: false,
+        first_place: PAIRED_LINES + OTHER_LINES + ACQUIRED_LINES + GENERAL_CLASSES,
+        block_places: DIVIDEND_CLASSES,
+    },
+];
 
-// The row of the ranges for a code and a block: the code's place, and behind them all the second one of CRD, that of block 0.
+// The row of a code that a block falls under.
 //
-// Kept: a sum and no `if` for CRD, which the compiler would take into the match below: all its arms are constants, so that a range is loaded and not
-// jumped to (docs/DECISIONS.md).
-fn row_of(code: Code, block: u64) -> u64
+// Kept: a sum and no `if` for CRD, so that the row is read at its place and not jumped to (docs/DECISIONS.md).
+pub fn row_of(code: Code, block: u64) -> Row
     ensures { result ≡ row_of code block }
 {
-    place_of(code) + u64::from(matches!(code, Code::Crd) & (block == 0))
-}
-
-// A code's place in the order of codes, from 0.
-fn place_of(code: Code) -> u64
-    ensures { result ≡ place_of code }
-{
-    match code {
-        Code::Rsk => 0,
-        Code::Oth => 1,
-        Code::Mor => 2,
-        Code::Vol => 3,
-        Code::Acq => 4,
-        Code::Gen => 5,
-        Code::Crd => 6,
-    }
-}
-
-// The range in a row.
-#[tactic(auto, unfolding(crate::specs::Rows::range_at, basics::specs::Pick::pick))]
-fn range_at(row: u64) -> Range
-    ensures { result ≡ range_at row }
-{
-    match row {
-        // RSK
-        0 => Range {
-            lowest: 1,
-            highest: word(BLOCKS),
-            classes: word(RISK_CLASSES),
-        },
-        // OTH
-        1 => Range {
-            lowest: 1,
-            highest: word(BLOCKS),
-            classes: word(OTHER_CLASSES),
-        },
-        // MOR
-        2 => Range {
-            lowest: 1,
-            highest: word(NON_PARTICIPATING),
-            classes: word(MORTALITY_CLASSES),
-        },
-        // VOL
-        3 => Range {
-            lowest: 1,
-            highest: word(TERRITORIES),
-            classes: word(VOLUME_CLASSES),
-        },
-        // ACQ
-        4 => Range {
-            lowest: 1,
-            highest: word(TERRITORIES),
-            classes: word(ACQUIRED_CLASSES),
-        },
-        // GEN
-        5 => Range {
-            lowest: 0,
-            highest: 0,
-            classes: word(GENERAL_CLASSES),
-        },
-        // CRD, the dividend credit of a participating block
-        6 => Range {
-            lowest: word(NON_PARTICIPATING) + 1,
-            highest: word(BLOCKS),
-            classes: word(DIVIDEND_CLASSES),
-        },
-        // CRD of block 0, adjustable products
-        _ => Range {
-            lowest: 0,
-            highest: 0,
-            classes: word(ADJUSTABLE_PRODUCTS),
-        },
-    }
+    ROWS[code as usize + usize::from(matches!(code, Code::Crd) & (block == 0))]
 }

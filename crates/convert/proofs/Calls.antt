@@ -1,5 +1,6 @@
 -- What the call gives: by the sheet's length, then by what was read, then rule 14. What an accepted call has written is as long as the sheet and
 -- converts back, and with room for every sheet what is printed is the conversion's own. Assumes nothing.
+-- In order: after the lines; by the length; its length, and the numbers of its refusals: a rule's, with a line of the sheet.
 use mathlib.Core.Path.{◌≡◌, refl, ap, ◌∙◌, subst, subst⁻¹}
 use mathlib.Core.List.{List, [], ◌∷◌}
 use Prim.Native.Nat.{ℕ, ◌%◌, ◌≤◌, ◌<◌}
@@ -7,7 +8,7 @@ use native.Mathlib.Omega.{arith}
 use lib.ListN.{length, drop}
 use lib.Seq.{take_at}
 use Rattle.basics.proofs.Picks.{never}
-use Rattle.refusal.specs.Outcome.{Judging, printed, rule_number}
+use Rattle.refusal.specs.Outcome.{Judging, printed, rule_number, stated_number}
 use Rattle.refusal.specs.Outcome.Outcome.{accepted, refused}
 use Rattle.refusal.specs.declared.Place.{Place}
 use Rattle.refusal.specs.declared.Place.TheVariants.{Line, Nowhere}
@@ -21,18 +22,18 @@ use Rattle.sheet_line.specs.declared.Entry.{Entry}
 use Rattle.order.specs.Reading.{Reading, outcome_of}
 use Rattle.order.specs.Reading.Reading.{complete, stopped}
 use Rattle.order.proofs.Lines.{stopped_by}
-use Rattle.text_answer.specs.Lent.{Done, stated, untouched}
+use Rattle.text_answer.specs.Lent.{Done, untouched}
 use Rattle.text_answer.specs.Lent.Text.{no_text}
 use Rattle.text_answer.specs.Printing.{printout, Printed, Shown}
-use Rattle.text_answer.proofs.Lent as lent
-use Rattle.text_answer.proofs.Lent.{RoomFor, Numbered}
+use Rattle.text_answer.proofs.LentRoom as lent
+use Rattle.text_answer.proofs.LentRoom.{RoomFor, Numbered}
 use Rattle.scaled_line.specs.Scale.{scale_of, parse_in}
 use Rattle.scaled_line.specs.Amounts.{convertible}
 use Rattle.convert.specs.Call.{reading_in, after_reading, conversion, convert_call, ConvertsBack}
 use Rattle.convert.specs.Steps.{LinesWritten, lines_call}
 use Rattle.scaled_line.specs.declared.Scale.{Scale}
 use Rattle.convert.proofs.Reading.{judged}
-use Rattle.convert.proofs.Back.{short_sheet, same_length, lines_long, back}
+use Rattle.convert.proofs.RoundTrip.{short_sheet, same_length, lines_long, back}
 
 -- ---- after the lines
 
@@ -110,7 +111,7 @@ right_numbers s n p =
 
 -- so what is printed with such room is the conversion's own
 pub printed_sheet : (s r : List ℕ) → longest_sheet ≤ length r → (a : Result ℕ Refusal) {r' r'' : List ℕ} {g : ℕ}
-    → ◌≡◌ {A = Done} (record { outcome = stated a; room = r' }) (convert_call s r) → Shown a g r' r'' → Printed (printout (conversion s)) g r r''
+    → ◌≡◌ {A = Done} (record { outcome = stated_number a; room = r' }) (convert_call s r) → Shown a g r' r'' → Printed (printout (conversion s)) g r r''
 unfolding convert_call
 printed_sheet s r room = lent.printed_answer _ r (room_for s r room)
 

@@ -1,6 +1,7 @@
 -- Letters of both sorts in one sheet, document 02's #110: 'line 1's letters tell which', and 'Mixed capital and small codes in one sheet fall under
 -- rule 4 at the first line that differs from line 1'. The first letter tells as much as all three: where they are a code it is of the sort that the
 -- first tells, and where they are none of either sort, both sorts turn line 1 away alike. Assumes nothing.
+-- In order: what the letters of a code tell; a line in a sheet of either sort; the lines of a sheet up to one that is refused; the sheet.
 use Rattle.std.specs.Prelude.{Option, Some, None, Result, Ok, Err}
 use mathlib.Core.Path.{◌≡◌, refl, sym, ap, ◌∙◌}
 use mathlib.Core.List.{List, [], ◌∷◌, ◌++◌, map}
@@ -21,23 +22,23 @@ use Rattle.codes.specs.declared.Code.TheVariants.{Rsk, Oth, Mor, Vol, Acq, Gen, 
 use Rattle.layout.specs.Columns.{sheet_line_bytes, layout_of}
 use Rattle.layout.specs.Whole.{whole_lines, line_at}
 use Rattle.layout.specs.declared.Numbers.{Numbers}
-use Rattle.layout.proofs.Lent.{length_line}
+use Rattle.layout.proofs.WholeLines.{length_line}
 use Rattle.sheet_length.specs.Measured.{longest_sheet, measured, after_length}
 use Rattle.sheet_length.proofs.Measures.{whole}
 use Rattle.sheet_line.specs.Line.{numbers_of}
 use Rattle.sheet_line.specs.Rules.{rule3, parse_line}
 use Rattle.sheet_line.specs.declared.Entry.{Entry}
-use Rattle.sheet_line.proofs.Printed.{code_letters}
+use Rattle.sheet_line.proofs.PrintedLines.{code_letters}
 use Rattle.order.specs.Reading.{Reading, line_after, on_line, read_from, print_by}
 use Rattle.order.specs.Reading.Reading.{complete, stopped}
 use Rattle.order.proofs.Lines.{read_more, on_good, by_line, next_line}
 use Rattle.text_answer.specs.Lent.{Text}
 use Rattle.text_answer.specs.Lent.Text.{no_text}
-use Rattle.scaled_line.specs.Scale.{other, raise, lower, letters_in, scale_of, raised, parse_in}
+use Rattle.scaled_line.specs.Scale.{other, to_capital, to_small, letters_in, scale_of, with_capitals, parse_in}
 use Rattle.scaled_line.specs.Amounts.{convertible}
 use Rattle.scaled_line.specs.declared.Scale.{Scale}
 use Rattle.scaled_line.specs.declared.Scale.TheVariants.{Cents, Thousands}
-use Rattle.scaled_line.proofs.Small.{letters_first, three_in, capitals, raised_is, long_letters, length_raised, layout_raised}
+use Rattle.scaled_line.proofs.SmallLetters.{letters_first, three_in, capitals, capitals_are, long_letters, length_with_capitals, layout_with_capitals}
 use Rattle.convert.specs.Call.{reading_in, after_reading, conversion}
 use Rattle.convert.proofs.Reading.{reads, inverse}
 
@@ -45,7 +46,7 @@ use Rattle.convert.proofs.Reading.{reads, inverse}
 
 -- letters of this sort tell it
 letters_tell : (d : Scale) (k : Code) → scale_of (letters_in d k) ≡ d
-unfolding scale_of raise lower pick
+unfolding scale_of to_capital to_small pick
 letters_tell Cents Rsk = refl
 letters_tell Cents Oth = refl
 letters_tell Cents Mor = refl
@@ -81,21 +82,21 @@ first_tells d k s q =
 -- the code that a sheet of this sort has in columns 1 to 3
 abbrev pub code_in : Scale → List ℕ → Option Code
 code_in Cents s = code_of s
-code_in Thousands s = code_of (raised s)
+code_in Thousands s = code_of (with_capitals s)
 
-raised_first : (s : List ℕ) → length s ≡ sheet_line_bytes → take 3 (raised s) ≡ map raise (take 3 s)
-unfolding raised
-raised_first s h = take_at (map raise (take 3 s)) (drop 3 s) 3 (long_letters s h)
+capitals_first : (s : List ℕ) → length s ≡ sheet_line_bytes → take 3 (with_capitals s) ≡ map to_capital (take 3 s)
+unfolding with_capitals
+capitals_first s h = take_at (map to_capital (take 3 s)) (drop 3 s) 3 (long_letters s h)
 
 -- it has the letters of that sort
 letters_read : (d : Scale) (s : List ℕ) (k : Code) → length s ≡ sheet_line_bytes → code_in d s ≡ Some k → take 3 s ≡ letters_in d k
 letters_read Cents s k h q = code_letters s h codes q
 letters_read Thousands s k h q =
-    raised_is (take 3 s) _ (capitals k) (sym (raised_first s h) ∙ code_letters (raised s) (length_raised s h) codes q)
+    capitals_are (take 3 s) _ (capitals k) (sym (capitals_first s h) ∙ code_letters (with_capitals s) (length_with_capitals s h) codes q)
 
 -- letters of the other sort are no code
 none_in : (d : Scale) (k : Code) (t : List ℕ) → code_in d (letters_in (other d) k ++ t) ≡ None
-unfolding code_among is_code raised raise lower pick
+unfolding code_among is_code with_capitals to_capital to_small pick
 none_in Cents Rsk t = refl
 none_in Cents Oth t = refl
 none_in Cents Mor t = refl
@@ -115,7 +116,7 @@ none_in Thousands Crd t = refl
 uncoded : (d : Scale) (s : List ℕ) → code_in d s ≡ None → parse_in d s ≡ rule3 (layout_of s) None
 unfolding parse_line
 uncoded Cents s q = rw q
-uncoded Thousands s q = rw (layout_raised s, q)
+uncoded Thousands s q = rw (layout_with_capitals s, q)
 
 -- a line with letters of the other sort is refused by 4, where its layout is kept
 pub other_letters_refused : (d : Scale) (k : Code) (s : List ℕ) (n : Numbers) → take 3 s ≡ letters_in (other d) k → layout_of s ≡ Some n
@@ -205,9 +206,9 @@ module _ (d : Scale) where
           let x = rest i (omega arith) in
           (x.0, ap (take 3) (sym w) ∙ x.1)
 
-  pub read_in : (s : List ℕ) (es : List Entry) → reading_in d s ≡ complete es → (i : ℕ) → i < whole_lines s
+  pub lines_lettered : (s : List ℕ) (es : List Entry) → reading_in d s ≡ complete es → (i : ℕ) → i < whole_lines s
       → (k : Code) × (take 3 (line_at s i) ≡ letters_in d k)
-  read_in s es q = all_in (whole_lines s) 1 s [] es (omega arith) q
+  lines_lettered s es q = all_in (whole_lines s) 1 s [] es (omega arith) q
 
 -- ---- the sheet
 

@@ -1,6 +1,6 @@
 -- What holds of the conversion of a sheet. Assumes nothing.
 pub mod Reading
-pub mod Back
+pub mod RoundTrip
 pub mod Passes
 pub mod Calls
 pub mod Letters

@@ -15,7 +15,7 @@ use Rattle.refusal.specs.declared.Place.TheVariants as place
 use Rattle.codes.specs.Codes.{Key}
 use Rattle.layout.specs.Columns.{sheet_line_bytes}
 use Rattle.layout.specs.Whole.{whole_lines, line_at}
-use Rattle.layout.proofs.Lent.{length_line}
+use Rattle.layout.proofs.WholeLines.{length_line}
 use Rattle.sheet_line.specs.declared.Entry.{Entry}
 use Rattle.std.specs.Prelude.{Result, Ok, Err}
 use Rattle.refusal.specs.declared.Rule.{Rule}
@@ -30,7 +30,7 @@ use Rattle.scaled_line.specs.Amounts.{convertible, rescaled}
 use Rattle.scaled_line.specs.Other.{other_line}
 use Rattle.scaled_line.specs.Moved.{moved_line}
 use Rattle.scaled_line.specs.declared.Scale.{Scale}
-use Rattle.scaled_line.proofs.Scaled.{keeps}
+use Rattle.scaled_line.proofs.ScaledAmounts.{keeps}
 use Rattle.scaled_line.proofs.Lines.{length_in_lem}
 use Rattle.scaled_line.proofs.Moves.{line_moved}
 use Rattle.convert.specs.Call.{reading_in}

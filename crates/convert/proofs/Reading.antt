@@ -10,12 +10,12 @@ use Rattle.refusal.specs.declared.Rule.{Rule}
 use Rattle.scaled_line.specs.Scale.{parse_in, print_in}
 use Rattle.scaled_line.specs.Amounts.{convertible}
 use Rattle.scaled_line.specs.declared.Scale.{Scale}
-use Rattle.scaled_line.proofs.Scaled.{keeps}
+use Rattle.scaled_line.proofs.ScaledAmounts.{keeps}
 use Rattle.scaled_line.proofs.Lines.{line_accepted, line_printed, line_parsed, length_in_lem, line_refused, test_judging}
 use Rattle.order.specs.Reading.{line_after}
 use Rattle.order.proofs.Admission.{refused_admitted}
 use Rattle.order.proofs.Lines.{Reads}
-use Rattle.order.proofs.Printed.{Inverse}
+use Rattle.order.proofs.PrintedSheets.{Inverse}
 
 pub reads : (d : Scale) → Reads (parse_in d) (convertible d)
 reads d = record { good = line_accepted d; keeps = keeps d }

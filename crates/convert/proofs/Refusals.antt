@@ -8,9 +8,9 @@ use Rattle.refusal.specs.declared.Place.TheVariants.{Nowhere}
 use Rattle.text_answer.specs.Lent.{TooLong}
 use Rattle.text_answer.specs.Lent.Text.{no_text}
 use Rattle.text_answer.specs.Printing.{ReadsRefusal, printout}
-use Rattle.text_answer.proofs.Lent as lent
+use Rattle.text_answer.proofs.LentRoom as lent
 use Rattle.convert.specs.Call.{conversion, convert_call}
-use Rattle.convert.proofs.Back.{same_length}
+use Rattle.convert.proofs.RoundTrip.{same_length}
 use Rattle.convert.proofs.Calls.{right_numbers}
 
 pub refusal_read : (s : List ℕ) (n : ℕ) (p : Place) → conversion s ≡ no_text n p → ReadsRefusal n p (printout (conversion s))

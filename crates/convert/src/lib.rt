@@ -8,7 +8,8 @@ ghost use Rattle.std.specs.Prelude.{◌≡◌, [], ◌%◌, ◌≤◌, length};
 ghost use Rattle.layout.specs.Columns.{sheet_line_bytes};
 ghost use Rattle.places.specs.Marks.{marks_of};
 ghost use Rattle.order.specs.Reading.{outcome_of};
-ghost use Rattle.text_answer.specs.Lent.{stated, Done};
+ghost use Rattle.refusal.specs.Outcome.{stated_number};
+ghost use Rattle.text_answer.specs.Lent.{Done};
 ghost use Rattle.text_answer.specs.Printing.{printout, Printed};
 ghost use Rattle.scaled_line.specs.Moved.{moved_line};
 ghost use Rattle.convert.specs.Call.{conversion, reading_in, convert_call, ConvertsBack};
@@ -22,8 +23,8 @@ use sheet_length::LONGEST_SHEET;
 
 // A sheet of any bytes, and lent room of any length: nothing is written into it before every rule passes.
 pub fn convert_call(sheet: &[u8], room: &mut [u8]) -> Result<usize, Refusal>
-    ensures answer { ◌≡◌ {A = Done} (record { outcome = stated result; room = room.new }) (convert_call sheet.now room.old) }
-    ensures converts_back { ConvertsBack sheet.now (stated result) room.new }
+    ensures answer { ◌≡◌ {A = Done} (record { outcome = stated_number result; room = room.new }) (convert_call sheet.now room.old) }
+    ensures converts_back { ConvertsBack sheet.now (stated_number result) room.new }
 {
     sheet_length::measure(sheet)?;
     convert_lines(scaled_line::letters::scale_of(sheet), sheet, room)
@@ -43,7 +44,7 @@ pub fn print_converted(sheet: &[u8], room: &mut [u8; LONGEST_SHEET]) -> usize
 // Kept: the sort beside the sheet, here and in two below; a sheet that knows its sort would be made here and opened at once.
 fn convert_lines(scale: Scale, sheet: &[u8], room: &mut [u8]) -> Result<usize, Refusal>
     requires { length sheet.now % sheet_line_bytes ≡ 0 }
-    ensures { ◌≡◌ {A = Done} (record { outcome = stated result; room = room.new }) (lines_call scale sheet.now room.old) }
+    ensures { ◌≡◌ {A = Done} (record { outcome = stated_number result; room = room.new }) (lines_call scale sheet.now room.old) }
 {
     let mut marks = [false; PLACES];
     test_lines(scale, sheet, &mut marks)?;
@@ -58,7 +59,7 @@ fn convert_lines(scale: Scale, sheet: &[u8], room: &mut [u8]) -> Result<usize, R
 // Kept: beside `sheet_reader::read_lines`, which enters amounts; here are marks alone. One over the step would be a closure that both are lent to.
 fn test_lines(scale: Scale, sheet: &[u8], marks: &mut [bool; PLACES]) -> Result<usize, Refusal>
     requires { marks.old ≡ marks_of [] }
-    ensures { stated result ≡ outcome_of (reading_in scale sheet.now) }
+    ensures { stated_number result ≡ outcome_of (reading_in scale sheet.now) }
 {
     let (lines, _) = sheet.as_chunks::<SHEET_LINE_BYTES>();
     let mut last = 0u64;
@@ -96,5 +97,5 @@ fn write_line(scale: Scale, line: &[u8; SHEET_LINE_BYTES], stretch: &mut [u8])
     let Some(out) = stretch.as_mut_array() else {
         unreachable!()
     };
-    scale.write_other(line, out);
+    scale.write_other_scale(line, out);
 }

@@ -1,2 +1,2 @@
 -- The law behind the sum over the pairs of risks: one product more.
-pub mod Running
+pub mod RunningSum

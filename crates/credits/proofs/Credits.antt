@@ -25,7 +25,7 @@ use Rattle.ledger.specs.Numbers.{dividend_credit, adjustable_credit}
 use Rattle.places.specs.Places.{tabled}
 use Rattle.ledger.proofs.Bounds.{first_most, second_most, none_outside, risk_at}
 use Rattle.credits.specs.Credits.{credit_of, credit_above}
-use Rattle.ledger.specs.Tables.{Held}
+use Rattle.ledger.specs.Tables.{TablesHold}
 use Rattle.ledger.proofs.Tables.{amount_is}
 
 -- the first i of them
@@ -47,7 +47,7 @@ dividend_low (suc b) h v = v.low
 pub adjustable_key : (c : ℕ) → 1 ≤ c → c ≤ adjustable_products → Key Crd 0 c
 adjustable_key c h l = record { low = omega arith; high = omega arith; one = h; most = l }
 
-module _ {es : List Entry} {f s : List ℕ} {m : List Bool} (H : Held es f s m) {i : ℕ} (h : i < non_participating) where
+module _ {es : List Entry} {f s : List ℕ} {m : List Bool} (H : TablesHold es f s m) {i : ℕ} (h : i < non_participating) where
   -- S and T are amounts
   pub sums_most : (tabled f Mor (i + 1) 1 ≤ limit) × (tabled s Mor (i + 1) 1 ≤ limit)
   sums_most =
@@ -78,7 +78,7 @@ module _ {es : List Entry} {f s : List ℕ} {m : List Bool} (H : Held es f s m) 
       rw (t, q)
 
 -- the credits of adjustable products, one more
-pub next_adjustable : {es : List Entry} {f s : List ℕ} {m : List Bool} (H : Held es f s m) {i sum a : ℕ} → i < adjustable_products → sum ≡ sum_to (adjustable_credit es) i
+pub next_adjustable : {es : List Entry} {f s : List ℕ} {m : List Bool} (H : TablesHold es f s m) {i sum a : ℕ} → i < adjustable_products → sum ≡ sum_to (adjustable_credit es) i
     → a ≡ tabled f Crd 0 (i + 1) → sum + a ≡ sum_to (adjustable_credit es) (i + 1)
 next_adjustable {es} H {i} h p q =
     let e : i + 1 - 1 ≡ i = omega arith in

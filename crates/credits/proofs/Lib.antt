@@ -1,3 +1,3 @@
 -- What holds of the credits of a sheet, and of its blocks after them. Assumes nothing.
-pub mod Accepted
+pub mod Acceptance
 pub mod Credits

@@ -1,4 +1,6 @@
-// The credits of a sheet off the ledger that holds its lines, and a block's numbers after its credit.
+// The credits of a sheet off the ledger that holds its lines: the mortality credit of each block, 11.1.1, rule 16's test of it, and the block's numbers
+// after it; and the dividend credit of a block and the credits of adjustable products, read alone. Rule 17 tests the first of these in sheet_blocks, rule
+// 13 all of them in judgement.
 #![tactic(auto)]
 
 ghost use Rattle.std.specs.Prelude.{◌≡◌, ◌≤◌, IfSome, is_none};

@@ -26,12 +26,13 @@ use Rattle.sheet_line.specs.declared.Entry.{Entry}
 use Rattle.judgement.specs.Sheet.{sheet_of}
 use Rattle.judgement.specs.Judgement.{Judgement, judgement}
 use Rattle.judgement.specs.Judgement.Judgement.{turned_away, sound}
-use Rattle.judgement.proofs.Accepted.{sound_accepted}
+use Rattle.judgement.proofs.Acceptance.{sound_accepted}
 use Rattle.sheet_call.specs.Call.{sheet_call}
 use Rattle.sheet_call.specs.Demand.{ReportDemand, Demand3}
-use Rattle.dummies.specs.Dummies.{Lent, Call, MeetsContract, MeetsDemand3, TurnsAllAway, ConstantReport, WritesNothing, TooShortAtOnce, FirstFilledIn, filled_in, BufferOfFirst, blanked, AlikeButOthers, OthersFilledIn, BufferWithoutOthers, FarAbove, FarBelow}
+use Rattle.dummies.specs.Dummies.{Lent, Call, MeetsContract, MeetsDemand3, TurnsAllAway, ConstantReport, WritesNothing, TooShortAtOnce, FirstFilledIn}
+use Rattle.dummies.specs.Dummies.{filled_in, BufferOfFirst, blanked, AlikeButOthers, OthersFilledIn, BufferWithoutOthers, FarAbove, FarBelow}
 use Rattle.dummies.specs.Answers.{Amounts, amounts_of, lines_of, Facts, facts_of, Case, Answered, empty, guaranteed, two_blocks, another_second}
-use Rattle.dummies.proofs.Computed.{computed}
+use Rattle.dummies.proofs.SmallSheets.{computed}
 
 -- a sheet whose amounts are read has been judged to be sound
 sound_lines : (j : Judgement) → 1 ≤ (amounts_of j).allowance → (es : List Entry) × (j ≡ sound es)

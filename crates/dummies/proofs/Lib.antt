@@ -1,5 +1,5 @@
 -- No dummy meets the sheet call's contract, and a program of each kind meets the premise of its kind.
-pub mod Computed
+pub mod SmallSheets
 pub mod Dummies
-pub mod FilledIn
+pub mod FilledSheets
 pub mod Programs

@@ -1,5 +1,5 @@
 -- The plainest program of each kind of dummy meets the premise of its kind: four by what they give. The one that fills in the first block
--- refuses by rules 17 and 13 of its own sum of K and else as the sheet call does, and what is read of its report is in FilledIn.
+-- refuses by rules 17 and 13 of its own sum of K and else as the sheet call does, and what is read of its report is in FilledSheets.
 -- Assumes nothing.
 use mathlib.Core.Path.{◌≡◌, refl, sym, ap, ◌∙◌}
 use mathlib.Core.Bool.{Bool, true, false}
@@ -22,14 +22,15 @@ use Rattle.sheet_line.specs.declared.Entry.{Entry}
 use Rattle.judgement.specs.Sheet.{sheet_of}
 use Rattle.judgement.specs.Judgement.{Judgement, judgement}
 use Rattle.judgement.specs.Judgement.Judgement.{turned_away, sound}
-use Rattle.judgement.proofs.Accepted.{sound_accepted}
+use Rattle.judgement.proofs.Acceptance.{sound_accepted}
 use Rattle.text_answer.specs.Lent.{Done, rule14, lent}
 use Rattle.sheet_answer.specs.Judged.{text_of, judged_call}
 use Rattle.sheet_call.specs.Call.{report_of, sheet_call}
-use Rattle.sheet_call.proofs.Rows as aggregate
-use Rattle.dummies.specs.Dummies.{TurnsAllAway, ConstantReport, WritesNothing, TooShortAtOnce, claimed_report, FirstFilledIn, filled_in, BufferOfFirst, blanked, AlikeButOthers, OthersFilledIn, BufferWithoutOthers}
+use Rattle.sheet_call.proofs.Rows as sheet_call
+use Rattle.dummies.specs.Dummies.{TurnsAllAway, ConstantReport, WritesNothing, TooShortAtOnce, claimed_report, FirstFilledIn}
+use Rattle.dummies.specs.Dummies.{filled_in, BufferOfFirst, blanked, AlikeButOthers, OthersFilledIn, BufferWithoutOthers}
 use Rattle.dummies.specs.Programs.{turns_away, writes_constant, claims_success, says_too_short, filled_report, filled17, filled13, after_filling, fills_in, sees_first}
-use Rattle.dummies.proofs.FilledIn.{SameK, Reads, none_read, none_accepted, report_long, k_same, reads_filled}
+use Rattle.dummies.proofs.FilledSheets.{SameK, Reads, none_read, none_accepted, report_long, k_same, reads_filled}
 
 pub turns_away_met : TurnsAllAway turns_away
 turns_away_met s r l = (12, Nowhere, refl)
@@ -83,7 +84,7 @@ module _ (s r : List ℕ) where
       (es : List Entry) → judgement s ≡ sound es → CreditsWithin (filled_in (sheet_of es)) → (fills_in s r).outcome ≡ (sheet_call s r).outcome
   unfolding fills_in after_filling filled17 filled13 judged_call text_of lent
   outcome_same es e h =
-      let long = report_long es (sound_accepted s es e) h ∙ sym (aggregate.report_long es) in
+      let long = report_long es (sound_accepted s es e) h ∙ sym (sheet_call.report_long es) in
       rw (e, if_ge _ h.0, if_ge _ h.1) (same_outcome (filled_report es) (report_of es) r long)
 
 pub first_filled_in_met : FirstFilledIn fills_in
@@ -129,7 +130,7 @@ as_many p q f g h (suc n) =
 blanked_long : (es : List Entry) → length (report_of (map blanked es)) ≡ length (report_of es)
 unfolding sheet_of blocks_to
 blanked_long es =
-    aggregate.report_long (map blanked es) ∙ ap report_length (as_many _ _ _ _ (exist_too es) blocks) ∙ sym (aggregate.report_long es)
+    sheet_call.report_long (map blanked es) ∙ ap report_length (as_many _ _ _ _ (exist_too es) blocks) ∙ sym (sheet_call.report_long es)
 
 -- what such a program gives for two sheets that differ in nothing that it sees is the same
 seen_alike : (f : List Entry → List ℕ) (s t r : List ℕ) (es fs : List Entry) → AlikeButOthers s t es fs → sees_first f s r ≡ sees_first f t r

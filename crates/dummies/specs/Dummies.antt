@@ -9,8 +9,9 @@ use Rattle.refusal.specs.declared.Place.{Place}
 use Rattle.guideline.specs.Buffer.{Sheet, buffer, free, CreditsWithin}
 use Rattle.accuracy.specs.ExactBuffer.{millionths, allowance}
 use Rattle.report_line.specs.Line.{number_at}
+use Rattle.sheet_line.specs.Rules.{row_for}
 use Rattle.sheet_line.specs.declared.Entry.{Entry}
-use Rattle.places.specs.Entries.{of_block, exists}
+use Rattle.places.specs.Entries.{exists}
 use Rattle.report.specs.Rows.{BLK, TOT}
 use Rattle.judgement.specs.Sheet.{sheet_of}
 use Rattle.judgement.specs.Judgement.{judgement}
@@ -98,7 +99,7 @@ pub record BufferOfFirst (call : Call) : Type 0 where
 
 -- a line as such a program sees it: an RSK or OTH line of another block than the first has lost its amounts
 unfoldable pub blanked : Entry → Entry
-blanked e = pick (of_block e.code && ltb 1 e.block) (record { code = e.code; block = e.block; class = e.class; first = 0; second = 0 }) e
+blanked e = pick ((row_for e).makes_block && ltb 1 e.block) (record { code = e.code; block = e.block; class = e.class; first = 0; second = 0 }) e
 
 -- the lines of two sheets that have a block 1 and differ in nothing that such a program sees
 pub record AlikeButOthers (s t : List ℕ) (es fs : List Entry) : Type 0 where

@@ -1,2 +1,2 @@
 -- Laws of what an exported call leaves, by the outcome of the call that it makes.
-pub mod Answered
+pub mod Promises

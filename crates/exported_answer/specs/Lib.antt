@@ -1,2 +1,2 @@
 -- What an exported call leaves with its caller. Assumes nothing.
-pub mod Left
+pub mod Caller

@@ -19,12 +19,12 @@ ghost use Rattle.sheet_call.specs.Demand.{Demand3, PrintedWhole};
 ghost use Rattle.convert.specs.Call.{convert_call, ConvertsBack};
 ghost use Rattle.check_call.specs.Call.{check_call, ListsExactly};
 ghost use Rattle.movement.specs.Call.{movement_call};
-ghost use Rattle.movement.specs.Swing.{Swing};
+ghost use Rattle.movement.specs.Bounds.{MovementsBounded};
 ghost use Rattle.quarter.specs.Call.{quarter_call, SummarySays};
-ghost use Rattle.exported_answer.specs.Left.{Leaves};
+ghost use Rattle.exported_answer.specs.Caller.{CallerHas};
 ghost use Rattle.exports.specs.Version.{interface_version};
 
-use figures::Worked;
+use figures::FiguresAndSteps;
 use sizes::{BLOCK_FIGURES, BLOCK_NUMBERS, GENERAL_FIGURES, PARTS};
 
 // What the block call gives: the figures, and the steps of its two roots.
@@ -49,21 +49,21 @@ pub extern "C" fn tsav_block(
     figures: &mut [u64; BLOCK_VALUES],
     place: &mut [u64; 2],
 ) -> u64
-    ensures leaves { Leaves (block_call numbers.now) result figures.old place.old figures.new place.new }
+    ensures leaves { CallerHas (block_call numbers.now) result figures.old place.old figures.new place.new }
     ensures at_0 { result ≡ 0 → BlockDemand3 numbers.now (accepted figures.new) × FewSteps (accepted figures.new) }
 {
     let values = block::block_call(numbers).map(
-        |w: Worked|
+        |w: FiguresAndSteps|
             ensures { result ≡ figure_list w.figures ++ step_list w.steps }
         {
-            let Worked {
+            let FiguresAndSteps {
                 figures: f,
                 steps: s,
             } = w;
             [f.i, f.d, f.u, f.lt, f.k, s.i, s.d]
         },
     );
-    exported_answer::leave(values, figures, place)
+    exported_answer::give_values(values, figures, place)
 }
 
 // The figure is RO.
@@ -74,14 +74,14 @@ pub extern "C" fn tsav_operational(
     figure: &mut [u64; 1],
     place: &mut [u64; 2],
 ) -> u64
-    ensures { Leaves (operational_call volumes.now general.now) result figure.old place.old figure.new place.new }
+    ensures { CallerHas (operational_call volumes.now general.now) result figure.old place.old figure.new place.new }
 {
     let values = operational::operational_call(volumes, general).map(
         |ro: u64|
             ensures { result ≡ ro ∷ [] }
         { [ro] },
     );
-    exported_answer::leave(values, figure, place)
+    exported_answer::give_values(values, figure, place)
 }
 
 // A row of section 11.1.2, the requirement and the face amount. The figure is the requirement times its factor; where 0 is given, it meets
@@ -94,7 +94,7 @@ pub extern "C" fn tsav_fluctuation(
     figure: &mut [u64; 1],
     place: &mut [u64; 2],
 ) -> u64
-    ensures leaves { Leaves (fluctuation_call row requirement face) result figure.old place.old figure.new place.new }
+    ensures leaves { CallerHas (fluctuation_call row requirement face) result figure.old place.old figure.new place.new }
     ensures at_0 { result ≡ 0 → FluctuationDemand row requirement face (accepted figure.new) }
 {
     let values = fluctuation::fluctuation_call(row, requirement, face).map(
@@ -102,7 +102,7 @@ pub extern "C" fn tsav_fluctuation(
             ensures { result ≡ product ∷ [] }
         { [product] },
     );
-    exported_answer::leave(values, figure, place)
+    exported_answer::give_values(values, figure, place)
 }
 
 // The shares of K in cents: risks 1 to 7, then PC, credit and market. Where 0 is given, they total K, and each is within a cent of its
@@ -113,10 +113,10 @@ pub extern "C" fn tsav_shares(
     shares: &mut [u64; PARTS],
     place: &mut [u64; 2],
 ) -> u64
-    ensures leaves { Leaves (shares_call numbers.now) result shares.old place.old shares.new place.new }
+    ensures leaves { CallerHas (shares_call numbers.now) result shares.old place.old shares.new place.new }
     ensures at_0 { result ≡ 0 → SharesDemand numbers.now (accepted shares.new) }
 {
-    exported_answer::leave(shares::shares_call(numbers), shares, place)
+    exported_answer::give_values(shares::shares_call(numbers), shares, place)
 }
 
 // Accepted, `written` holds how many bytes of the lent report are the report, from its start. Where 0 is given, the report meets demand 3, and none
@@ -130,10 +130,10 @@ pub extern "C" fn tsav_sheet(
     place: &mut [u64; 2],
 ) -> u64
     ensures room_after { report.new ≡ (sheet_call sheet.now report.old).room }
-    ensures leaves { Leaves (sheet_call sheet.now report.old).outcome result written.old place.old written.new place.new }
+    ensures leaves { CallerHas (sheet_call sheet.now report.old).outcome result written.old place.old written.new place.new }
     ensures at_0 { result ≡ 0 → Demand3 sheet.now (accepted written.new) report.new × PrintedWhole sheet.now (accepted written.new) report.new }
 {
-    exported_answer::tell(sheet_call::sheet_call(sheet, report), written, place)
+    exported_answer::give_length(sheet_call::sheet_call(sheet, report), written, place)
 }
 
 // Accepted, `written` holds how many bytes of the lent room are the converted sheet, from its start. Where 0 is given, it converts back.
@@ -146,10 +146,10 @@ pub extern "C" fn tsav_convert(
     place: &mut [u64; 2],
 ) -> u64
     ensures room_after { room.new ≡ (convert_call sheet.now room.old).room }
-    ensures leaves { Leaves (convert_call sheet.now room.old).outcome result written.old place.old written.new place.new }
+    ensures leaves { CallerHas (convert_call sheet.now room.old).outcome result written.old place.old written.new place.new }
     ensures at_0 { result ≡ 0 → ConvertsBack sheet.now (accepted written.new) room.new }
 {
-    exported_answer::tell(convert::convert_call(sheet, room), written, place)
+    exported_answer::give_length(convert::convert_call(sheet, room), written, place)
 }
 
 // Accepted, `written` holds how many bytes of the lent room are the listing, from its start. Where 0 is given, a line of the sheet is listed exactly
@@ -163,10 +163,10 @@ pub extern "C" fn tsav_check(
     place: &mut [u64; 2],
 ) -> u64
     ensures room_after { room.new ≡ (check_call sheet.now room.old).room }
-    ensures leaves { Leaves (check_call sheet.now room.old).outcome result written.old place.old written.new place.new }
+    ensures leaves { CallerHas (check_call sheet.now room.old).outcome result written.old place.old written.new place.new }
     ensures at_0 { result ≡ 0 → ListsExactly sheet.now (accepted written.new) room.new }
 {
-    exported_answer::tell(check_call::check_call(sheet, room), written, place)
+    exported_answer::give_length(check_call::check_call(sheet, room), written, place)
 }
 
 // Accepted, `written` holds how many bytes of the lent room are the movements, a line for each risk, from its start. Where 0 is given, a risk whose
@@ -180,10 +180,10 @@ pub extern "C" fn tsav_movement(
     place: &mut [u64; 2],
 ) -> u64
     ensures room_after { room.new ≡ (movement_call input.now room.old).room }
-    ensures leaves { Leaves (movement_call input.now room.old).outcome result written.old place.old written.new place.new }
-    ensures at_0 { result ≡ 0 → Swing input.now (accepted written.new) room.new }
+    ensures leaves { CallerHas (movement_call input.now room.old).outcome result written.old place.old written.new place.new }
+    ensures at_0 { result ≡ 0 → MovementsBounded input.now (accepted written.new) room.new }
 {
-    exported_answer::tell(movement::movement_call(input, room), written, place)
+    exported_answer::give_length(movement::movement_call(input, room), written, place)
 }
 
 // Accepted, `written` holds how many bytes of the lent room are the text of the sheets, from its start, a last line REF 24 or 25 included. Where 0 is
@@ -197,8 +197,8 @@ pub extern "C" fn tsav_quarter(
     place: &mut [u64; 2],
 ) -> u64
     ensures room_after { room.new ≡ (quarter_call sheets.now room.old).room }
-    ensures leaves { Leaves (quarter_call sheets.now room.old).outcome result written.old place.old written.new place.new }
+    ensures leaves { CallerHas (quarter_call sheets.now room.old).outcome result written.old place.old written.new place.new }
     ensures at_0 { result ≡ 0 → SummarySays sheets.now (accepted written.new) room.new }
 {
-    exported_answer::tell(quarter::quarter_call(sheets, room), written, place)
+    exported_answer::give_length(quarter::quarter_call(sheets, room), written, place)
 }

@@ -1,5 +1,7 @@
 -- Reading and writing a field undo each other, over every width; a field's number has no more digits than the field has
 -- columns. Assumes nothing.
+-- In order: a digit, and what no digit is; a field's number has no more digits than the field has columns; what is written is read back; what is read
+-- is written back.
 use Rattle.std.specs.Prelude.{Option, Some}
 use mathlib.Core.Path.{◌≡◌, refl, sym, ap, ◌∙◌}
 use mathlib.Core.List.{List, [], ◌∷◌, ◌++◌, append-nil}

@@ -1,5 +1,5 @@
 -- A number field written two columns at a time, and that reading is the inverse of writing. Assumes nothing.
-pub mod Writing
+pub mod WrittenColumns
 pub mod Inverse
 pub mod Pairs
 pub mod Minus

@@ -1,5 +1,6 @@
 -- A minus right before a field's digits: how the place before them is found, and what then stands in the columns: spaces, the minus and the number.
 -- Assumes nothing.
+-- In order: the place of the minus; the difference of two numbers; the columns are as many; what then stands in the columns.
 use mathlib.Core.Path.{◌≡◌, refl, sym, ap, ◌∙◌}
 use mathlib.Core.List.{List, [], ◌∷◌, ◌++◌}
 use Prim.Native.Nat.{ℕ, zero, suc, ◌+◌, ◌-◌, ◌/◌, ◌%◌, ◌^◌, ◌≤◌, ◌<◌}
@@ -14,7 +15,7 @@ use Rattle.basics.proofs.Picks.{if_eq, if_ne, by_test}
 use Rattle.integer.proofs.Integer.{above, below}
 use Rattle.field.specs.Field.{digit_or_space, leading_digits, decimal}
 use Rattle.field.specs.Signed.{with_minus, signed, MinusBefore}
-use Rattle.field.proofs.Writing.{length_leading, length_decimal}
+use Rattle.field.proofs.WrittenColumns.{length_leading, length_decimal}
 use Rattle.field.proofs.Inverse.{space_decimal, digit_shown}
 
 -- ---- the place of the minus

@@ -46,7 +46,7 @@ pub struct Steps {
 
 // A block's figures, and the steps of its roots.
 #[derive(Clone, Copy)]
-pub struct Worked {
+pub struct FiguresAndSteps {
     pub figures: Figures,
     pub steps: Steps,
 }
@@ -59,7 +59,7 @@ pub fn figures_of(b: &Block) -> Figures
 }
 
 // The same with the steps, in the order of sections 11.2.1 to 11.2.4.
-pub fn worked_out(b: &Block) -> Worked
+pub fn worked_out(b: &Block) -> FiguresAndSteps
     ensures { (figure_list result.figures ≡ figures_of b.now.numbers) × (step_list result.steps ≡ steps_of b.now.numbers) }
 {
     // 11.2.1: I
@@ -73,7 +73,7 @@ pub fn worked_out(b: &Block) -> Worked
     // 11.2.4: LT = Σ LT_i, and K
     let lt = level_and_trend(b);
     let k = adjusted(u, lt, fine_d);
-    Worked {
+    FiguresAndSteps {
         figures: Figures {
             i: in_half_cents(fine_i),
             d: in_half_cents(fine_d),

@@ -10,9 +10,10 @@ use Rattle.refusal.specs.Outcome.{Outcome}
 use Rattle.refusal.specs.Outcome.Outcome.{accepted, refused}
 use Rattle.refusal.specs.declared.Place.TheVariants.{Position, Nowhere}
 use Rattle.amount.specs.Amount.{limit, first_above}
+use Rattle.amount.specs.Rule7.{rule7}
 use Rattle.fluctuation.specs.Rows.{rows, row_of, base_of}
 use Rattle.fluctuation.specs.Result.{reaches, factored_requirement}
-use Rattle.fluctuation.specs.Call.{rule7, fluctuation_call}
+use Rattle.fluctuation.specs.Call.{fluctuation_call}
 
 -- an amount above the limit
 abbrev high : ℕ

@@ -13,7 +13,7 @@ use Rattle.fluctuation.specs.Result.{reaches, factored_requirement}
 use Rattle.fluctuation.specs.Exact.{twentieths, less_twentieths, times_dollars, AtOrAbove}
 use Rattle.fluctuation.specs.Demand.{ResultDemand}
 use Rattle.fluctuation.specs.Accepted.{AcceptedFluctuation}
-use Rattle.fluctuation.proofs.Reached.{reaches_first, reaches_square, reached, least_reaches, b_reaches}
+use Rattle.fluctuation.proofs.LeastCents.{reaches_first, reaches_square, reached, least_reaches, b_reaches}
 use Rattle.fluctuation.proofs.Rows.{Sound, sound, falls, up_to_threshold, above_threshold}
 
 -- ---- a whole number that is at or above reaches, and the other way round

@@ -1,8 +1,8 @@
 -- The radicand that the code makes, what reaches, the seven rows, the rules, the accuracy rule, what the call accepts, and cases of its rules and rows.
 pub mod Radicand
-pub mod Reached
+pub mod LeastCents
 pub mod Rows
 pub mod Rules
 pub mod Demand
-pub mod Accepted
+pub mod Acceptance
 pub mod Cases

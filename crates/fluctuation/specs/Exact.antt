@@ -4,7 +4,7 @@
 use Rattle.std.specs.Prelude.{◌≡◌, ℕ, ◌+◌, ◌*◌, ◌≤◌, ◌<◌, pos, ◌-ℤ◌, ◌*ℤ◌}
 use Rattle.std.proofs.Common.{sym, ◌∙◌, mul-pos, mul-le-mul_right, arith}
 use Rattle.integer.proofs.Integer.{as_diff, diff_eq}
-use Rattle.accuracy.specs.Difference.{diff_less, diff_times, times_diff}
+use Rattle.integer.proofs.Difference.{diff_less, diff_times, times_diff}
 use Rattle.accuracy.specs.Fraction.{Fraction, numerator, ◌≤ᶠ◌, whole, square_less, ≤ᶠ_trans, square_rises}
 use Rattle.fluctuation.specs.Rows.{Row, base_of}
 

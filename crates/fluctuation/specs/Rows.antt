@@ -3,7 +3,7 @@
 -- root each factor is from 0.9996 to 1 at its threshold, which proofs/Rows tests of the list. The section's own headings stand beside
 -- document 02's names: 'risque de niveau' is 11.1.2.1, 'risque de volatilité' 11.1.2.2. Assumes nothing.
 use Rattle.std.specs.Prelude.{◌≡◌, refl, List, [], ◌∷◌, ℕ, length}
-use Rattle.guideline.specs.Factors.{numbered}
+use Rattle.basics.specs.Numbered.{numbered}
 
 -- 'The base is the requirement B itself, for critical illness the face amount'
 pub data Base : Type 0 where

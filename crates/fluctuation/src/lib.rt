@@ -2,11 +2,12 @@
 #![tactic(auto)]
 
 ghost use Rattle.std.specs.Prelude.{◌≡◌, ◌*◌, ◌<◌, ◌≤◌, leb};
+ghost use Rattle.refusal.specs.Outcome.{stated_number};
 ghost use Rattle.amount.specs.Amount.{limit};
 ghost use Rattle.basics.specs.Least.{least};
 ghost use Rattle.fluctuation.specs.Rows.{row_count, row_of};
 ghost use Rattle.fluctuation.specs.Result.{scale, reaches, factored_requirement};
-ghost use Rattle.fluctuation.specs.Call.{stated, fluctuation_call};
+ghost use Rattle.fluctuation.specs.Call.{fluctuation_call};
 ghost use Rattle.fluctuation.specs.Accepted.{AcceptedFluctuation, FluctuationDemand};
 ghost use Rattle.fluctuation.specs.Parts.{factor_for, most_second, Falls, InReach};
 
@@ -27,8 +28,8 @@ struct Falling(u64, u64, u64);
 // rule with one cent.
 // Kept: row, requirement and face amount as three parameters, which the C interface has; a struct of them would be filled here for two functions.
 pub fn fluctuation_call(row: u64, requirement: u64, face: u64) -> Result<u64, Refusal>
-    ensures outcome { stated result ≡ fluctuation_call row requirement face }
-    ensures accuracy { FluctuationDemand row requirement face (stated result) }
+    ensures outcome { stated_number result ≡ fluctuation_call row requirement face }
+    ensures accuracy { FluctuationDemand row requirement face (stated_number result) }
 {
     if row < 1 {
         return Err(Refusal(Rule::UnknownRow, Place::Nowhere));

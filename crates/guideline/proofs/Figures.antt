@@ -1,5 +1,7 @@
 -- What the figures of an accepted block obey: no difference is cut, the root lies between a third of the sum of y and that sum, so D between a
 -- third of V and V, and K between half of LT + D and U. Each is shown of the finer figures, and then of the reported ones. Assumes nothing.
+-- In order: a block that is accepted, by its 17 numbers; Q and its root; K by U, LT, V and D; half cents, the least at or above a number of
+-- hundredths; the figures; as code finds the root.
 use mathlib.Core.Path.{◌≡◌, refl, sym, ap, ◌∙◌}
 use mathlib.Core.List.{List}
 use Prim.Native.Nat.{ℕ, ◌+◌, ◌-◌, ◌*◌, ◌/◌, ◌^◌, ◌≤◌, ◌<◌}
@@ -17,17 +19,18 @@ use Rattle.basics.proofs.Picks.{if_ne}
 use Rattle.basics.proofs.LeastOf.{LeastOf, Rising, least_of}
 use Rattle.basics.proofs.Roots.{le_of_squares}
 use Rattle.basics.proofs.Tests.{leb_same}
+use Rattle.integer.specs.Sum.{sum}
 use Rattle.amount.specs.Amount.{limit}
-use Rattle.sizes.specs.Sizes.{risks, block_figures, FitsColumns, fineness}
-use Rattle.guideline.specs.Block.{ir, lt, PC, A, seven, U, LT, Vh, y, ys, Q4, largest_of, largest, root, fine_i, a, radicand, fine_d, reported, I, D, fine_numerator, requirement, K, EachRisk, AcceptedBlock, figures_of}
-use Rattle.guideline.proofs.Sums.{sum}
+use Rattle.sizes.specs.Sizes.{risks, last_lt_position, block_figures, FitsColumns, fineness}
+use Rattle.guideline.specs.Block.{ir, lt, PC, A, seven, U, LT, Vh, y, ys, Q4, largest_of, largest, root, fine_i, a, radicand, fine_d, reported, I, D}
+use Rattle.guideline.specs.Block.{fine_numerator, requirement, K, EachRisk, AcceptedBlock, figures_of}
 use Rattle.guideline.proofs.Table.{form, form_least, form_most, quarter_form, quarter_natural}
 use Rattle.guideline.proofs.Bounds.{radicand_most, root_thrice, m_rises, k_least, u_passes}
 
 -- ---- a block that is accepted, by its 17 numbers
 
 pub accepted_of_lem :
-    (b : List ℕ) → ((k : ℕ) → get_or b k 0 ≤ limit) → get_or b 13 0 ≡ 0 → ((i : ℕ) → i < risks → get_or b (2 * i + 1) 0 ≤ get_or b (2 * i) 0) →
+    (b : List ℕ) → ((k : ℕ) → get_or b k 0 ≤ limit) → get_or b last_lt_position 0 ≡ 0 → ((i : ℕ) → i < risks → get_or b (2 * i + 1) 0 ≤ get_or b (2 * i) 0) →
     AcceptedBlock b
 accepted_of_lem b a z w =
     record {

@@ -2,16 +2,32 @@
 -- comes to for such a table. Assumes nothing.
 use mathlib.Core.Path.{◌≡◌, refl, ap, ◌∙◌}
 use mathlib.Core.List.{List, [], ◌∷◌}
-use Prim.Native.Nat.{ℕ, ◌+◌, ◌*◌, ◌/◌, ◌%◌}
+use Prim.Native.Nat.{ℕ, ◌+◌, ◌*◌, ◌/◌, ◌%◌, ◌<◌}
+use native.Mathlib.Omega.{arith}
 use lib.ListN.{get_or}
-use lib.IntN.{ℤ, pos, negsuc, nat_abs, ◌+ℤ◌, ◌*ℤ◌, zero-*ℤ}
+use lib.IntN.{ℤ, pos, negsuc, nat_abs, ◌+ℤ◌, ◌*ℤ◌, *ℤ_comm, zero-*ℤ}
+use Rattle.integer.specs.Sum.{sum}
 use Rattle.integer.proofs.Integer.{ring}
+use Rattle.integer.proofs.Sums.{sum_same, sum_add, sum_times, sum_rows}
 use Rattle.sizes.specs.Sizes.{risks, products}
-use Rattle.guideline.proofs.Sums.{sum, sum_same, sum_add, sum_times, sum_square}
 
 -- the k-th product of two values, row by row
 abbrev pub product : (ℕ → ℤ) → ℕ → ℤ
 product x k = x (k / risks) *ℤ x (k % risks)
+
+-- all products of two of the first seven values, row by row
+pub sum_square : (f : ℕ → ℤ) → sum products (product f) ≡ sum risks f *ℤ sum risks f
+sum_square f =
+    sum_rows (λ k. f (k / risks) *ℤ f (k % risks)) risks risks
+    ∙ sum_same risks _ (λ i. sum risks f *ℤ f i)
+    (λ i h. sum_same risks _ (λ j. f i *ℤ f j) (at i) ∙ sum_times f (f i) risks ∙ *ℤ_comm (f i) (sum risks f))
+    ∙ sum_times f (sum risks f) risks
+  where
+    at : (i j : ℕ) → j < risks → f ((i * risks + j) / risks) *ℤ f ((i * risks + j) % risks) ≡ f i *ℤ f j
+    at i j h =
+        let d : (i * risks + j) / risks ≡ i = omega arith in
+        let m : (i * risks + j) % risks ≡ j = omega arith in
+        rw (d, m)
 
 pub square_pos : (z : ℤ) → z *ℤ z ≡ pos (nat_abs z * nat_abs z)
 square_pos (pos n) = refl

@@ -1,5 +1,7 @@
 -- The correlation factors: one computed test over all of the table, and what it says of the table and of the sum over all i, j.
 -- Assumes nothing.
+-- In order: the test; the sum over all i, j of factor × x(i) × x(j), in quarters, for x of any sign; the definition's sum is the form of the
+-- naturals.
 use mathlib.Core.Path.{◌≡◌, refl, sym, ap, ◌∙◌}
 use mathlib.Core.Bool.{Bool, true}
 use mathlib.Core.List.{List, [], ◌∷◌}
@@ -14,12 +16,13 @@ use mir.Val.{SFits}
 use borrow.Author.Tests.{leb-true}
 use Rattle.basics.proofs.Picks.{never}
 use Rattle.basics.proofs.Values.{values, values_same}
+use Rattle.integer.specs.Sum.{sum}
 use Rattle.integer.proofs.Integer.{ring, *ℤ-+ℤ, *ℤ_assoc, +ℤ-*ℤ, natural_diff}
+use Rattle.integer.proofs.Sums.{sum_same, sum_add, sum_times}
 use Rattle.sizes.specs.Sizes.{risks, products}
 use Rattle.guideline.specs.Factors.{factors, factor, quarter_sum}
-use Rattle.guideline.proofs.Sums.{sum, sum_same, sum_add, sum_times, sum_square}
-use Rattle.guideline.proofs.Order.{so_far_sum, in_order}
-use Rattle.guideline.proofs.Squares.{Square, made, sum_of_squares, made_sum, product, square_pos}
+use Rattle.guideline.proofs.ProductOrder.{in_order}
+use Rattle.guideline.proofs.Squares.{Square, made, sum_of_squares, made_sum, product, square_pos, sum_square}
 
 -- ---- the test
 
@@ -155,7 +158,7 @@ form_most y q s e f =
 
 pub quarter_form : (ys : List ℕ) → quarter_sum ys ≡ form (λ i. pos (get_or ys i 0))
 unfolding form factor
-quarter_form ys = sym (in_order ys).all ∙ so_far_sum ys products
+quarter_form ys = sym (in_order ys).all
 
 -- 'A single term may be negative; Q never is'
 pub quarter_natural : (ys : List ℕ) → (q : ℕ) × (quarter_sum ys ≡ pos q)

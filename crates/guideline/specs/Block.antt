@@ -6,13 +6,14 @@
 use Rattle.std.specs.Prelude.{◌≡◌, List, [], ◌∷◌, ℕ, ◌+◌, ◌-◌, ◌*◌, max, ◌≤◌, leb, eqb, get_or, ℤ, pos, ◌+ℤ◌, ◌-ℤ◌, ◌*ℤ◌}
 use Rattle.std.proofs.Common.{sym, ap, ◌∙◌, arith}
 use Rattle.std.specs.Int.Signed.{le_z}
+use Rattle.integer.specs.Larger.{larger}
 use Rattle.integer.proofs.Integer.{as_diff, diff_eq, diff_add}
+use Rattle.integer.proofs.Difference.{cut_larger, less_diff, uncut}
 use Rattle.amount.specs.Amount.{limit}
 use Rattle.basics.specs.Pick.{pick}
 use Rattle.basics.specs.Least.{least}
-use Rattle.sizes.specs.Sizes.{fineness}
+use Rattle.sizes.specs.Sizes.{pc_position, credit_position, market_position, fineness}
 use Rattle.guideline.specs.Factors.{quarter_sum}
-use Rattle.guideline.specs.Difference.{larger, cut_larger, less_diff, uncut}
 
 -- the gross component IR(i) of risk i, from 1 to 7
 abbrev pub ir : List ℕ → ℕ → ℕ
@@ -24,15 +25,15 @@ lt b i = get_or b (2 * i - 1) 0
 
 -- property and casualty
 abbrev pub PC : List ℕ → ℕ
-PC b = get_or b 14 0
+PC b = get_or b pc_position 0
 
 -- credit
 abbrev pub credit : List ℕ → ℕ
-credit b = get_or b 15 0
+credit b = get_or b credit_position 0
 
 -- market
 abbrev pub market : List ℕ → ℕ
-market b = get_or b 16 0
+market b = get_or b market_position 0
 
 -- credit plus market
 unfoldable pub A : List ℕ → ℕ

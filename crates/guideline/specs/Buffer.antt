@@ -4,12 +4,12 @@ use Rattle.std.proofs.Common.{◌∙◌, arith}
 use Rattle.std.proofs.Math.IntN.{neg_ℤ-+ℤ}
 use Rattle.amount.specs.Amount.{limit}
 use Rattle.integer.proofs.Integer.{ring}
+use Rattle.integer.proofs.Difference.{uncut}
 use Rattle.basics.specs.Least.{least}
 use Rattle.basics.specs.Each.{Each}
 use Rattle.sizes.specs.Sizes.{blocks, ten_thousandths, largest_scalar}
 use Rattle.guideline.specs.Block.{AcceptedBlock, K}
 use Rattle.guideline.specs.Operational.{OperationalAmounts, RO}
-use Rattle.guideline.specs.Difference.{uncut}
 
 -- a sheet's amounts: the blocks that exist, of both sorts, ascending, each its 17 numbers; the numbers of RO, as the operational
 -- call has them, each prior volume joined with the acquired one; g, in ten-thousandths; ∑ CR_i, the dividend credits of the participating blocks;

@@ -1,5 +1,7 @@
 -- The correlation factors of section 11.2.1 and the sum over all pairs of risks, after document 01, 'A block'. Assumes nothing.
-use Rattle.std.specs.Prelude.{◌≡◌, List, [], ◌∷◌, ℕ, zero, suc, ◌+◌, ◌*◌, ◌/◌, ◌%◌, ◌≤◌, get_or, ℤ, pos, negsuc, ◌+ℤ◌, ◌*ℤ◌}
+use Rattle.std.specs.Prelude.{◌≡◌, List, [], ◌∷◌, ℕ, suc, ◌+◌, ◌*◌, ◌/◌, ◌%◌, ◌≤◌, ℤ, pos, negsuc, ◌+ℤ◌, ◌*ℤ◌}
+use Rattle.basics.specs.Numbered.{numbered}
+use Rattle.integer.specs.Sum.{sum}
 use Rattle.sizes.specs.Sizes.{risks, products}
 
 -- 'The correlation factors, in quarters, rows and columns 1 to 7'; negsuc n is −(n + 1)
@@ -14,11 +16,6 @@ factors =
     ∷ (pos 2 ∷ pos 1 ∷ pos 2 ∷ pos 2 ∷ pos 2 ∷ negsuc 0 ∷ pos 4 ∷ [])
     ∷ []
 
--- entry number i of a list, counted from 1 as the papers do; where there is none, d
-abbrev pub numbered : {A : Type 0} → List A → ℕ → A → A
-numbered xs zero d = d
-numbered xs (suc i) d = get_or xs i d
-
 -- ρ(i, j) of section 11.2.1: the factor in row i and column j, from 1 to 7
 abbrev pub ρ : ℕ → ℕ → ℤ
 ρ i j = numbered (numbered factors i []) j (pos 0)
@@ -28,9 +25,8 @@ abbrev pub term : List ℕ → ℕ → ℕ → ℤ
 term ys i j = ρ i j *ℤ pos (numbered ys i 0 * numbered ys j 0)
 
 -- f(1) + .. + f(n)
-unfoldable pub sumℤ : ℕ → (ℕ → ℤ) → ℤ
-sumℤ zero f = pos 0
-sumℤ (suc n) f = sumℤ n f +ℤ f (suc n)
+abbrev pub sumℤ : ℕ → (ℕ → ℤ) → ℤ
+sumℤ n f = sum n (λ k. f (suc k))
 
 -- row i of the sum: j from 1 to 7
 abbrev pub row_sum : List ℕ → ℕ → ℤ
@@ -55,11 +51,10 @@ unfoldable pub factor : ℕ → ℤ
 factor k = ρ (row_of k) (column_of k)
 
 -- the sum of the first k products, row by row
-unfoldable pub so_far : List ℕ → ℕ → ℤ
-so_far ys zero = pos 0
-so_far ys (suc k) = so_far ys k +ℤ term ys (row_of k) (column_of k)
+abbrev pub so_far : List ℕ → ℕ → ℤ
+so_far ys n = sum n (λ k. term ys (row_of k) (column_of k))
 
--- that this is the double sum, in the order in which it is written; proofs/Order proves it of every list of y(i)
+-- that this is the double sum, in the order in which it is written; proofs/ProductOrder proves it of every list of y(i)
 pub record InOrder (ys : List ℕ) : Type 0 where
   -- before the first product it is 0
   pub none : so_far ys 0 ≡ pos 0

@@ -2,5 +2,4 @@
 pub mod Factors
 pub mod Block
 pub mod Operational
-pub mod Difference
 pub mod Buffer

@@ -8,8 +8,9 @@ use Rattle.std.proofs.Common.{sym, ap, ◌∙◌, mul-le-mul_left, arith}
 use Rattle.std.proofs.Math.Decide.{ℕ_discrete}
 use Rattle.amount.specs.Amount.{limit}
 use Rattle.basics.specs.Least.{least}
+use Rattle.integer.specs.Larger.{larger}
+use Rattle.integer.proofs.Difference.{cut_larger, less_diff}
 use Rattle.sizes.specs.Sizes.{volume_classes, volume_numbers, ten_thousandths}
-use Rattle.guideline.specs.Difference.{larger, cut_larger, less_diff}
 
 -- 'Eight volume classes .. with factors in ten-thousandths' (8.2.1). Direct premiums: individual life, group life, other, annuities
 -- excepted; reinsurance accepted; segregated funds with guarantees; annuities in payment; universal life accounts; other accounts

@@ -7,7 +7,10 @@ ghost use Rattle.guideline.specs.Factors.{factor};
 ghost use Rattle.guideline.specs.Block.{AcceptedBlock, ir, lt, PC, credit, market};
 ghost use Rattle.guideline.specs.Operational.{volume_factors};
 
-use sizes::{BLOCK_NUMBERS, PRODUCTS, TEN_THOUSANDTHS, VOLUME_CLASSES};
+use sizes::{
+    BLOCK_NUMBERS, CREDIT_POSITION, MARKET_POSITION, PC_POSITION, PRODUCTS, TEN_THOUSANDTHS,
+    VOLUME_CLASSES,
+};
 
 // What the operational figure is over before it is rounded: fifths of a ten-thousandth.
 pub const OPERATIONAL_DENOMINATOR: u64 = 5 * TEN_THOUSANDTHS;
@@ -92,20 +95,20 @@ impl Block {
     pub fn pc(&self) -> u64
         ensures { result ≡ PC self.now.numbers }
     {
-        self.numbers[14]
+        self.numbers[PC_POSITION]
     }
 
     // Credit.
     pub fn credit(&self) -> u64
         ensures { result ≡ credit self.now.numbers }
     {
-        self.numbers[15]
+        self.numbers[CREDIT_POSITION]
     }
 
     // Market.
     pub fn market(&self) -> u64
         ensures { result ≡ market self.now.numbers }
     {
-        self.numbers[16]
+        self.numbers[MARKET_POSITION]
     }
 }

@@ -1,8 +1,8 @@
 -- The rules of a sheet one after the other, and the figures of a sound one. Assumes nothing.
-pub mod Accepted
-pub mod Alike
-pub mod Available
+pub mod Acceptance
+pub mod AlikeSheets
+pub mod TotalParts
 pub mod Rules
-pub mod Told
+pub mod Findings
 pub mod Lengths
-pub mod InOrder
+pub mod RuleOrder

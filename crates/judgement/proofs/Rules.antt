@@ -1,4 +1,5 @@
 -- The rules of a judgement by what the tests find, in the order in which they are tested; and what a judgement tells. Assumes nothing.
+-- In order: the length, and the lines; rules 12, 16, 17 and 13; what a judgement has to tell; the ledger afterwards.
 use Rattle.std.specs.Prelude.{Result, Ok, Err}
 use mathlib.Core.Path.{◌≡◌, refl, sym, ap, ◌∙◌, subst}
 use mathlib.Core.Bool.{true, false}
@@ -6,7 +7,7 @@ use mathlib.Core.List.{List}
 use Prim.Native.Nat.{ℕ, ◌≤◌, ◌<◌}
 use Rattle.basics.specs.First.{any_to}
 use Rattle.basics.proofs.Picks.{if_true, if_false, if_lt, if_ge, never}
-use Rattle.refusal.specs.Outcome.{rule_number}
+use Rattle.refusal.specs.Outcome.{rule_number, stated_number}
 use Rattle.refusal.specs.declared.Refusal.{Refusal}
 use Rattle.refusal.specs.declared.Place.{Place}
 use Rattle.refusal.specs.declared.Place.TheVariants as place
@@ -22,7 +23,6 @@ use Rattle.order.specs.Reading.{Reading, reading, entries_of, outcome_of}
 use Rattle.order.specs.Reading.Reading.{complete, stopped}
 use Rattle.ledger.specs.Lines.{Holds}
 use Rattle.ledger.specs.declared.Ledger.{Ledger}
-use Rattle.sheet_reader.specs.Filling as reader
 use Rattle.sheet_reader.specs.Filling.{Filled}
 use Rattle.order.proofs.Lines.{all_read}
 use Rattle.sheet_blocks.specs.Blocks.{rows_to, dividend_barred}
@@ -32,7 +32,7 @@ use Rattle.judgement.specs.Judgement.{Judgement, rule13, rule17, rule16, rule12,
 use Rattle.judgement.specs.Judgement.Judgement.{turned_away, sound}
 use Rattle.judgement.specs.Judgement.Findings.{refusal, figures}
 use Rattle.judgement.specs.Steps.{LinesOf}
-use Rattle.judgement.proofs.Accepted.{sound_passed}
+use Rattle.judgement.proofs.Acceptance.{sound_passed}
 
 -- ---- the length, and the lines
 
@@ -50,18 +50,18 @@ module _ (s : List ℕ) where
     module _ (a : Result ℕ Refusal) (l : Ledger) (F : Filled (reading s) a l) where
       pub bad_line : (r : Refusal) → a ≡ Err r → refusal (rule_number r.0) r.1 ≡ findings (judgement s)
       unfolding rule_lines findings
-      bad_line r e = go (reading s) (sym F.answer ∙ ap reader.stated e) ∙ sym (ap findings lined)
+      bad_line r e = go (reading s) (sym F.answer ∙ ap stated_number e) ∙ sym (ap findings lined)
         where
-          go : (o : Reading) → outcome_of o ≡ reader.stated (Err r) → refusal (rule_number r.0) r.1 ≡ findings (rule_lines o)
+          go : (o : Reading) → outcome_of o ≡ stated_number (Err r) → refusal (rule_number r.0) r.1 ≡ findings (rule_lines o)
           go (complete es) c = never (cc)
           go (stopped es k i) c = cc
 
       -- all lines are good
       module _ (k : ℕ) (e : a ≡ Ok k) where
         read : reading s ≡ complete (entries_of (reading s))
-        read = go (reading s) (sym F.answer ∙ ap reader.stated e)
+        read = go (reading s) (sym F.answer ∙ ap stated_number e)
           where
-            go : (o : Reading) → outcome_of o ≡ reader.stated (Ok k) → o ≡ complete (entries_of o)
+            go : (o : Reading) → outcome_of o ≡ stated_number (Ok k) → o ≡ complete (entries_of o)
             go (complete es) c = refl
             go (stopped es n i) c = never (cc)
 

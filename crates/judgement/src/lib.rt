@@ -58,11 +58,11 @@ fn after_lines(ledger: &Ledger, rows: &mut [NumberedFigures; BLOCKS]) -> Result<
     let Some(credited) = credits::credited(ledger) else {
         return Err(Refusal(Rule::CreditAboveTrend, Place::Nowhere));
     };
-    rule_17(&credited, rows)
+    totals_of(&credited, rows)
 }
 
 // Rules 17 and 13, of lines that rule 16 lets pass too, and the totals.
-fn rule_17(
+fn totals_of(
     credited: &CreditedLedger<'_>,
     rows: &mut [NumberedFigures; BLOCKS],
 ) -> Result<Totals, Refusal>

@@ -1,9 +1,10 @@
 -- The layout of a sheet's line: 'A line has 40 bytes: code in columns 1–3, block in 5–6, class in 8–9, first amount in 11–24, second in
 -- 26–39, a line feed last, spaces between.' How columns 4 to 40 are read, and how they are printed behind three letters. Bytes are numbers:
 -- a space is 32, a line feed 10. Assumes nothing.
-use Rattle.std.specs.Prelude.{Option, Some, None, ℕ, ◌+◌, ◌-◌, List, [], ◌∷◌, ◌++◌, Bool, false, eqb, get_or, take, drop}
+use Rattle.std.specs.Prelude.{Option, Some, None, ℕ, ◌-◌, List, [], ◌∷◌, ◌++◌, Bool, false, eqb, get_or}
 use Rattle.basics.specs.Pick.{pick}
 use Rattle.field.specs.Field.{field, decimal}
+use Rattle.key_columns.specs.Key.{columns, block_columns, class_columns, key}
 use Rattle.line_fields.specs.Words.{amount_columns}
 use Rattle.layout.specs.declared.Numbers.{Numbers}
 
@@ -14,10 +15,6 @@ sheet_line_bytes = 40
 -- the byte in a column of a line; columns count from 1
 abbrev pub byte_at : ℕ → List ℕ → ℕ
 byte_at k s = get_or s (k - 1) 0
-
--- columns a to z of a line
-abbrev pub columns : ℕ → ℕ → List ℕ → List ℕ
-columns a z s = take (z + 1 - a) (drop (a - 1) s)
 
 -- whether these columns hold spaces, and the last one a line feed
 unfoldable pub spaced : List ℕ → List ℕ → Bool
@@ -40,11 +37,10 @@ fields_of None c f g = None
 unfoldable pub layout_of : List ℕ → Option Numbers
 layout_of s =
     pick (separated_of s)
-    (fields_of (field (columns 5 6 s)) (field (columns 8 9 s)) (field (columns 11 24 s)) (field (columns 26 39 s)))
+    (fields_of (field (block_columns s)) (field (class_columns s)) (field (columns 11 24 s)) (field (columns 26 39 s)))
     None
 
 -- a line with these letters in columns 1 to 3 and four numbers
 unfoldable pub lettered : List ℕ → Numbers → List ℕ
 lettered w n =
-    w ++ (32 ∷ decimal 2 n.block) ++ (32 ∷ decimal 2 n.class)
-    ++ (32 ∷ decimal amount_columns n.first) ++ (32 ∷ decimal amount_columns n.second) ++ (10 ∷ [])
+    key w n.block n.class ++ (32 ∷ decimal amount_columns n.first) ++ (32 ∷ decimal amount_columns n.second) ++ (10 ∷ [])

@@ -6,21 +6,13 @@ ghost use Rattle.basics.specs.First.{FoundAt};
 ghost use Rattle.layout.specs.Columns.{separated_of, layout_of};
 ghost use Rattle.layout.specs.Whole.{whole_lines, lines_kept};
 
+use key_columns::{BLOCK, BLOCK_END, CLASS, CODE_END, KEY_BYTES};
+
 // The bytes of a line, its line feed with them.
 pub const SHEET_LINE_BYTES: usize = 40;
 
-// Where the columns of the code end, and where those of the block, the class and the two amounts begin and end.
-const CODE_END: usize = 3;
-
-const BLOCK: usize = 4;
-
-const BLOCK_END: usize = 6;
-
-const CLASS: usize = 7;
-
-const CLASS_END: usize = 9;
-
-pub const FIRST: usize = 10;
+// Where the columns of the two amounts begin and end.
+pub const FIRST: usize = KEY_BYTES + 1;
 
 pub const FIRST_END: usize = 24;
 
@@ -46,7 +38,7 @@ pub fn read_layout(s: &[u8; SHEET_LINE_BYTES]) -> Option<Numbers>
         return None;
     }
     let block = line_fields::read_pair(s[BLOCK..BLOCK_END].as_array()?)?;
-    let class = line_fields::read_pair(s[CLASS..CLASS_END].as_array()?)?;
+    let class = line_fields::read_pair(s[CLASS..KEY_BYTES].as_array()?)?;
     let first = line_fields::read_amount(s[FIRST..FIRST_END].as_array()?)?;
     let second = line_fields::read_amount(s[SECOND..SECOND_END].as_array()?)?;
     Some(Numbers {
@@ -64,7 +56,7 @@ fn separated(s: &[u8; SHEET_LINE_BYTES]) -> bool
 {
     s[CODE_END] == b' '
         && s[BLOCK_END] == b' '
-        && s[CLASS_END] == b' '
+        && s[KEY_BYTES] == b' '
         && s[FIRST_END] == b' '
         && s[SECOND_END] == b'\n'
 }

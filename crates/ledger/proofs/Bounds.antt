@@ -10,24 +10,26 @@ use lib.Seq.{append_snoc, get_or-append_seam, get_or-append-add}
 use Rattle.amount.specs.Amount.{limit}
 use Rattle.basics.specs.Pick.{pick}
 use Rattle.basics.specs.Each.{Each}
-use Rattle.basics.proofs.Eaches.{each_at}
-use Rattle.sizes.specs.Sizes.{block_numbers, volume_classes, volume_numbers, largest_scalar, volume_pairs}
+use Rattle.basics.proofs.Elements.{each_at}
+use Rattle.sizes.specs.Sizes.{block_numbers, last_lt_position, volume_classes, volume_numbers, largest_scalar, volume_pairs}
 use Rattle.guideline.specs.Operational.{current, prior}
-use Rattle.codes.specs.Codes.{risk_classes, expenses_class, scalar_class, Key}
+use Rattle.codes.specs.Codes.{risk_classes, scalar_class, row_of, Key}
 use Rattle.codes.specs.declared.Code.{Code}
 use Rattle.codes.specs.declared.Code.TheVariants.{Rsk, Oth, Vol, Acq, Gen}
 use Rattle.sheet_line.specs.declared.Entry.{Entry}
 use Rattle.sheet_line.specs.Rules.{AcceptedLine, AcceptedAmounts}
 use Rattle.places.specs.Entries.{has_key, lookup, first_of, second_of, mark_of}
+use Rattle.places.specs.Places.{second_places, index_of}
+use Rattle.places.proofs.Indexes.{single_behind}
 use Rattle.places.proofs.Keys.{same_key}
 use Rattle.ledger.specs.Numbers.{pairs, block_by, volumes_by, block_of, volumes_of, general_amount}
 
 -- ---- what is looked up is 0, or is in a line with that code and class
 
-key_amounts : (k : Code) (b c : ℕ) (e : Entry) → AcceptedLine e → has_key k b c e ≡ true → Key k b c × AcceptedAmounts k c e.first e.second
+key_amounts : (k : Code) (b c : ℕ) (e : Entry) → AcceptedLine e → has_key k b c e ≡ true → Key k b c × AcceptedAmounts (row_of k b) c e.first e.second
 key_amounts k b c e a q = let s = same_key k b c e q in rw (s.code, s.block, s.class) (a.key, a.amounts)
 
-module _ (R : ℕ → ℕ → ℕ → Type 0) (k : Code) (b c : ℕ) (none : R 0 0 0) (some : (f s : ℕ) → Key k b c → AcceptedAmounts k c f s → R f s 1) where
+module _ (R : ℕ → ℕ → ℕ → Type 0) (k : Code) (b c : ℕ) (none : R 0 0 0) (some : (f s : ℕ) → Key k b c → AcceptedAmounts (row_of k b) c f s → R f s 1) where
   looked_up : (es : List Entry) → Each AcceptedLine es → R (lookup first_of es k b c) (lookup second_of es k b c) (lookup mark_of es k b c)
   unfolding lookup pick
   looked_up [] all = none
@@ -48,8 +50,12 @@ module _ (es : List Entry) (all : Each AcceptedLine es) where
   trend_most : (b c : ℕ) → lookup second_of es Rsk b c ≤ lookup first_of es Rsk b c
   trend_most b c = looked_up (λ f s m. s ≤ f) Rsk b c (omega arith) (λ f s v a. a.trend refl) es all
 
-  trend_none : (b : ℕ) → lookup second_of es Rsk b expenses_class ≡ 0
-  trend_none b = looked_up (λ f s m. s ≡ 0) Rsk b expenses_class refl (λ f s v a. a.single refl) es all
+  -- a line behind the places of second amounts has none
+  pub second_behind : (k : Code) (b c : ℕ) → Key k b c → second_places ≤ index_of k b c → lookup second_of es k b c ≡ 0
+  second_behind k b c v h = looked_up (λ f s m. s ≡ 0) k b c refl (λ f s w a. a.single (single_behind k b c v h)) es all
+
+  trend_none : (b : ℕ) → lookup second_of es Rsk b risk_classes ≡ 0
+  trend_none b = looked_up (λ f s m. s ≡ 0) Rsk b risk_classes refl (λ f s v a. a.single (omega arith)) es all
 
   -- a code has no line outside its range
   pub none_outside : (k : Code) (b c : ℕ) → (Key k b c → ⊥) → (lookup first_of es k b c ≡ 0) × (lookup second_of es k b c ≡ 0) × (lookup mark_of es k b c ≡ 0)
@@ -107,7 +113,7 @@ module _ (f g : ℕ → ℕ) where
 pub record RuledNumbers (ns : List ℕ) : Type 0 where
   pub long : length ns ≡ block_numbers
   pub amounts : (k : ℕ) → get_or ns k 0 ≤ limit
-  pub last : get_or ns 13 0 ≡ 0
+  pub last : get_or ns last_lt_position 0 ≡ 0
   pub trend : (i : ℕ) → i < risk_classes → get_or ns (2 * i + 1) 0 ≤ get_or ns (2 * i) 0
 
 module _ (es : List Entry) (all : Each AcceptedLine es) where

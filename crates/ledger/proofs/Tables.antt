@@ -4,10 +4,11 @@ use mathlib.Core.Path.{◌≡◌, refl, sym, ◌∙◌}
 use mathlib.Core.List.{List, [], ◌∷◌}
 use mathlib.Core.Bool.{Bool, false}
 use Rattle.std.proofs.Math.Logic.{∥∥₁_elim}
-use Prim.Native.Nat.{ℕ, ◌≤◌}
+use Prim.Native.Nat.{ℕ, ◌+◌, ◌/◌, ◌%◌, ◌^◌, ◌≤◌, ◌<◌}
 use native.Mathlib.Omega.{arith}
-use lib.ListN.{replicate, set}
-use Rattle.sizes.specs.Sizes.{blocks}
+use lib.ListN.{length, replicate, set}
+use lib.Seq.{set_out}
+use Rattle.sizes.specs.Sizes.{blocks, volume_classes, volume_pairs}
 use Rattle.codes.specs.Codes.{general_classes, scalar_class, Key}
 use Rattle.codes.specs.declared.Code.{Code}
 use Rattle.codes.specs.declared.Code.TheVariants.{Vol, Acq, Gen}
@@ -16,20 +17,20 @@ use Rattle.sheet_line.specs.declared.Entry.{Entry}
 use Rattle.refusal.specs.declared.Rule.{Rule}
 use Rattle.places.specs.Entries.{lookup, first_of, second_of, exists, has_line}
 use Rattle.ledger.specs.Numbers.{block_by, joined_by, block_of, volumes_of, general_amount}
-use Rattle.places.specs.Places.{places, index_for, table, tabled}
+use Rattle.places.specs.Places.{places, second_places, index_for, table, tabled}
 use Rattle.order.specs.Order.{Admits}
 use Rattle.places.specs.Marks.{marks_of, has_mark, block_marked}
 use Rattle.order.proofs.Admission.{good_admitted}
 use Rattle.ledger.proofs.Bounds.{first_most, second_most}
-use Rattle.places.proofs.Indexes.{lookup_table}
+use Rattle.places.proofs.Indexes.{length_table}
 use Rattle.places.proofs.Marks.{mark_table, exists_table}
-use Rattle.ledger.proofs.Numbers.{block_table, volumes_table, general_table}
-use Rattle.ledger.specs.Tables.{TablesOf, Held, JoinedFits}
+use Rattle.ledger.proofs.Numbers.{pair_key, of_joined, first_table, second_table, block_table, volumes_table, general_table}
+use Rattle.ledger.specs.Tables.{TablesOf, TablesHold}
 use Rattle.ledger.specs.Lines.{Holds, Sound}
 use Rattle.ledger.specs.declared.Ledger.{Ledger}
 
 -- tables of zeros hold no line
-pub none_held : TablesOf [] (replicate places 0) (replicate places 0) (replicate places false)
+pub none_held : TablesOf [] (replicate places 0) (replicate second_places 0) (replicate places false)
 unfolding table marks_of
 none_held = record { first = refl; second = refl; mark = refl }
 
@@ -45,8 +46,8 @@ admitted_sound {line} {r} {last} A p {e} q =
     let w : line ≡ Ok e = (good_admitted _ last line e (sym A.line ∙ q)).read in
     rw w at p
 
-module _ {es : List Entry} {f s : List ℕ} {m m' : List Bool} {line r : Result Entry Rule} {last : ℕ} (H : Held es f s m) (A : Admits line last m r m') where
-  pub more_held : {e : Entry} → r ≡ Ok e → AcceptedLine e → {at : ℕ} → at ≡ index_for e → Held (e ∷ es) (set f at e.first) (set s at e.second) m'
+module _ {es : List Entry} {f s : List ℕ} {m m' : List Bool} {line r : Result Entry Rule} {last : ℕ} (H : TablesHold es f s m) (A : Admits line last m r m') where
+  pub more_held : {e : Entry} → r ≡ Ok e → AcceptedLine e → {at : ℕ} → at ≡ index_for e → TablesHold (e ∷ es) (set f at e.first) (set s at e.second) m'
   unfolding table marks_of
   more_held {e} q a p =
       let t = H.tables in
@@ -55,14 +56,20 @@ module _ {es : List Entry} {f s : List ℕ} {m m' : List Bool} {line r : Result 
         lines = (a, H.lines);
       }
 
-  pub same_held : {n : Rule} → r ≡ Err n → Held es f s m'
+  -- one without a place for its second amount
+  pub more_first : {e : Entry} → r ≡ Ok e → AcceptedLine e → {at : ℕ} → at ≡ index_for e → second_places ≤ at → TablesHold (e ∷ es) (set f at e.first) s m'
+  more_first {e} q a {at} p h =
+      let l : length s ≤ at = rw (H.tables.second, length_table second_places second_of es) h in
+      rw (set_out s at e.second l) at (more_held q a p)
+
+  pub same_held : {n : Rule} → r ≡ Err n → TablesHold es f s m'
   same_held q =
       let t = H.tables in
       record { tables = record { first = t.first; second = t.second; mark = A.marks ∙ rw (q, t.mark) }; lines = H.lines }
 
 -- ---- what is read off the tables
 
-module _ {es : List Entry} {f s : List ℕ} {m : List Bool} (H : Held es f s m) where
+module _ {es : List Entry} {f s : List ℕ} {m : List Bool} (H : TablesHold es f s m) where
   pub exists_is : (b : ℕ) → 1 ≤ b → b ≤ blocks → block_marked m b ≡ exists es b
   exists_is b l h = rw H.tables.mark (exists_table es b H.lines (l, h))
 
@@ -70,16 +77,16 @@ module _ {es : List Entry} {f s : List ℕ} {m : List Bool} (H : Held es f s m) 
   numbers_are b l h = rw (H.tables.first, H.tables.second) (block_table es H.lines b (l, h))
 
   pub amount_is : (k : Code) (b c : ℕ) → Key k b c → (tabled f k b c ≡ lookup first_of es k b c) × (tabled s k b c ≡ lookup second_of es k b c)
-  amount_is k b c v = rw (H.tables.first, H.tables.second) (lookup_table first_of es k b c v H.lines, lookup_table second_of es k b c v H.lines)
+  amount_is k b c v = rw (H.tables.first, H.tables.second) (first_table es H.lines k b c v, second_table es H.lines k b c v)
 
-  -- two amounts fit a word
-  pub joined_small : JoinedFits f s
-  joined_small =
-      record {
-        each = λ b c v.
-            let w : Key Vol b c = record { low = v.low; high = v.high; one = v.one; most = v.most } in
-            omega (arith, (amount_is Vol b c w).1, (amount_is Acq b c v).0, second_most es H.lines Vol b c, first_most es H.lines Acq b c);
-      }
+  -- a joined prior amount fits a word
+  pub joined_small : (j : ℕ) → j < volume_pairs → of_joined f s j < 2 ^ 64
+  joined_small j h =
+      let b = j / volume_classes + 1 in
+      let c = j % volume_classes + 1 in
+      let v = pair_key j h in
+      let w : Key Vol b c = record { low = v.low; high = v.high; one = v.one; most = v.most } in
+      omega (arith, (amount_is Vol b c w).1, (amount_is Acq b c v).0, second_most es H.lines Vol b c, first_most es H.lines Acq b c)
 
   pub volumes_are : joined_by (tabled f) (tabled s) ≡ volumes_of es
   volumes_are = rw (H.tables.first, H.tables.second) (volumes_table es H.lines)

@@ -5,7 +5,7 @@ use Rattle.sheet_line.specs.Rules.{AcceptedLine}
 use Rattle.sheet_line.specs.declared.Entry.{Entry}
 use Rattle.order.specs.Order.{Admits}
 use Rattle.places.specs.Places.{index_for}
-use Rattle.ledger.specs.Tables.{TablesOf, Held}
+use Rattle.ledger.specs.Tables.{TablesOf, TablesHold}
 use Rattle.ledger.specs.declared.Ledger.{Ledger}
 
 -- all that a ledger's tables hold of some entries
@@ -18,7 +18,7 @@ Empty l = Tables [] l
 
 -- a ledger holds these lines, which no rule of a line turns away
 abbrev pub Holds : List Entry → Ledger → Type 0
-Holds es l = Held es l.firsts l.seconds l.marks
+Holds es l = TablesHold es l.firsts l.seconds l.marks
 
 -- whichever lines a ledger holds
 abbrev pub OfLines : Ledger → (List Entry → Type 0) → Type 0
@@ -29,7 +29,7 @@ abbrev pub Sound : Result Entry Rule → Type 0
 Sound (Ok e) = AcceptedLine e
 Sound (Err r) = Unit {0}
 
--- the amounts after a line: those of an admitted one are there
+-- the amounts after a line: those of an admitted one are there, its second one where there is a place for it
 abbrev pub AmountsAfter : Result Entry Rule → Ledger → Ledger → Type 0
 AmountsAfter (Ok e) l l' = (l'.firsts ≡ set l.firsts (index_for e) e.first) × (l'.seconds ≡ set l.seconds (index_for e) e.second)
 AmountsAfter (Err r) l l' = (l'.firsts ≡ l.firsts) × (l'.seconds ≡ l.seconds)

@@ -28,10 +28,6 @@ volumes_by first second =
 abbrev pub joined_by : (Code → ℕ → ℕ → ℕ) → (Code → ℕ → ℕ → ℕ) → List ℕ
 joined_by first second = volumes_by first (λ k b c. second k b c + first Acq b c)
 
--- the eight pairs of a territory among them, which serve a private contract alone
-abbrev pub territory_by : (Code → ℕ → ℕ → ℕ) → (Code → ℕ → ℕ → ℕ) → ℕ → List ℕ
-territory_by first second t = pairs (λ k. first Vol t (k + 1)) (λ k. second Vol t (k + 1) + first Acq t (k + 1)) volume_classes
-
 -- the 17 numbers of a block
 abbrev pub block_of : List Entry → ℕ → List ℕ
 block_of es b = block_by (lookup first_of es) (lookup second_of es) b

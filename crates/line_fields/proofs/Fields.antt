@@ -1,4 +1,5 @@
 -- Columns that are known as a word: spaces, and then the digits of a number. Assumes nothing.
+-- In order: columns that hold digits; columns that hold spaces, and then digits; fourteen columns.
 use Rattle.std.specs.Prelude.{Some}
 use mathlib.Core.Path.{◌≡◌, refl, sym, ap, subst, ◌∙◌}
 use mathlib.Core.List.{List, [], ◌∷◌}

@@ -4,4 +4,4 @@ pub mod Columns
 pub mod Bits
 pub mod Numbers
 pub mod Fields
-pub mod Spelled
+pub mod WordTests

@@ -1,3 +1,3 @@
 -- Laws of the mortality credit, and of a block that it lowers.
 pub mod Credits
-pub mod Accepted
+pub mod Acceptance

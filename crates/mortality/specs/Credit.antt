@@ -3,8 +3,8 @@
 use Rattle.std.specs.Prelude.{◌≡◌, List, ℕ, ◌+◌, ◌-◌, ◌*◌, ◌≤◌, leb, pos, ◌-ℤ◌, set}
 use Rattle.std.proofs.Common.{arith}
 use Rattle.basics.specs.Least.{least, LeastWith}
+use Rattle.integer.proofs.Difference.{uncut}
 use Rattle.guideline.specs.Block.{ir, lt}
-use Rattle.guideline.specs.Difference.{uncut}
 use Rattle.accuracy.specs.Fraction.{Fraction, ◌≤ᶠ◌, whole, ratio, square_less, ≤ᶠ_trans, square_falls}
 use Rattle.guideline.proofs.Bounds.{twice}
 

@@ -1,5 +1,6 @@
 -- What the call gives: by the input's length, then by its lines, then by what the block call says. What an accepted call has written meets the
 -- theorem of one moved input, and the room has the length of the lines. Assumes nothing.
+-- In order: rule by rule; the text of an input that is accepted; the numbers of its refusals; the theorem, of the lines that were written.
 use mathlib.Core.Path.{◌≡◌, refl, sym, ap, ◌∙◌, subst, subst⁻¹}
 use mathlib.Core.List.{List, [], ◌∷◌, ◌++◌, append_assoc}
 use Prim.Native.Nat.{ℕ, zero, suc, ◌+◌, ◌-◌, ◌*◌, ◌^◌, ◌≤◌, ◌<◌}
@@ -11,8 +12,9 @@ use lib.ListN.{length, take, drop}
 use lib.Seq.{take_at, drop_at}
 use Rattle.basics.proofs.Picks.{if_eq, if_ne, if_lt, if_ge, by_test, never}
 use Rattle.integer.proofs.Integer.{above, below}
+use Rattle.integer.proofs.Difference.{less_diff}
 use borrow.Author.Tests.{ltb-true}
-use Rattle.refusal.specs.Outcome.{Outcome, Judging, judging, printed}
+use Rattle.refusal.specs.Outcome.{Outcome, Judging, judging, printed, stated_number}
 use Rattle.refusal.specs.Outcome.Outcome.{accepted, refused}
 use Rattle.refusal.specs.declared.Place.{Place}
 use Rattle.refusal.specs.declared.Place.TheVariants.{Line, Nowhere}
@@ -20,24 +22,23 @@ use Rattle.amount.specs.Amount.{limit}
 use Rattle.amount.proofs.Amounts.{all_within}
 use Rattle.sizes.specs.Sizes.{risks, block_numbers, number_columns, FitsColumns}
 use Rattle.guideline.specs.Block.{ir, K, AcceptedBlock}
-use Rattle.guideline.specs.Difference.{less_diff}
 use Rattle.guideline.proofs.Figures.{u_fits, k_high}
 use Rattle.sensitivity.specs.Movement.{raised}
-use Rattle.sensitivity.proofs.Moved.{block_moves, raised_accepted}
+use Rattle.sensitivity.proofs.Movement.{block_moves, raised_accepted}
 use Rattle.block.specs.Call.{first_lt_above, rule8, rule9, block_call}
-use Rattle.block.proofs.Rules.{passed_7}
-use Rattle.block.proofs.Accepted.{accepts_block}
+use Rattle.block.proofs.Rules.{past_7}
+use Rattle.block.proofs.Acceptance.{accepts_block}
 use Rattle.report_line.specs.Line.{report_line_bytes}
 use Rattle.std.specs.Prelude.{Result}
 use Rattle.refusal.specs.declared.Refusal.{Refusal}
-use Rattle.text_answer.specs.Lent.{Text, Done, stated, untouched}
+use Rattle.text_answer.specs.Lent.{Text, Done, untouched}
 use Rattle.text_answer.specs.Lent.Text.{no_text, bytes}
 use Rattle.text_answer.specs.Printing.{printout, Printed, Shown}
-use Rattle.text_answer.proofs.Lent as lent
-use Rattle.text_answer.proofs.Lent.{RoomFor}
+use Rattle.text_answer.proofs.LentRoom as lent
+use Rattle.text_answer.proofs.LentRoom.{RoomFor}
 use Rattle.movement_input.specs.Reading.{input_bytes, input_lines, lines_kept, block_of, raise_of}
 use Rattle.movement.specs.Call.{risk_line, risk_lines, after_block, rule3, movements, movement_call}
-use Rattle.movement.specs.Swing.{Moved, Swing}
+use Rattle.movement.specs.Bounds.{Moved, MovementsBounded}
 use Rattle.movement_input.proofs.Numbers.{length_numbers, numbers_within}
 use Rattle.movement.proofs.Lines.{length_lines, length_risk_line}
 
@@ -98,7 +99,7 @@ told s t =
   where
     after : (o : Outcome) → block_call (block_of s) ≡ o → after_block (block_of s) (raise_of s) o ≡ bytes t → Told s t
     after (refused n p) e q = never (cc)
-    after (accepted vs) e q = record { block = (accepts_block (block_of s)).accepted_only vs e; text = cc }
+    after (accepted vs) e q = record { block = ((accepts_block (block_of s)).accepted_only vs e).1; text = cc }
 
 -- a room that has the length of the lines, or more
 pub room_for : (s r : List ℕ) → report_line_bytes * risks ≤ length r → RoomFor (movements s) r
@@ -117,7 +118,7 @@ unfolding Refusing rule8 rule9
 refusing s =
     let b = block_of s in
     let long = length_numbers s block_numbers in
-    subst⁻¹ Refusing (passed_7 b (omega (arith, long, all_within b (numbers_within s block_numbers))))
+    subst⁻¹ Refusing (past_7 b (omega (arith, long, all_within b (numbers_within s block_numbers))))
     (by_test Refusing _ _ _
     (λ e. by_test Refusing _ _ _ (λ l. (λ q. omega arith, judging 9 refl refl refl, omega (arith, ltb-true (first_lt_above b) risks l))) (λ l. tt))
     (λ e. (λ q. omega arith, judging 8 refl refl refl, omega arith)))
@@ -181,22 +182,22 @@ module _ (b : List ℕ) (t : ℕ) (long : length b ≡ block_numbers) (v : Accep
       }
 
 module _ (s r : List ℕ) where
-  swing : Swing s (movement_call s r).outcome (movement_call s r).room
+  bounded : MovementsBounded s (movement_call s r).outcome (movement_call s r).room
   unfolding movement_call
-  swing =
-      lent.by_answer (movements s) r (λ d. Swing s d.outcome d.room) (λ n p e. tt) (λ t e h. tt)
+  bounded =
+      lent.by_answer (movements s) r (λ d. MovementsBounded s d.outcome d.room) (λ n p e. tt) (λ t e h. tt)
       (λ t e.
       let w = told s t e in
       rw w.text (λ k h l. moved (block_of s) (raise_of s) (length_numbers s block_numbers) w.block k h l _))
 
   -- what the call gives, and how far K moves
-  pub promised : (d : Done) → d ≡ movement_call s r → record { answer : d ≡ movement_call s r; swing : Swing s d.outcome d.room }
-  promised d e = record { answer = e; swing = subst⁻¹ (λ (x : Done). Swing s x.outcome x.room) e swing }
+  pub promised : (d : Done) → d ≡ movement_call s r → record { answer : d ≡ movement_call s r; bounded : MovementsBounded s d.outcome d.room }
+  promised d e = record { answer = e; bounded = subst⁻¹ (λ (x : Done). MovementsBounded s x.outcome x.room) e bounded }
 
 -- what is printed is the lines, or the line of the refusal: the room that the call leaves is as long as it was
 pub printed_movements :
     (s r : List ℕ) (a : Result ℕ Refusal) {r' r'' : List ℕ} {g : ℕ} → report_line_bytes * risks ≤ length r' →
-    ◌≡◌ {A = Done} (record { outcome = stated a; room = r' }) (movement_call s r) → Shown a g r' r'' → Printed (printout (movements s)) g r r''
+    ◌≡◌ {A = Done} (record { outcome = stated_number a; room = r' }) (movement_call s r) → Shown a g r' r'' → Printed (printout (movements s)) g r r''
 unfolding movement_call
 printed_movements s r a long e =
     let same = ap (λ (d : Done). length d.room) e ∙ lent.lent_long (movements s) r in

@@ -9,19 +9,20 @@ use lib.IntN.{ℤ, sub_ℕ}
 use lib.ListN.{length, get_or, set, take, drop, length-append}
 use Rattle.basics.proofs.Picks.{if_lt, if_ge, by_test}
 use Rattle.basics.proofs.Stretches.{Wrote, nothing, lent_part}
+use Rattle.integer.proofs.Difference.{less_diff}
 use Rattle.refusal.specs.declared.Place.TheVariants.{Risk}
 use Rattle.amount.specs.Amount.{limit}
 use Rattle.sizes.specs.Sizes.{risks, number_columns}
 use Rattle.guideline.specs.Block.{ir, K, AcceptedBlock}
-use Rattle.guideline.specs.Difference.{less_diff}
 use Rattle.sensitivity.specs.Movement.{raised}
-use Rattle.sensitivity.proofs.Raised.{each_at}
+use Rattle.sensitivity.proofs.RaisedBlock.{each_at}
 use Rattle.field.specs.Field.{leading_digits, decimal}
 use Rattle.field.specs.Signed.{signed}
 use Rattle.field.proofs.Minus.{length_signed}
-use Rattle.field.proofs.Writing.{length_decimal}
-use Rattle.report_line.specs.Line.{report_line_bytes, key, line_in, report_line, row_in}
-use Rattle.report_line.proofs.ReadBack.{length_line}
+use Rattle.field.proofs.WrittenColumns.{length_decimal}
+use Rattle.key_columns.specs.Key.{key}
+use Rattle.report_line.specs.Line.{before_number, report_line_bytes, line_in, report_line, row_in}
+use Rattle.report_line.proofs.Readback.{length_line}
 use Rattle.text_answer.specs.Printing.{REF, refusal_row, refusal_line}
 use Rattle.movement.specs.Call.{MOV, signed_line, movement, risk_line, risk_lines}
 
@@ -29,11 +30,11 @@ use Rattle.movement.specs.Call.{MOV, signed_line, movement, risk_line, risk_line
 
 -- a report line with other bytes put back into the number's columns
 pub signed_in :
-    (l : List ℕ) (risk : ℕ) (z : ℤ) {ys : List ℕ} → l ≡ report_line MOV 0 risk 0 → ys ≡ signed (length (take number_columns (drop 10 l))) z →
-    put_mid 10 number_columns l ys ≡ signed_line MOV 0 risk z
+    (l : List ℕ) (risk : ℕ) (z : ℤ) {ys : List ℕ} → l ≡ report_line MOV 0 risk 0 → ys ≡ signed (length (take number_columns (drop before_number l))) z →
+    put_mid before_number number_columns l ys ≡ signed_line MOV 0 risk z
 unfolding line_in signed_line key decimal leading_digits
 signed_in l risk z e q =
-    let n : length (take number_columns (drop 10 l)) ≡ number_columns = rw e in
+    let n : length (take number_columns (drop before_number l)) ≡ number_columns = rw e in
     rw (q, n, e)
 
 length_signed_line : (risk : ℕ) (z : ℤ) → length (signed_line MOV 0 risk z) ≡ report_line_bytes

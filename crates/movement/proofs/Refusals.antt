@@ -14,8 +14,8 @@ use Rattle.report_line.specs.Line.{report_line_bytes}
 use Rattle.text_answer.specs.Lent.{TooLong}
 use Rattle.text_answer.specs.Lent.Text.{no_text}
 use Rattle.text_answer.specs.Printing.{ReadsRefusal, printout}
-use Rattle.text_answer.proofs.Lent.{refusal_row_fits, line_read}
-use Rattle.text_answer.proofs.Lent as lent
+use Rattle.text_answer.proofs.LentRoom.{refusal_row_fits, line_read}
+use Rattle.text_answer.proofs.LentRoom as lent
 use Rattle.movement.specs.Call.{risk_line, movements, movement_call}
 use Rattle.movement.proofs.Calls.{right_numbers, room_for}
 

@@ -12,7 +12,8 @@ use Rattle.guideline.specs.Block.{ir, K}
 use Rattle.sensitivity.specs.Movement.{raised}
 use Rattle.block.specs.Call.{block_call}
 use Rattle.field.specs.Signed.{signed}
-use Rattle.report_line.specs.Line.{key, line_in, report_line}
+use Rattle.key_columns.specs.Key.{key}
+use Rattle.report_line.specs.Line.{line_in, report_line}
 use Rattle.text_answer.specs.Lent.{Text, Done, lent}
 use Rattle.text_answer.specs.Lent.Text.{no_text, bytes}
 use Rattle.text_answer.specs.Printing.{refusal_line}

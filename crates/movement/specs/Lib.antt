@@ -1,3 +1,3 @@
 -- The movement call: what it writes, and how far K can move.
 pub mod Call
-pub mod Swing
+pub mod Bounds

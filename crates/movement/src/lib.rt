@@ -6,10 +6,11 @@
 pub mod moves;
 
 ghost use Rattle.std.specs.Prelude.{◌≡◌};
-ghost use Rattle.text_answer.specs.Lent.{stated, Done};
+ghost use Rattle.refusal.specs.Outcome.{stated_number};
+ghost use Rattle.text_answer.specs.Lent.{Done};
 ghost use Rattle.text_answer.specs.Printing.{printout, Printed};
 ghost use Rattle.movement.specs.Call.{movements, movement_call};
-ghost use Rattle.movement.specs.Swing.{Swing};
+ghost use Rattle.movement.specs.Bounds.{MovementsBounded};
 
 use refusal::{Place, Refusal, Rule};
 use report_line::REPORT_LINE_BYTES;
@@ -21,8 +22,8 @@ pub const MOVEMENT_BYTES: usize = REPORT_LINE_BYTES * RISKS;
 // An input of any bytes, and lent room of any length: nothing is written into it before every rule passes. A raise above the limit is told in the
 // risk's own line, and turns no input away.
 pub fn movement_call(input: &[u8], room: &mut [u8]) -> Result<usize, Refusal>
-    ensures answer { ◌≡◌ {A = Done} (record { outcome = stated result; room = room.new }) (movement_call input.now room.old) }
-    ensures swing { Swing input.now (stated result) room.new }
+    ensures answer { ◌≡◌ {A = Done} (record { outcome = stated_number result; room = room.new }) (movement_call input.now room.old) }
+    ensures bounded { MovementsBounded input.now (stated_number result) room.new }
 {
     let Some(input) = input.as_array() else {
         return Err(Refusal(Rule::NotWholeLines, Place::Nowhere));

@@ -1,4 +1,5 @@
-// The input of the movement call: 18 lines of an amount in 14 columns and a line feed, the block's 17 numbers and then t.
+// What the movement call, request #111, is given: a text of 18 lines, an amount in 14 columns and a line feed each, the block's 17 numbers and then
+// the raise t. It is read here.
 #![tactic(auto)]
 
 ghost use Rattle.std.specs.Prelude.{◌≡◌, ◌<◌};

@@ -3,21 +3,17 @@
 use Rattle.std.specs.Prelude.{Option, Some, None, List, [], ◌∷◌, ◌++◌, ℕ, ◌+◌, ◌*◌}
 use Rattle.basics.specs.Pick.{pick}
 use Rattle.codes.specs.Codes.{letters_of}
-use Rattle.report_line.specs.Line.{key}
+use Rattle.key_columns.specs.Key.{key_bytes, key}
 use Rattle.sheet_line.specs.declared.Entry.{Entry}
 use Rattle.order.specs.Reading.{print_by}
 use Rattle.needs.specs.Needs.{label_for, need_of, unmet}
 use Rattle.needs.specs.declared.Label.{Label}
 
--- the bytes of code, block and class
-abbrev pub label_bytes : ℕ
-label_bytes = 9
-
--- '20 bytes a line': two labels, a space and a line feed
+-- '20 bytes a line': two labels of columns 1–9, a space and a line feed
 abbrev pub listed_bytes : ℕ
-listed_bytes = 2 * label_bytes + 2
+listed_bytes = 2 * key_bytes + 2
 
--- 'code, block and class in the sheet's columns': 1–3, 5–6 and 8–9, as a report line has its code, block and item
+-- 'code, block and class in the sheet's columns': 1–3, 5–6 and 8–9
 unfoldable pub label_of : Label → List ℕ
 label_of l = key (letters_of l.code) l.block l.class
 

@@ -55,13 +55,13 @@ unfoldable pub some_risk : (Code → ℕ → ℕ → ℕ) → ℕ → Bool
 some_risk first b = any_to (λ c. ltb 0 (first Rsk b c)) risk_classes
 
 -- whether a companion is there and its first amount isn't 0; of class 0, whether one of the block's RSK lines is so
-unfoldable pub counts : (Code → ℕ → ℕ → ℕ) → Label → Bool
-counts first m = pick (eqb m.class 0) (some_risk first m.block) (ltb 0 (first m.code m.block m.class))
+unfoldable pub companion_serves : (Code → ℕ → ℕ → ℕ) → Label → Bool
+companion_serves first m = pick (eqb m.class 0) (some_risk first m.block) (ltb 0 (first m.code m.block m.class))
 
 -- whether a need is met
 abbrev pub met : (Code → ℕ → ℕ → ℕ) → Option Label → Bool
 met first None = true
-met first (Some m) = counts first m
+met first (Some m) = companion_serves first m
 
 -- 'amounts all zero'
 unfoldable pub all_zero : ℕ → ℕ → Bool

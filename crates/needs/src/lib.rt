@@ -1,4 +1,5 @@
-// What a line of a sheet needs, the lines that can need another, and how long their listing can be.
+// The check, request #113: the companion line that a line of a sheet needs beside it, as MOR needs RSK class 1 of its block; the 176 lines that can
+// need one; and how long their listing can be.
 #![tactic(auto)]
 
 ghost use Rattle.std.specs.Prelude.{◌≡◌, ◌≤◌, Some};
@@ -7,6 +8,7 @@ ghost use Rattle.needs.specs.Needs.{need_of};
 ghost use Rattle.needs.specs.Needing.{most_listed, needing};
 
 use codes::{Code, GUARANTEE_CLASS};
+use key_columns::KEY_BYTES;
 use sizes::{NON_PARTICIPATING, PARTICIPATING, TERRITORIES, VOLUME_CLASSES, VOLUME_PAIRS};
 
 // A line's code, block and class.
@@ -46,11 +48,8 @@ const SEGREGATED_CLASS: usize = 5;
 // The class of MOR, and of CRD of a block, which have no other.
 const ONLY_CLASS: usize = 1;
 
-// The bytes of code, block and class in the sheet's columns.
-const LABEL_BYTES: usize = 9;
-
 // The bytes of a line of the listing, its line feed with them.
-pub const LISTED_BYTES: usize = 2 * LABEL_BYTES + 2;
+pub const LISTED_BYTES: usize = 2 * KEY_BYTES + 2;
 
 // The number of the last MOR line among the lines that can need another.
 const LAST_MOR: usize = NON_PARTICIPATING;

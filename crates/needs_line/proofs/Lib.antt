@@ -1,2 +1,2 @@
 -- A line's bytes as they are written. Assumes nothing.
-pub mod Written
+pub mod LineBytes

@@ -2,10 +2,11 @@
 #![tactic(auto)]
 
 ghost use Rattle.std.specs.Prelude.{◌≡◌, length};
-ghost use Rattle.needs.specs.Listing.{label_bytes, label_of, listed_bytes, listed_line};
+ghost use Rattle.key_columns.specs.Key.{key_bytes};
+ghost use Rattle.needs.specs.Listing.{label_of, listed_bytes, listed_line};
 
+use key_columns::{KEY_BYTES, write_key};
 use needs::Label;
-use report_line::{KEY_BYTES, write_key};
 
 // Where the label of the companion begins and ends.
 const COMPANION: usize = KEY_BYTES + 1;
@@ -23,9 +24,9 @@ pub fn write_listed(out: &mut [u8], line: Label, companion: Label)
     out[COMPANION_END] = b'\n';
 }
 
-// Writes code, block and class in the sheet's columns, which are those of a report line.
+// Writes code, block and class in the sheet's columns.
 fn write_label(out: &mut [u8], l: Label)
-    requires { length out.old ≡ label_bytes }
+    requires { length out.old ≡ key_bytes }
     ensures { out.new ≡ label_of l }
 {
     let code = l.code;

@@ -1,3 +1,3 @@
 -- What tables are asked for, and what they tell of a need. Assumes nothing.
-pub mod Asking
-pub mod Held
+pub mod Companions
+pub mod Lookups

@@ -1,2 +1,2 @@
 -- What tables are asked for. Assumes nothing.
-pub mod Asked
+pub mod Companions

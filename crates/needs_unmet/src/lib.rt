@@ -1,27 +1,28 @@
-// Whether a line's need is unmet, by the tables that hold the first and the second amounts of a sheet's lines.
+// The check, request #113: whether a line that isn't all zero misses its companion, by the tables of the first and the second amounts of a sheet's
+// lines.
 #![tactic(auto)]
 
 ghost use Rattle.std.specs.Prelude.{◌≡◌, ◌≤◌};
 ghost use Rattle.sizes.specs.Sizes.{blocks};
 ghost use Rattle.places.specs.Places.{tabled};
-ghost use Rattle.needs.specs.Needs.{some_risk, counts, all_zero, unmet_by};
-ghost use Rattle.needs_unmet.specs.Asked.{Asked};
+ghost use Rattle.needs.specs.Needs.{some_risk, companion_serves, all_zero, unmet_by};
+ghost use Rattle.needs_unmet.specs.Companions.{HasPlace};
 
 use codes::{Code, RISK_CLASSES};
 use needs::{Label, Need};
-use places::PLACES;
+use places::{PLACES, SECOND_PLACES};
 
 // Whether the need of a line is unmet.
 // Kept: tables beside one another, which any caller may fill; a ledger would ask more of callers.
-pub fn unmet(firsts: &[u64; PLACES], seconds: &[u64; PLACES], need: Need) -> bool
+pub fn unmet(firsts: &[u64; PLACES], seconds: &[u64; SECOND_PLACES], need: Need) -> bool
     ensures { result ≡ unmet_by (tabled firsts.now) (tabled seconds.now) need.line }
 {
     let line = need.line;
     let at = places::index_of(line.code, line.block, line.class);
-    if all_zero(firsts[at], seconds[at]) {
+    if all_zero(firsts[at], ledger::second_at(seconds, at)) {
         return false;
     }
-    !counts(firsts, need.companion)
+    !companion_serves(firsts, need.companion)
 }
 
 // Whether both amounts are zero.
@@ -33,9 +34,9 @@ fn all_zero(first: u64, second: u64) -> bool
 
 // Whether a companion is there and its first amount isn't 0.
 // Kept: class 0 for whichever class there is, as `needs::needing` gives it.
-fn counts(firsts: &[u64; PLACES], companion: Label) -> bool
-    requires { Asked companion }
-    ensures { result ≡ counts (tabled firsts.now) companion }
+fn companion_serves(firsts: &[u64; PLACES], companion: Label) -> bool
+    requires { HasPlace companion }
+    ensures { result ≡ companion_serves (tabled firsts.now) companion }
 {
     if companion.class == 0 {
         return some_risk(firsts, companion.block);

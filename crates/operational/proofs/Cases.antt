@@ -10,7 +10,8 @@ use Rattle.refusal.specs.Outcome.{Outcome}
 use Rattle.refusal.specs.Outcome.Outcome.{refused}
 use Rattle.refusal.specs.declared.Place.TheVariants.{Position, Nowhere}
 use Rattle.amount.specs.Amount.{first_above}
-use Rattle.operational.specs.Call.{rule7, operational_call}
+use Rattle.amount.specs.Rule7.{rule7}
+use Rattle.operational.specs.Call.{operational_call}
 
 -- an amount above the limit
 abbrev high : ℕ

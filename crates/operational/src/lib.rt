@@ -3,10 +3,11 @@
 
 ghost use Rattle.std.specs.Prelude.{◌≡◌, ℕ, ◌+◌, ◌-◌, ◌*◌, ◌≤◌, leb, length, get_or};
 ghost use Rattle.basics.specs.Least.{least};
+ghost use Rattle.refusal.specs.Outcome.{stated_number};
 ghost use Rattle.amount.specs.Amount.{limit};
 ghost use Rattle.sizes.specs.Sizes.{volume_numbers};
 ghost use Rattle.guideline.specs.Operational.{OperationalAmounts, largest_factor, current, prior, volume, growth, general_requirement, operational_denominator, RO};
-ghost use Rattle.operational.specs.Call.{stated, operational_call};
+ghost use Rattle.operational.specs.Call.{operational_call};
 
 use guideline::OPERATIONAL_DENOMINATOR;
 use refusal::{Place, Refusal, Rule};
@@ -15,7 +16,7 @@ use sizes::{GENERAL_FIGURES, TERRITORY_NUMBERS, VOLUME_CLASSES, VOLUME_NUMBERS};
 // RO, of volumes of any length, 16 numbers a territory, then gross components, guarantee requirement and ceded premiums.
 // Kept: volumes and general figures as two parameters, which the C interface has; a struct of both would be taken apart at once in `operational`.
 pub fn operational_call(volumes: &[u64], general: &[u64; GENERAL_FIGURES]) -> Result<u64, Refusal>
-    ensures { stated result ≡ operational_call volumes.now general.now }
+    ensures { stated_number result ≡ operational_call volumes.now general.now }
 {
     let n = volumes.len();
     if VOLUME_NUMBERS < n {

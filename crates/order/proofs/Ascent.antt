@@ -7,14 +7,15 @@ use native.Mathlib.Omega.{arith}
 use lib.Dec.{ltb}
 use Rattle.basics.specs.Each.{Each}
 use Rattle.basics.proofs.Picks.{if_true, if_false, never}
-use Rattle.codes.specs.Codes.{Key}
+use Rattle.codes.specs.Codes.{rank, Key}
+use Rattle.codes.proofs.Table.{rank_one}
 use Rattle.sheet_line.specs.Rules.{AcceptedLine}
 use Rattle.codes.specs.declared.Code.{Code}
 use Rattle.sheet_line.specs.declared.Entry.{Entry}
-use Rattle.sheet_line.proofs.Printed.{key_small}
-use Rattle.places.specs.Entries.{rank, has_key, lookup, first_of, second_of, mark_of, has_line, SameKey}
+use Rattle.sheet_line.proofs.PrintedLines.{key_small}
+use Rattle.places.specs.Entries.{has_key, lookup, first_of, second_of, mark_of, has_line, SameKey}
 use Rattle.order.specs.Order.{SameFigures, key_of, key_for, key_above_0, last_key, Ascending, Ordered, BelowBase, key_precedes}
-use Rattle.places.proofs.Keys.{rank_one, same_key, has_key_lem, no_key, own_key}
+use Rattle.places.proofs.Keys.{same_key, has_key_lem, no_key, own_key}
 
 -- ---- a key above the last one's
 
@@ -45,7 +46,7 @@ one_key : (d e : Entry) → BelowBase d → BelowBase e → key_for d ≡ key_fo
 unfolding key_of
 one_key d e p q h =
     let r : rank d.code ≡ rank e.code = omega arith in
-    record { code = rank_one d.code d.block d.class e r; block = omega arith; class = omega arith }
+    record { code = rank_one d.code e.code r; block = omega arith; class = omega arith }
 
 -- what is looked up by the key of the last line
 at_last : (g : Entry → ℕ) {k : Code} {b c : ℕ} (e : Entry) (es : List Entry) → SameKey k b c e → lookup g (e ∷ es) k b c ≡ g e

@@ -2,5 +2,5 @@
 pub mod Admission
 pub mod Ascent
 pub mod Lines
-pub mod Printed
-pub mod InOrder
+pub mod PrintedSheets
+pub mod SmallSheets

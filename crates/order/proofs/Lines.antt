@@ -1,5 +1,7 @@
 -- The lines of a sheet read one after the other: what holds of every reading, and what the marks and the last key tell after i lines. Assumes
 -- nothing.
+-- In order: a line more; what holds of the lines that were read: what each new line keeps; a reading is stopped by the number of a rule, at a line of
+-- the sheet; a loop over the lines, after i of them.
 use Rattle.std.specs.Prelude.{Result, Ok, Err}
 use mathlib.Core.Path.{◌≡◌, refl, sym, ap, ◌∙◌}
 use mathlib.Core.List.{List, [], ◌∷◌}
@@ -14,11 +16,11 @@ use Rattle.basics.proofs.Picks.{never}
 use Rattle.refusal.specs.Outcome.{rule_number, Judging}
 use Rattle.layout.specs.Columns.{sheet_line_bytes}
 use Rattle.layout.specs.Whole.{whole_lines, line_at}
-use Rattle.layout.proofs.Lent.{length_line}
+use Rattle.layout.proofs.WholeLines.{length_line}
 use Rattle.sheet_line.specs.Rules.{parse_line, AcceptedLine}
 use Rattle.refusal.specs.declared.Rule.{Rule}
 use Rattle.sheet_line.specs.declared.Entry.{Entry}
-use Rattle.sheet_line.proofs.Accepted.{line_good}
+use Rattle.sheet_line.proofs.Acceptance.{line_good}
 use Rattle.sheet_line.proofs.Refusals.{line_judging}
 use Rattle.places.specs.Entries.{DistinctKeys}
 use Rattle.order.specs.Order.{key_for, last_key, Ascending, Keyed, admitted, Admits}

@@ -5,12 +5,12 @@ use Rattle.std.specs.Prelude.{Result, Ok, Err, ◌≡◌, ◌⊎◌, ◌↔◌, 
 use Rattle.std.proofs.Common.{inl, inr, arith}
 use Rattle.std.proofs.Math.Decide.{dec_le}
 use Rattle.basics.specs.Pick.{pick}
-use Rattle.codes.specs.Codes.{Key}
+use Rattle.codes.specs.Codes.{rank, Key}
 use Rattle.codes.specs.declared.Code.{Code}
 use Rattle.refusal.specs.declared.Rule.{Rule}
 use Rattle.refusal.specs.declared.Rule.TheVariants as rule
 use Rattle.sheet_line.specs.declared.Entry.{Entry}
-use Rattle.places.specs.Entries.{rank, lookup, first_of, second_of, has_line}
+use Rattle.places.specs.Entries.{lookup, first_of, second_of, has_line}
 use Rattle.places.specs.Places.{index_for}
 use Rattle.places.specs.Marks.{has_mark}
 

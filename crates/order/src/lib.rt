@@ -1,12 +1,10 @@
 // A sheet's lines without their amounts: the order of lines, and what admits a line after those before it.
 #![tactic(auto)]
 
-ghost use Rattle.std.specs.Prelude.{◌≡◌, ◌<◌};
+ghost use Rattle.std.specs.Prelude.{◌≡◌};
 ghost use Rattle.codes.specs.Codes.{Key};
-ghost use Rattle.places.specs.Entries.{rank};
-ghost use Rattle.order.specs.Order.{order_base, key_for, Keyed, Admits};
+ghost use Rattle.order.specs.Order.{key_for, Keyed, Admits};
 
-use codes::Code;
 use places::PLACES;
 use refusal::Rule;
 use sheet_line::Entry;
@@ -18,6 +16,8 @@ const ORDER_BASE: u64 = 128;
 // the last one. The marks tell of those lines, and the key of the last one, 0 where there is none. A line that is admitted is marked.
 //
 // Kept: 0 for no last key. No key is 0, so that one comparison serves the first line too; an Option would be no plainer.
+// Kept: inlined. The ledger works the line's place out too, and the compiler makes one of both where this is taken in.
+#[inline(always)]
 pub fn admit(
     line: Result<Entry, Rule>,
     last: u64,
@@ -43,23 +43,5 @@ pub fn key_of(e: Entry) -> u64
     requires { Key e.code e.block e.class }
     ensures { result ≡ key_for e }
 {
-    let code = e.code;
-    (rank(code) * ORDER_BASE + e.block) * ORDER_BASE + e.class
-}
-
-// A code's place in the order of codes.
-//
-// Kept: a number and no derived order of codes, which would be no plainer, since the place is the highest part of the key.
-fn rank(code: Code) -> u64
-    ensures { (result ≡ rank code) × (result < order_base) }
-{
-    match code {
-        Code::Rsk => 0,
-        Code::Oth => 1,
-        Code::Mor => 2,
-        Code::Vol => 3,
-        Code::Acq => 4,
-        Code::Gen => 5,
-        Code::Crd => 6,
-    }
+    (codes::row_of(e.code, e.block).rank * ORDER_BASE + e.block) * ORDER_BASE + e.class
 }

@@ -9,38 +9,23 @@ use lib.ListN.{length, get_or}
 use borrow.Author.Tests.{eqb-true, eq-eqb}
 use Rattle.basics.proofs.Picks.{if_true, if_false, if_eq, by_test, never}
 use Rattle.sizes.specs.Sizes.{non_participating, blocks}
-use Rattle.codes.specs.Codes.{codes, Key}
+use Rattle.codes.specs.Codes.{rank, Key}
+use Rattle.codes.proofs.Table.{rank_one}
 use Rattle.codes.specs.declared.Code.{Code}
-use Rattle.codes.specs.declared.Code.TheVariants.{Rsk, Oth, Mor, Vol, Acq, Gen, Crd}
+use Rattle.codes.specs.declared.Code.TheVariants.{Crd}
 use Rattle.sheet_line.specs.declared.Entry.{Entry}
-use Rattle.places.specs.Entries.{rank, has_key, lookup, has_line, SameKey, DistinctKeys}
+use Rattle.places.specs.Entries.{has_key, lookup, has_line, SameKey, DistinctKeys}
 
 -- ---- the test for a code, block and class
 
-ranked : ℕ → Code
-ranked n = get_or codes n Gen
-
-ranked_rank : (k : Code) → ranked (rank k) ≡ k
-unfolding ranked
-ranked_rank Rsk = refl
-ranked_rank Oth = refl
-ranked_rank Mor = refl
-ranked_rank Vol = refl
-ranked_rank Acq = refl
-ranked_rank Gen = refl
-ranked_rank Crd = refl
-
 module _ (k : Code) (b c : ℕ) (e : Entry) where
-  pub rank_one : rank k ≡ rank e.code → k ≡ e.code
-  rank_one q = sym (ranked_rank k) ∙ ap ranked q ∙ ranked_rank e.code
-
   pub same_key : has_key k b c e ≡ true → SameKey k b c e
   unfolding has_key
   same_key =
       by_test (λ t. t ≡ true → SameKey k b c e) _ _ _
       (λ p.
       by_test (λ t. t ≡ true → SameKey k b c e) _ _ _
-      (λ q r. record { code = rank_one (eqb-true _ _ p); block = eqb-true _ _ q; class = eqb-true _ _ r })
+      (λ q r. record { code = rank_one k e.code (eqb-true _ _ p); block = eqb-true _ _ q; class = eqb-true _ _ r })
       (λ q r. never (cc)))
       (λ p r. never (cc))
 

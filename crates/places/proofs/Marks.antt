@@ -1,6 +1,6 @@
--- The marks of entries: one for each line, and one in a block's row where the block exists. Assumes nothing.
+-- The marks of entries: one for each line, and one among those of a block's RSK and OTH lines where the block exists. Assumes nothing.
+-- In order: a mark stands where a line does; the marks of a code and block; whether a block exists.
 use mathlib.Core.Path.{◌≡◌, refl, sym, ap, ◌∙◌}
-use mathlib.Core.Logic.{◌⊎◌, inl, inr}
 use mathlib.Core.List.{List, [], ◌∷◌}
 use mathlib.Core.Bool.{Bool, true, false, ◌||◌}
 use Prim.Native.Nat.{ℕ, zero, suc, ◌+◌, ◌-◌, ◌≤◌, ◌<◌}
@@ -9,26 +9,26 @@ use native.Mathlib.Nat.{add-sub_cancel_left}
 use native.Mathlib.Numerals.{add-one}
 use native.Mathlib.Omega.{arith}
 use lib.Dec.{eqb, ltb}
-use lib.ListN.{length, set, take, drop, replicate, length-set, length-replicate, length-drop, get_or-replicate}
+use lib.ListN.{length, take, drop, length-set, length-replicate, length-drop, get_or-replicate}
 use lib.Seq.{get_or-set_same, get_or-set_other, get_or-drop}
 use Rattle.std.specs.List.{fold}
 use Rattle.std.proofs.lemmas.List.Sums.{fold_more}
 use Rattle.basics.specs.Pick.{pick}
 use Rattle.basics.specs.Each.{Each}
 use Rattle.basics.specs.First.{any_to}
-use Rattle.basics.proofs.Picks.{if_true, if_false, if_eq, if_ne}
-use Rattle.basics.proofs.Anys.{one_of, none_of, any_same}
+use Rattle.basics.proofs.Picks.{if_true, if_false, if_eq, if_ne, never}
+use Rattle.basics.proofs.Existence.{one_of, any_same}
 use Rattle.sizes.specs.Sizes.{blocks}
-use Rattle.codes.specs.Codes.{range_of, Key}
+use Rattle.codes.specs.Codes.{risk_classes, other_classes, row_of, Key}
 use Rattle.sheet_line.specs.Rules.{AcceptedLine}
 use Rattle.codes.specs.declared.Code.{Code}
 use Rattle.codes.specs.declared.Code.TheVariants.{Rsk, Oth, Mor, Vol, Acq, Gen, Crd}
 use Rattle.sheet_line.specs.declared.Entry.{Entry}
-use Rattle.places.specs.Entries.{of_block, lookup, has_line, exists}
-use Rattle.places.specs.Places.{places, block_places, columns_before, index_of, index_for}
+use Rattle.places.specs.Entries.{lookup, has_line, SameKey, exists}
+use Rattle.places.specs.Places.{places, index_of, index_for}
 use Rattle.places.specs.Marks.{marks_of, has_mark, block_marked}
-use Rattle.places.proofs.Keys.{has_key_lem}
-use Rattle.places.proofs.Indexes.{column_most, index_most, index_one, other_key}
+use Rattle.places.proofs.Keys.{has_key_lem, no_key}
+use Rattle.places.proofs.Indexes.{place_most, index_most, index_one, other_key}
 
 -- ---- a mark stands where a line does
 
@@ -51,91 +51,110 @@ mark_table (e ∷ es) all k b c v =
           ∙ mark_table es all.1 k b c v ∙ sym (ap (λ (n : ℕ). ltb 0 n) (if_false _ (other_key k b c e q)))
     ]
 
--- ---- a block's row, where a mark more stands at p
+-- ---- the marks of a code and block
 
-module _ (m : List Bool) (p b : ℕ) where
-  any_in : p < length m → index_of Rsk b 1 ≤ p → p < index_of Rsk b 1 + block_places → block_marked (set m p true) b ≡ true
-  unfolding index_of
-  any_in l h k =
-      let c = p + 1 - index_of Rsk b 1 in
-      let e : index_of Rsk b c ≡ p = omega arith in
-      one_of (has_mark (set m p true) Rsk b) c block_places (omega arith) (omega arith) (rw e (get_or-set_same m p true false l))
-
-  any_out : (index_of Rsk b 1 ≤ p → p < index_of Rsk b 1 + block_places → ⊥) → block_marked (set m p true) b ≡ block_marked m b
-  unfolding index_of
-  any_out o =
-      any_same _ _ block_places (λ c l h. get_or-set_other m p (index_of Rsk b c) true false (λ q. o (omega arith) (omega arith)))
-
-or_pick : (s t : Bool) → (s || t) ≡ pick s true t
+pub or_pick : (s t : Bool) → (s || t) ≡ pick s true t
 unfolding pick
 or_pick true t = refl
 or_pick false t = refl
 
--- the first n marks of a block's row, joined one after the other
-columns_marked : (m : List Bool) (b row n : ℕ) → row ≡ index_of Rsk b 1 → row + n ≤ length m
-    → fold (λ any y. any || y) false (take n (drop row m)) ≡ any_to (has_mark m Rsk b) n
-unfolding any_to index_of
-columns_marked m b row zero e h = refl
-columns_marked m b row (suc n) e h =
-    let i : index_of Rsk b (suc n) ≡ row + n = omega arith in
-    let l : n < length (drop row m) = rw length-drop (omega arith) in
-    rw (add-one n, columns_marked m b row n e (omega arith), get_or-drop row m n false, ← i) at (fold_more (λ any y. any || y) false (drop row m) n false l)
-    ∙ or_pick (any_to (has_mark m Rsk b) n) (has_mark m Rsk b (suc n))
-
-pub row_marked : (m : List Bool) (b : ℕ) {row : ℕ} → row ≡ index_of Rsk b 1 → row + block_places ≤ length m
-    → fold (λ any y. any || y) false (take (row + block_places - row) (drop row m)) ≡ block_marked m b
-row_marked m b {row} e h = rw (add-sub_cancel_left row block_places) (columns_marked m b row block_places e h)
-
--- ---- the lines of a block's row
-
--- the codes whose lines make a block exist have the first columns of its row; the others have later ones, or row 0
-columns_of : (k : Code) (b : ℕ)
-    → ((of_block k ≡ true) × (columns_before k + (range_of k b).classes ≤ block_places))
-    ⊎ ((of_block k ≡ false) × ((block_places ≤ columns_before k) ⊎ ((range_of k b).highest ≤ 0)))
-columns_of Rsk b = inl (refl, omega arith)
-columns_of Oth b = inl (refl, omega arith)
-columns_of Mor b = inr (refl, inl (omega arith))
-columns_of Vol b = inr (refl, inl (omega arith))
-columns_of Acq b = inr (refl, inl (omega arith))
-columns_of Gen b = inr (refl, inr (omega arith))
-columns_of Crd b = inr (refl, inl (omega arith))
-
--- the places of a block's RSK and OTH lines
-abbrev Within : ℕ → ℕ → Type 0
-Within p b = (index_of Rsk b 1 ≤ p) × (p < index_of Rsk b 1 + block_places)
-
--- a line has one of these places where it makes the block exist; t is whether one of the others does
-row_line : (k : Code) (b c d : ℕ) → Key k b c → 1 ≤ d → (t : Bool)
-    → (Within (index_of k b c) d × (pick (of_block k) (pick (eqb b d) true t) t ≡ true))
-    ⊎ ((index_of Rsk d 1 ≤ index_of k b c → index_of k b c < index_of Rsk d 1 + block_places → ⊥) × (pick (of_block k) (pick (eqb b d) true t) t ≡ t))
+-- the classes of a code and block follow one another
+class_at : (k : Code) (b n : ℕ) → index_of k b (suc n) ≡ index_of k b 1 + n
 unfolding index_of
-row_line k b c d v h t =
-    elim (columns_of k b) [
-      | inl o ↦ elim (ℕ_discrete b d) [
-        | yes q ↦ inl ((omega arith, omega arith), if_true _ o.0 ∙ if_eq _ q)
-        | no q ↦ inr (λ l u. omega (arith, column_most k b), if_true _ o.0 ∙ if_ne _ q)
+class_at k b n = omega arith
+
+-- their first n marks, joined one after the other
+joined : (m : List Bool) (k : Code) (b n : ℕ) → index_of k b 1 + n ≤ length m
+    → fold (λ any y. any || y) false (take n (drop (index_of k b 1) m)) ≡ any_to (has_mark m k b) n
+unfolding any_to
+joined m k b zero h = refl
+joined m k b (suc n) h =
+    let first = index_of k b 1 in
+    let l : n < length (drop first m) = rw length-drop (omega arith) in
+    rw (add-one n, joined m k b n (omega arith), get_or-drop first m n false, ← class_at k b n) at (fold_more (λ any y. any || y) false (drop first m) n false l)
+    ∙ or_pick (any_to (has_mark m k b) n) (has_mark m k b (suc n))
+
+pub classes_marked : (m : List Bool) (k : Code) (b n : ℕ) {first : ℕ} → first ≡ index_of k b 1 → first + n ≤ length m
+    → fold (λ any y. any || y) false (take (first + n - first) (drop first m)) ≡ any_to (has_mark m k b) n
+classes_marked m k b n {first} e h = rw (add-sub_cancel_left first n, e) (joined m k b n (rw e at h))
+
+-- the places of a code and block up to a class
+pub classes_most : (k : Code) (b n : ℕ) → Key k b n → index_of k b 1 + n ≤ places
+unfolding index_of
+classes_most k b n v = omega (arith, place_most k b n v)
+
+-- ---- whether a block exists
+
+module _ (e : Entry) (es : List Entry) (b : ℕ) where
+  -- a line of this code and block is one of those of its classes
+  any_in : (k : Code) → AcceptedLine e → k ≡ e.code → b ≡ e.block → any_to (has_line (e ∷ es) k b) (row_of k b).classes ≡ true
+  unfolding lookup
+  any_in k a p q =
+      let v : Key k b e.class = rw (p, q) a.key in
+      one_of _ e.class _ v.one v.most (ap (λ (n : ℕ). ltb 0 n) (if_true _ (has_key_lem k b e.class e (record { code = p; block = q; class = refl }))))
+
+  -- one of another code or block is not
+  any_out : (k : Code) (n : ℕ) → ((c : ℕ) → SameKey k b c e → ⊥) → any_to (has_line (e ∷ es) k b) n ≡ any_to (has_line es k b) n
+  unfolding lookup
+  any_out k n o = any_same _ _ n (λ c l h. ap (λ (n : ℕ). ltb 0 n) (if_false _ (no_key k b c e (o c))))
+
+-- whether a block has one of RSK's lines, or one of OTH's
+block_lined : List Entry → ℕ → Bool
+block_lined es b = pick (any_to (has_line es Rsk b) risk_classes) true (any_to (has_line es Oth b) other_classes)
+
+either_true : (t : Bool) → pick t true true ≡ true
+unfolding pick
+either_true true = refl
+either_true false = refl
+
+-- CRD's lines make none exist
+no_credit_block : (b : ℕ) → (row_of Crd b).makes_block ≡ false
+no_credit_block zero = refl
+no_credit_block (suc b) = refl
+
+module _ (e : Entry) (es : List Entry) (b : ℕ) (a : AcceptedLine e) where
+  -- a line of neither
+  lined_out : ((c : ℕ) → SameKey Rsk b c e → ⊥) → ((c : ℕ) → SameKey Oth b c e → ⊥) → block_lined (e ∷ es) b ≡ block_lined es b
+  unfolding block_lined
+  lined_out o p = rw (any_out e es b Rsk risk_classes o, any_out e es b Oth other_classes p)
+
+  -- one of another code than these
+  other_code : (k : Code) → k ≡ e.code → (Rsk ≡ k → ⊥) → (Oth ≡ k → ⊥) → block_lined es b ≡ block_lined (e ∷ es) b
+  other_code k q o p = sym (lined_out (λ c s. o (s.code ∙ sym q)) (λ c s. p (s.code ∙ sym q)))
+
+  -- one of another block
+  other_block : (e.block ≡ b → ⊥) → block_lined es b ≡ block_lined (e ∷ es) b
+  other_block n = sym (lined_out (λ c s. n (sym s.block)) (λ c s. n (sym s.block)))
+
+  line_more : (k : Code) → k ≡ e.code → pick (row_of k e.block).makes_block (pick (eqb e.block b) true (block_lined es b)) (block_lined es b) ≡ block_lined (e ∷ es) b
+  unfolding block_lined
+  line_more Rsk q =
+      if_true _ refl
+      ∙ elim (ℕ_discrete e.block b) [
+        | yes p ↦ if_eq _ p ∙ sym (if_true _ (any_in e es b Rsk a q (sym p)))
+        | no n ↦ if_ne _ n ∙ other_block n
       ]
-      | inr o ↦ elim o.1 [
-        | inl w ↦ inr (λ l u. omega (arith, column_most k b), if_false _ o.0)
-        | inr w ↦ inr (λ l u. omega (arith, column_most k b), if_false _ o.0)
+  line_more Oth q =
+      if_true _ refl
+      ∙ elim (ℕ_discrete e.block b) [
+        | yes p ↦ if_eq _ p ∙ sym (rw (any_in e es b Oth a q (sym p)) (either_true _))
+        | no n ↦ if_ne _ n ∙ other_block n
       ]
-    ]
+  line_more Mor q = if_false _ refl ∙ other_code Mor q (λ z. never (cc)) (λ z. never (cc))
+  line_more Vol q = if_false _ refl ∙ other_code Vol q (λ z. never (cc)) (λ z. never (cc))
+  line_more Acq q = if_false _ refl ∙ other_code Acq q (λ z. never (cc)) (λ z. never (cc))
+  line_more Gen q = if_false _ refl ∙ other_code Gen q (λ z. never (cc)) (λ z. never (cc))
+  line_more Crd q = if_false _ (no_credit_block e.block) ∙ other_code Crd q (λ z. never (cc)) (λ z. never (cc))
 
-pub row_most : (b : ℕ) → b ≤ blocks → index_of Rsk b 1 + block_places ≤ places
-unfolding index_of
-row_most b h = omega arith
-
-none_marked : (b : ℕ) → b ≤ blocks → block_marked (replicate places false) b ≡ false
-unfolding index_of
-none_marked b h = none_of _ block_places (λ c l k. get_or-replicate places (index_of Rsk b c) false false (omega arith))
+exists_lined : (es : List Entry) (b : ℕ) → Each AcceptedLine es → exists es b ≡ block_lined es b
+unfolding exists block_lined lookup any_to pick
+exists_lined [] b all = refl
+exists_lined (e ∷ es) b all = rw (exists_lined es b all.1) (line_more e es b all.0 e.code refl)
 
 pub exists_table : (es : List Entry) (b : ℕ) → Each AcceptedLine es → (1 ≤ b) × (b ≤ blocks) → block_marked (marks_of es) b ≡ exists es b
-unfolding marks_of exists
-exists_table [] b all h = none_marked b h.1
-exists_table (e ∷ es) b all h =
-    let v = all.0.key in
-    let l : index_for e < length (marks_of es) = rw length_marks (index_most e.code e.block e.class v) in
-    elim (row_line e.code e.block e.class b v h.0 (exists es b)) [
-      | inl w ↦ any_in (marks_of es) (index_for e) b l w.0.0 w.0.1 ∙ sym w.1
-      | inr w ↦ any_out (marks_of es) (index_for e) b w.0 ∙ exists_table es b all.1 h ∙ sym w.1
-    ]
+unfolding block_lined
+exists_table es b all h =
+    rw (
+      any_same _ _ risk_classes (λ c l k. mark_table es all Rsk b c (record { low = h.0; high = h.1; one = l; most = k })),
+      any_same _ _ other_classes (λ c l k. mark_table es all Oth b c (record { low = h.0; high = h.1; one = l; most = k })),
+    ) (sym (exists_lined es b all))

@@ -2,19 +2,10 @@
 -- included'. Assumes nothing.
 use Rattle.std.specs.Prelude.{◌≡◌, ℕ, ◌<◌, List, [], ◌∷◌, Bool, true, false, ltb, eqb, length, get_or}
 use Rattle.basics.specs.Pick.{pick}
+use Rattle.codes.specs.Codes.{rank}
 use Rattle.codes.specs.declared.Code.{Code}
-use Rattle.codes.specs.declared.Code.TheVariants.{Rsk, Oth, Mor, Vol, Acq, Gen, Crd}
+use Rattle.sheet_line.specs.Rules.{row_for}
 use Rattle.sheet_line.specs.declared.Entry.{Entry}
-
--- a code's place in the order of codes, 'RSK, OTH, MOR, VOL, GEN, CRD' (document 02, #105), with ACQ, which 'stands after VOL' (#106)
-abbrev pub rank : Code → ℕ
-rank Rsk = 0
-rank Oth = 1
-rank Mor = 2
-rank Vol = 3
-rank Acq = 4
-rank Gen = 5
-rank Crd = 6
 
 -- whether an entry has this code, block and class
 unfoldable pub has_key : Code → ℕ → ℕ → Entry → Bool
@@ -56,17 +47,7 @@ pub record DistinctKeys (es : List Entry) : Type 0 where
   pub found : (d : Entry) (i : ℕ) → i < length es → (f : Entry → ℕ)
       → let e = get_or es i d in lookup f es e.code e.block e.class ≡ f e
 
--- the codes whose lines make a block exist
-abbrev pub of_block : Code → Bool
-of_block Rsk = true
-of_block Oth = true
-of_block Mor = false
-of_block Vol = false
-of_block Acq = false
-of_block Gen = false
-of_block Crd = false
-
 -- 'A block exists when it has an RSK or OTH line, zeros included'
 unfoldable pub exists : List Entry → ℕ → Bool
 exists [] b = false
-exists (e ∷ es) b = pick (of_block e.code) (pick (eqb e.block b) true (exists es b)) (exists es b)
+exists (e ∷ es) b = pick (row_for e).makes_block (pick (eqb e.block b) true (exists es b)) (exists es b)

@@ -1,10 +1,12 @@
 -- The table of marks: which lines stood before, and what it says of a line and of a block. Assumes nothing.
 use Rattle.std.specs.Prelude.{ℕ, List, [], ◌∷◌, Bool, true, false, get_or, set, replicate}
 use Rattle.basics.specs.First.{any_to}
+use Rattle.basics.specs.Pick.{pick}
+use Rattle.codes.specs.Codes.{risk_classes, other_classes}
 use Rattle.codes.specs.declared.Code.{Code}
-use Rattle.codes.specs.declared.Code.TheVariants.{Rsk}
+use Rattle.codes.specs.declared.Code.TheVariants.{Rsk, Oth}
 use Rattle.sheet_line.specs.declared.Entry.{Entry}
-use Rattle.places.specs.Places.{places, block_places, index_of, index_for}
+use Rattle.places.specs.Places.{places, index_of, index_for}
 
 -- the table of the marks of entries
 unfoldable pub marks_of : List Entry → List Bool
@@ -15,6 +17,6 @@ marks_of (e ∷ es) = set (marks_of es) (index_for e) true
 abbrev pub has_mark : List Bool → Code → ℕ → ℕ → Bool
 has_mark m k b c = get_or m (index_of k b c) false
 
--- whether one of the places of a block's RSK and OTH lines has a mark: OTH's follow RSK's, as if they were classes more
+-- whether one of a block's RSK lines has a mark, or one of its OTH lines
 abbrev pub block_marked : List Bool → ℕ → Bool
-block_marked m b = any_to (has_mark m Rsk b) block_places
+block_marked m b = pick (any_to (has_mark m Rsk b) risk_classes) true (any_to (has_mark m Oth b) other_classes)

@@ -1,26 +1,24 @@
 // Where a line stands in the tables, and the marks of the lines that are there.
 //
-// A table has a row for each block, with a column for each class that RSK, OTH, VOL, MOR, ACQ and CRD have, and row 0 for GEN and CRD.
+// A table has a place for each line that there can be: a code's lines follow one another by block, and in a block by class. The lines that can have a
+// second amount come first, so that one index serves the table of first amounts and the shorter one of second amounts.
 #![tactic(auto)]
 
 ghost use Rattle.std.specs.Prelude.{◌≡◌, ◌≤◌, ◌<◌};
+ghost use Rattle.basics.specs.First.{any_to};
 ghost use Rattle.codes.specs.Codes.{scalar_class, Key};
 ghost use Rattle.sizes.specs.Sizes.{blocks};
-ghost use Rattle.places.specs.Places.{places, columns_before, index_of, index_for};
+ghost use Rattle.places.specs.Places.{places, index_of, index_for};
 ghost use Rattle.places.specs.Marks.{has_mark, block_marked};
 
-use codes::{ACQUIRED_CLASSES, Code, MORTALITY_CLASSES, OTHER_CLASSES, RISK_CLASSES, SCALAR_CLASS};
+use codes::{Code, MOST_LINES, OTHER_CLASSES, PAIRED_LINES, RISK_CLASSES, SCALAR_CLASS};
 use sheet_line::Entry;
-use sizes::{BLOCKS, VOLUME_CLASSES};
 
-// The places of a block's RSK and OTH lines, which begin its row.
-const BLOCK_PLACES: usize = RISK_CLASSES + OTHER_CLASSES;
+// The places of the lines that can have a second amount, which come first.
+pub const SECOND_PLACES: usize = PAIRED_LINES;
 
-// The places of a row. The columns behind RSK and OTH are VOL's, MOR's and ACQ's in the rows of blocks 1 to 16, and CRD's in the others.
-const ROW_PLACES: usize = BLOCK_PLACES + VOLUME_CLASSES + MORTALITY_CLASSES + ACQUIRED_CLASSES;
-
-// The places of a table.
-pub const PLACES: usize = ROW_PLACES * (BLOCKS + 1);
+// The places of all lines that there can be.
+pub const PLACES: usize = MOST_LINES;
 
 // The index of an entry in each table.
 pub fn index_for(e: Entry) -> usize
@@ -52,33 +50,27 @@ pub fn index_of(code: Code, block: usize, class: usize) -> usize
     requires { Key code block class }
     ensures { (result ≡ index_of code block class) × (result < places) }
 {
-    ROW_PLACES * block + columns_before(code) + class - 1
+    let row = codes::row_of(code, cast::word(block));
+    row.first_place + row.block_places * block.saturating_sub(1) + class - 1
 }
 
-// The columns of a row before those of a code.
-fn columns_before(code: Code) -> usize
-    ensures { result ≡ columns_before code }
-{
-    match code {
-        Code::Rsk => 0,
-        Code::Oth => RISK_CLASSES,
-        Code::Mor => BLOCK_PLACES + VOLUME_CLASSES,
-        Code::Vol => BLOCK_PLACES,
-        Code::Acq => BLOCK_PLACES + VOLUME_CLASSES + MORTALITY_CLASSES,
-        Code::Gen => 0,
-        Code::Crd => BLOCK_PLACES,
-    }
-}
-
-// Whether a block has an RSK or OTH line: their columns begin its row. All ten marks are joined, so that there is no jump at the first.
+// Whether a block has an RSK or OTH line.
 // Kept: the block's range as a clause, as in credits, which says why.
-#[tactic(auto, using(crate::proofs::Marks::row_most))]
 pub fn block_exists(marks: &[bool; PLACES], block: usize) -> bool
     requires { (1 ≤ block) × (block ≤ blocks) }
     ensures { result ≡ block_marked marks.now block }
 {
-    let row = index_of(Code::Rsk, block, 1);
-    marks[row..row + BLOCK_PLACES]
+    any_class(marks, Code::Rsk, block, RISK_CLASSES)
+        | any_class(marks, Code::Oth, block, OTHER_CLASSES)
+}
+
+// Whether one of the first classes of a code and block has a mark. All their marks are joined, so that there is no jump at the first.
+fn any_class(marks: &[bool; PLACES], code: Code, block: usize, classes: usize) -> bool
+    requires { Key code block classes }
+    ensures { result ≡ any_to (has_mark marks.now code block) classes }
+{
+    let first = index_of(code, block, 1);
+    marks[first..first + classes]
         .iter()
         .copied()
         .fold(false, |any, mark| any | mark)

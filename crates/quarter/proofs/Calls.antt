@@ -1,5 +1,7 @@
 -- The call on an input that is whole: its text is taken over into the room where it has its length, and says what it has to. It is never longer than
 -- the longest output, so that with room for that the call never refuses. Assumes nothing.
+-- In order: the text that was worked out, n bytes in front of an output; what its summary says; its length; it refuses by 14 alone, and only where
+-- its text is longer than the room.
 use mathlib.Core.Path.{◌≡◌, refl, sym, ap, subst, subst⁻¹, ◌∙◌}
 use mathlib.Core.List.{List, [], ◌∷◌, ◌++◌}
 use Prim.Native.Nat.{ℕ, suc, ◌≤◌, ◌<◌}
@@ -14,14 +16,14 @@ use Rattle.refusal.specs.declared.Place.TheVariants as place
 use Rattle.judgement.specs.Judgement.{judgement}
 use Rattle.report_line.specs.declared.Row.{Row}
 use Rattle.report_line.specs.Line.{row_in, rows_in}
-use Rattle.report_line.proofs.ReadBack.{length_in_lem, append_in}
+use Rattle.report_line.proofs.Readback.{length_in_lem, append_in}
 use Rattle.report.proofs.Items.{items_in_long}
 use Rattle.text_answer.specs.Lent.{Done, TooLong, untouched}
 use Rattle.text_answer.specs.Lent.Text.{bytes}
 use Rattle.text_answer.specs.Printing.{REF, refusal_row, Printed}
-use Rattle.text_answer.proofs.Lent as lent
+use Rattle.text_answer.proofs.LentRoom as lent
 use Rattle.quarter_stream.specs.Sheets.{Sheets, sheets_of}
-use Rattle.summary.specs.Together.{summary_of, items_of}
+use Rattle.summary.specs.Summaries.{summary_of, items_of}
 use Rattle.quarter_text.specs.Printout.{most_sheets, columns, SUM, answered, sheet_row, sheet_rows, accepted_of, closed_or25, ending, quarter_text}
 use Rattle.quarter_text.specs.Demand.{QuarterDemand}
 use Rattle.quarter_text.proofs.Rows.{row_long}
@@ -29,7 +31,7 @@ use Rattle.quarter_text.proofs.Accuracy.{quarter_demand}
 use Rattle.quarter.specs.Call.{quarter_call, SummarySays}
 use Rattle.quarter.specs.Steps.{lines_long, longest_output, After, Taken, Finished}
 use Rattle.quarter.specs.declared.Quarter.{Quarter}
-use Rattle.quarter.proofs.Going.{row_alone}
+use Rattle.quarter.proofs.SheetsSoFar.{row_alone}
 
 -- ---- the text that was worked out, n bytes in front of an output
 

@@ -1,6 +1,6 @@
 -- Laws of an input that is taken chunk by chunk, and of one that is whole. Assumes nothing.
-pub mod Going
-pub mod Taking
-pub mod Whole
-pub mod Ending
+pub mod SheetsSoFar
+pub mod Chunks
+pub mod WholeInput
+pub mod InputEnd
 pub mod Calls

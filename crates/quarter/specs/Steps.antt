@@ -5,7 +5,7 @@ use Rattle.report_line.specs.Line.{line_bytes, rows_in}
 use Rattle.sheet_length.specs.Measured.{longest_sheet}
 use Rattle.quarter_stream.specs.Sheets.{sheets_of, count}
 use Rattle.quarter_stream.specs.Steps.{Within, SoFar}
-use Rattle.summary.specs.Together.{summary_of}
+use Rattle.summary.specs.Summaries.{summary_of}
 use Rattle.text_answer.specs.Printing.{Printed}
 use Rattle.quarter_text.specs.Printout.{most_sheets, columns, answered, sheet_rows, accepted_of, quarter_text}
 use Rattle.quarter_text.specs.Demand.{QuarterDemand}
@@ -33,12 +33,12 @@ pub record After (s room out : List ℕ) (q : Quarter) : Type 0 where
   pub out_long : length out ≡ longest_output
 
 -- what is known is that of some bytes
-abbrev pub Begun : List ℕ → List ℕ → Quarter → Type 0
-Begun room out q = (s : List ℕ) × After s room out q
+abbrev pub Reachable : List ℕ → List ℕ → Quarter → Type 0
+Reachable room out q = (s : List ℕ) × After s room out q
 
 -- .. in some room
-abbrev pub BegunIn : List ℕ → Quarter → Type 0
-BegunIn out q = (room : List ℕ) × Begun room out q
+abbrev pub ReachableInSomeRoom : List ℕ → Quarter → Type 0
+ReachableInSomeRoom out q = (room : List ℕ) × Reachable room out q
 
 -- a chunk more: whichever bytes came before, what is known is that of them and the chunk; no line is taken back, and the output behind the lines keeps
 -- its bytes

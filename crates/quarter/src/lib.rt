@@ -3,11 +3,12 @@
 #![tactic(auto)]
 
 ghost use Rattle.std.specs.Prelude.{◌≡◌, List, [], ℕ, length};
-ghost use Rattle.text_answer.specs.Lent.{stated, Done};
-ghost use Rattle.quarter.specs.Steps.{After, Begun, BegunIn, Taken, Finished};
+ghost use Rattle.refusal.specs.Outcome.{stated_number};
+ghost use Rattle.text_answer.specs.Lent.{Done};
+ghost use Rattle.quarter.specs.Steps.{After, Reachable, ReachableInSomeRoom, Taken, Finished};
 ghost use Rattle.quarter.specs.Call.{quarter_call, SummarySays};
 
-use quarter_stream::Held;
+use quarter_stream::OpenSheet;
 use quarter_text::{LINE_BYTES, MOST_SHEETS};
 use refusal::{Place, Refusal, Rule};
 use sheet_length::SHEET_ROOM;
@@ -22,7 +23,7 @@ pub const OUTPUT_ROOM: usize = LINE_BYTES * (MOST_SHEETS + SUMMARY_ITEMS);
 // Kept: the room and the output are no fields of it: owned, their bytes would move with it; lent, each signature would have a lifetime.
 #[derive(Clone, Copy)]
 pub struct Quarter {
-    pub held: Option<Held>,
+    pub held: Option<OpenSheet>,
     pub sheets: usize,
     pub summary: Summary,
 }
@@ -30,8 +31,8 @@ pub struct Quarter {
 // An input of any bytes, and lent room of any length: its text, whichever way it ends. It is worked out apart, so that nothing is written where the
 // room is too short for it.
 pub fn quarter_call(input: &[u8], room: &mut [u8]) -> Result<usize, Refusal>
-    ensures answer { ◌≡◌ {A = Done} (record { outcome = stated result; room = room.new }) (quarter_call input.now room.old) }
-    ensures summary_says { SummarySays input.now (stated result) room.new }
+    ensures answer { ◌≡◌ {A = Done} (record { outcome = stated_number result; room = room.new }) (quarter_call input.now room.old) }
+    ensures summary_says { SummarySays input.now (stated_number result) room.new }
 {
     let mut sheet = [0u8; SHEET_ROOM];
     let mut out = [0u8; OUTPUT_ROOM];
@@ -49,9 +50,9 @@ pub fn start() -> Quarter
     ensures { (room out : List ℕ) → length room ≡ SHEET_ROOM → length out ≡ OUTPUT_ROOM → After [] room out result }
 {
     Quarter {
-        held: Some(quarter_stream::fresh()),
+        held: Some(quarter_stream::new_sheet()),
         sheets: 0,
-        summary: summary::none(),
+        summary: summary::no_sheets(),
     }
 }
 
@@ -62,7 +63,7 @@ pub fn take_chunk(
     q: Quarter,
     chunk: &[u8],
 ) -> Quarter
-    requires { Begun room.old out.old q }
+    requires { Reachable room.old out.old q }
     ensures { Taken room.old out.old q chunk.now room.new out.new result }
 {
     let Some(mut held) = q.held else {
@@ -79,7 +80,7 @@ pub fn take_chunk(
                 summary,
             };
         }
-        match quarter_stream::feed(room, held, chunk, at) {
+        match quarter_stream::scan(room, held, chunk, at) {
             ControlFlow::Continue(h) => {
                 return Quarter {
                     held: Some(h),
@@ -96,7 +97,7 @@ pub fn take_chunk(
                     sheets,
                     summary,
                 );
-                held = quarter_stream::fresh();
+                held = quarter_stream::new_sheet();
                 at = closed.next;
             }
         }
@@ -110,7 +111,7 @@ pub fn take_chunk(
 
 // After the last byte: the summary, or what turns the input away. It gives how many bytes there are to print.
 pub fn finish(out: &mut [u8; OUTPUT_ROOM], q: Quarter) -> usize
-    requires { BegunIn out.old q }
+    requires { ReachableInSomeRoom out.old q }
     ensures { Finished out.old q result out.new }
 {
     let sheets = q.sheets;

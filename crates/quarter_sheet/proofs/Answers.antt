@@ -23,7 +23,7 @@ use Rattle.figures.specs.declared.NumberedFigures.{NumberedFigures}
 use Rattle.judgement.specs.declared.Totals.{Totals}
 use Rattle.judgement.specs.Judgement.{Judgement, judgement, findings, stated}
 use Rattle.judgement.specs.Judgement.Judgement.{turned_away, sound}
-use Rattle.judgement.proofs.Accepted.{sound_accepted}
+use Rattle.judgement.proofs.Acceptance.{sound_accepted}
 use Rattle.judgement.specs.Judgement.Findings.{refusal, figures}
 use Rattle.judgement.proofs.Rules.{findings_refusal, findings_figures}
 use Rattle.judgement.proofs.Lengths.{above_limit}

@@ -1,17 +1,12 @@
 -- What is said of a sheet among others: document 02, #114, 'prints for each its buffer .. or its REF line'. It is judged by every rule but 14, and the
 -- buffer is that of its report. Assumes nothing.
-use Rattle.std.specs.Prelude.{Result, [], ◌∷◌, ℕ, ◌*◌}
-use Rattle.refusal.specs.Outcome.{Outcome, stated_by}
+use Rattle.std.specs.Prelude.{[], ◌∷◌, ℕ, ◌*◌}
+use Rattle.refusal.specs.Outcome.{Outcome}
 use Rattle.refusal.specs.Outcome.Outcome.{accepted, refused}
-use Rattle.refusal.specs.declared.Refusal.{Refusal}
 use Rattle.guideline.specs.Buffer.{buffer, most_available}
 use Rattle.judgement.specs.Sheet.{sheet_of}
 use Rattle.judgement.specs.Judgement.{Judgement}
 use Rattle.judgement.specs.Judgement.Judgement.{turned_away, sound}
-
--- what the answer says: the buffer, or the refusal's number and place
-abbrev pub stated : Result ℕ Refusal → Outcome
-stated = stated_by (λ b. b ∷ [])
 
 -- of a judged sheet
 unfoldable pub buffer_of : Judgement → Outcome

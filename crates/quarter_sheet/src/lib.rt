@@ -2,8 +2,9 @@
 #![tactic(auto)]
 
 ghost use Rattle.std.specs.Prelude.{◌≡◌};
+ghost use Rattle.refusal.specs.Outcome.{stated_number};
 ghost use Rattle.judgement.specs.Judgement.{judgement};
-ghost use Rattle.quarter_sheet.specs.Answer.{stated, buffer_of};
+ghost use Rattle.quarter_sheet.specs.Answer.{buffer_of};
 
 use figures::NumberedFigures;
 use judgement::Totals;
@@ -13,7 +14,7 @@ use sizes::BLOCKS;
 
 // The buffer of an accepted sheet, or the rule that refuses it, with its place. The ledger and the table of rows that judging needs are its own.
 pub fn buffer_of(sheet: &[u8]) -> Result<u64, Refusal>
-    ensures { stated result ≡ buffer_of (judgement sheet.now) }
+    ensures { stated_number result ≡ buffer_of (judgement sheet.now) }
 {
     let mut ledger = Ledger::new();
     let mut rows = [NumberedFigures::default(); BLOCKS];

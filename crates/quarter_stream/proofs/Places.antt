@@ -11,7 +11,7 @@ use Rattle.basics.specs.First.{first_from, first}
 use Rattle.basics.specs.Pick.{pick}
 use Rattle.basics.proofs.Picks.{if_true, if_false, if_lt, if_ge}
 use Rattle.quarter_stream.specs.Sheets.{closing, starts, line_start, closes_at, Sheets, and_then, sheets_in, sheets_of}
-use Rattle.quarter_stream.proofs.Closing.{behind, sheets_from, sheets}
+use Rattle.quarter_stream.proofs.ClosingLines.{behind, sheets_from, sheets}
 
 -- a search one place further on
 first_shift : (P : ℕ → Bool) (i n : ℕ) → first_from P (suc i) n ≡ suc (first_from (λ k. P (suc k)) i n)

@@ -11,7 +11,7 @@ use Rattle.basics.proofs.Picks.{if_eq, if_ne, if_lt, if_ge}
 use Rattle.quarter_stream.specs.Steps.{minus_signs, counted, Next, next, follow, scanned, kept, Within, Put, stepped, WithinStep, Stepped, ScannedTo}
 use Rattle.quarter_stream.specs.Steps.Next.{on}
 use Rattle.quarter_stream.specs.Steps.Scanned.{found}
-use Rattle.quarter_stream.specs.declared.Held.{Held}
+use Rattle.quarter_stream.specs.declared.OpenSheet.{OpenSheet}
 use Rattle.std.specs.Prelude.{Option, Some, None}
 use Rattle.std.specs.declared.ops.ControlFlow.{ControlFlow}
 use Rattle.std.specs.declared.ops.ControlFlow.TheVariants.{Continue, Break}
@@ -45,7 +45,7 @@ other_line (Some m) n e = n (ap Some e)
 
 -- ---- a step
 
-module _ {room : List ℕ} {h : Held} (W : Within (length room) h) {b : ℕ} where
+module _ {room : List ℕ} {h : OpenSheet} (W : Within (length room) h) {b : ℕ} where
   pub closes : b ≡ 10 → h.minuses ≡ Some 39 → Stepped room h b (Break h.begun) room
   unfolding next
   closes e m = record { answer = sym (if_eq _ e ∙ if_eq _ (ap minus_signs m)); within = omega (arith, W) }
@@ -71,32 +71,32 @@ module _ {room : List ℕ} {h : Held} (W : Within (length room) h) {b : ℕ} whe
 -- ---- a chunk
 
 -- after the bytes of a chunk up to i
-pub record Feeding (before : List ℕ) (h₀ : Held) (chunk : List ℕ) (at : ℕ) (room : List ℕ) (h : Held) (i : ℕ) : Type 0 where
+pub record Scanning (before : List ℕ) (h₀ : OpenSheet) (chunk : List ℕ) (at : ℕ) (room : List ℕ) (h : OpenSheet) (i : ℕ) : Type 0 where
   pub long : length room ≡ length before
   pub within : Within (length before) h
   pub past : at ≤ i
   pub some : i ≤ length chunk
   pub rest : scanned (length before) (kept room h) (drop i chunk) ≡ scanned (length before) (kept before h₀) (drop at chunk)
 
-module _ {before : List ℕ} {h₀ : Held} {chunk : List ℕ} {at : ℕ} {room : List ℕ} {h : Held} {i : ℕ} (F : Feeding before h₀ chunk at room h i) where
-  pub all_fed : length chunk ≤ i → ScannedTo before h₀ chunk at (Continue h) room
+module _ {before : List ℕ} {h₀ : OpenSheet} {chunk : List ℕ} {at : ℕ} {room : List ℕ} {h : OpenSheet} {i : ℕ} (F : Scanning before h₀ chunk at room h i) where
+  pub all_scanned : length chunk ≤ i → ScannedTo before h₀ chunk at (Continue h) room
   unfolding scanned
-  all_fed l = record { answer = (rw (drop_of_length-le chunk l)) ∙ F.rest; within = F.within }
+  all_scanned l = record { answer = (rw (drop_of_length-le chunk l)) ∙ F.rest; within = F.within }
 
-  module _ (l : i < length chunk) {s : ControlFlow ℕ Held} {after : List ℕ} (S : Stepped room h (get_or chunk i 0) s after) where
+  module _ (l : i < length chunk) {s : ControlFlow ℕ OpenSheet} {after : List ℕ} (S : Stepped room h (get_or chunk i 0) s after) where
     turn : {n : Next} → stepped after s ≡ n
         → follow n (λ j. scanned (length before) j (drop (i + 1) chunk)) (λ x. found x (drop (i + 1) chunk)) ≡ scanned (length before) (kept before h₀) (drop at chunk)
     unfolding scanned
     turn e = rw (← e, S.answer, F.long, add-one) (rw (drop-cons chunk i 0 l) refl) ∙ F.rest
 
-    pub fed_closed : {n : ℕ} → s ≡ Break n → ScannedTo before h₀ chunk at (Break (record { length = n; next = i + 1 })) after
+    pub scanned_closed : {n : ℕ} → s ≡ Break n → ScannedTo before h₀ chunk at (Break (record { length = n; next = i + 1 })) after
     unfolding follow
-    fed_closed {n} e =
-        let w : n ≤ length room = subst (λ (z : ControlFlow ℕ Held). WithinStep (length room) z) e S.within in
+    scanned_closed {n} e =
+        let w : n ≤ length room = subst (λ (z : ControlFlow ℕ OpenSheet). WithinStep (length room) z) e S.within in
         record { answer = turn (ap (stepped after) e); within = (omega (arith, F.long), omega (arith, F.past), omega arith) }
 
-    pub fed_on : {k : Held} → s ≡ Continue k → length after ≡ length room → Feeding before h₀ chunk at after k (i + 1)
+    pub scanned_on : {k : OpenSheet} → s ≡ Continue k → length after ≡ length room → Scanning before h₀ chunk at after k (i + 1)
     unfolding follow
-    fed_on {k} e m =
-        let w : Within (length room) k = subst (λ (z : ControlFlow ℕ Held). WithinStep (length room) z) e S.within in
+    scanned_on {k} e m =
+        let w : Within (length room) k = subst (λ (z : ControlFlow ℕ OpenSheet). WithinStep (length room) z) e S.within in
         record { long = m ∙ F.long; within = rw F.long at w; past = omega (arith, F.past); some = omega arith; rest = turn (ap (stepped after) e) }

@@ -1,7 +1,7 @@
 -- The same, a byte at a time, in a room for so many bytes of a sheet: bytes past the room are counted nowhere. Assumes nothing.
 use Rattle.std.specs.Prelude.{Option, Some, None, ℕ, suc, ◌≤◌, ◌<◌, ◌≡◌, List, [], ◌∷◌, ◌++◌, ltb, eqb, length, take, drop}
 use Rattle.basics.specs.Pick.{pick}
-use Rattle.quarter_stream.specs.declared.Held.{Held}
+use Rattle.quarter_stream.specs.declared.OpenSheet.{OpenSheet}
 use Rattle.quarter_stream.specs.declared.Closed.{Closed}
 use Rattle.std.specs.declared.ops.ControlFlow.{ControlFlow}
 use Rattle.std.specs.declared.ops.ControlFlow.TheVariants.{Continue, Break}
@@ -14,8 +14,8 @@ pub record Kept : Type 0 where
   pub minuses : ℕ
 
 -- nothing yet
-abbrev pub fresh : Kept
-fresh = record { lines = []; bytes = []; minuses = 0 }
+abbrev pub new_sheet : Kept
+new_sheet = record { lines = []; bytes = []; minuses = 0 }
 
 -- a byte more, where there is room for it
 abbrev pub put : ℕ → List ℕ → ℕ → List ℕ
@@ -53,7 +53,7 @@ closed_then s r = record { closed = s ∷ r.closed; held = r.held }
 
 unfoldable pub run : ℕ → Kept → List ℕ → Run
 run room k [] = record { closed = []; held = k }
-run room k (b ∷ bs) = follow (next room k b) (λ j. run room j bs) (λ s. closed_then s (run room fresh bs))
+run room k (b ∷ bs) = follow (next room k b) (λ j. run room j bs) (λ s. closed_then s (run room new_sheet bs))
 
 -- the bytes up to the first closing line: what is held after all of them, or the sheet that is closed and the bytes after its closing line
 pub data Scanned : Type 0 where
@@ -72,16 +72,16 @@ minus_signs None = 40
 minus_signs (Some m) = m
 
 -- a room and what is known of it
-abbrev pub kept : List ℕ → Held → Kept
+abbrev pub kept : List ℕ → OpenSheet → Kept
 kept room h = record { lines = take h.begun room; bytes = take h.length room; minuses = minus_signs h.minuses }
 
-pub record Within (n : ℕ) (h : Held) : Type 0 where
+pub record Within (n : ℕ) (h : OpenSheet) : Type 0 where
   pub begun : h.begun ≤ h.length
   pub length : h.length ≤ n
 
 -- nothing is known
-pub record Fresh (h : Held) : Type 0 where
-  pub kept : (room : List ℕ) → kept room h ≡ fresh
+pub record NewSheet (h : OpenSheet) : Type 0 where
+  pub kept : (room : List ℕ) → kept room h ≡ new_sheet
   pub within : (n : ℕ) → Within n h
 
 -- a byte more in the room: the places before it keep theirs
@@ -91,33 +91,33 @@ pub record Put (before : List ℕ) (at b r : ℕ) (after : List ℕ) : Type 0 wh
   pub low : at ≤ r
   pub high : r ≤ length before
 
-abbrev pub stepped : List ℕ → ControlFlow ℕ Held → Next
+abbrev pub stepped : List ℕ → ControlFlow ℕ OpenSheet → Next
 stepped room (Continue h) = on (kept room h)
 stepped room (Break n) = closed (take n room)
 
-abbrev pub WithinStep : ℕ → ControlFlow ℕ Held → Type 0
+abbrev pub WithinStep : ℕ → ControlFlow ℕ OpenSheet → Type 0
 WithinStep n (Continue h) = Within n h
 WithinStep n (Break k) = k ≤ n
 
 -- the room before, what is known of it, a byte; the answer and the room after
-pub record Stepped (before : List ℕ) (h : Held) (b : ℕ) (r : ControlFlow ℕ Held) (after : List ℕ) : Type 0 where
+pub record Stepped (before : List ℕ) (h : OpenSheet) (b : ℕ) (r : ControlFlow ℕ OpenSheet) (after : List ℕ) : Type 0 where
   pub answer : stepped after r ≡ next (length before) (kept before h) b
   pub within : WithinStep (length before) r
 
 -- the same for the bytes of a chunk from a place on; a closed sheet comes with the place after its closing line
-abbrev pub scanned_as : List ℕ → List ℕ → ControlFlow Closed Held → Scanned
+abbrev pub scanned_as : List ℕ → List ℕ → ControlFlow Closed OpenSheet → Scanned
 scanned_as room chunk (Continue h) = going (kept room h)
 scanned_as room chunk (Break c) = found (take c.length room) (drop c.next chunk)
 
 -- in a room of n bytes, from a place of a chunk of m bytes on
-abbrev pub WithinFed : ℕ → ℕ → ℕ → ControlFlow Closed Held → Type 0
-WithinFed n m at (Continue h) = Within n h
-WithinFed n m at (Break c) = (c.length ≤ n) × (at < c.next) × (c.next ≤ m)
+abbrev pub WithinScan : ℕ → ℕ → ℕ → ControlFlow Closed OpenSheet → Type 0
+WithinScan n m at (Continue h) = Within n h
+WithinScan n m at (Break c) = (c.length ≤ n) × (at < c.next) × (c.next ≤ m)
 
-pub record ScannedTo (before : List ℕ) (h : Held) (chunk : List ℕ) (at : ℕ) (r : ControlFlow Closed Held) (after : List ℕ) : Type 0 where
+pub record ScannedTo (before : List ℕ) (h : OpenSheet) (chunk : List ℕ) (at : ℕ) (r : ControlFlow Closed OpenSheet) (after : List ℕ) : Type 0 where
   pub answer : scanned_as after chunk r ≡ scanned (length before) (kept before h) (drop at chunk)
-  pub within : WithinFed (length before) (length chunk) at r
+  pub within : WithinScan (length before) (length chunk) at r
 
 -- after the bytes s: these sheets were closed, each as far as the room goes, and the room and h hold the rest
-pub record SoFar (room : List ℕ) (h : Held) (s : List ℕ) (xs : List (List ℕ)) : Type 0 where
-  pub is : run (length room) fresh s ≡ record { closed = xs; held = kept room h }
+pub record SoFar (room : List ℕ) (h : OpenSheet) (s : List ℕ) (xs : List (List ℕ)) : Type 0 where
+  pub is : run (length room) new_sheet s ≡ record { closed = xs; held = kept room h }

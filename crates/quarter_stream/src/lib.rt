@@ -1,9 +1,10 @@
-// A stream of sheets, cut at its closing lines. The bytes of the sheet that is not closed yet lie in a room that the caller lends; those past the
-// room are dropped, so that a room of one byte more than the longest sheet shows that a sheet is too long.
+// The quarter, request #114: an input of several sheets, cut where each of them ends, at its closing line of 39 minus signs. The bytes of the sheet
+// that is not closed yet lie in a room that the caller lends; those past the room are dropped, so that a room of one byte more than the longest sheet
+// shows that a sheet is too long.
 #![tactic(auto)]
 
 ghost use Rattle.std.specs.Prelude.{◌≡◌, ◌≤◌, length};
-ghost use Rattle.quarter_stream.specs.Steps.{minus_signs, counted, Within, Fresh, Put, Stepped, ScannedTo};
+ghost use Rattle.quarter_stream.specs.Steps.{minus_signs, counted, Within, NewSheet, Put, Stepped, ScannedTo};
 
 use std::ops::ControlFlow;
 
@@ -16,7 +17,7 @@ const MINUSES: usize = 39;
 // What is known of a sheet that is not closed yet: how many of its bytes the room holds, how many of these stand before the line that has begun,
 // and how many minus signs that line is; none where it is something else.
 #[derive(Clone, Copy)]
-pub struct Held {
+pub struct OpenSheet {
     pub length: usize,
     pub begun: usize,
     pub minuses: Option<usize>,
@@ -30,10 +31,10 @@ pub struct Closed {
 }
 
 // Nothing of a sheet yet.
-pub fn fresh() -> Held
-    ensures { Fresh result }
+pub fn new_sheet() -> OpenSheet
+    ensures { NewSheet result }
 {
-    Held {
+    OpenSheet {
         length: 0,
         begun: 0,
         minuses: Some(0),
@@ -42,7 +43,12 @@ pub fn fresh() -> Held
 
 // The bytes of a chunk from a place on, up to the first closing line: the sheet goes on after all of them, or it is closed.
 // Kept: the place beside the chunk, as `next` counts from the chunk's front too; a part of it would be counted from there and added back.
-pub fn feed(room: &mut [u8], held: Held, chunk: &[u8], from: usize) -> ControlFlow<Closed, Held>
+pub fn scan(
+    room: &mut [u8],
+    held: OpenSheet,
+    chunk: &[u8],
+    from: usize,
+) -> ControlFlow<Closed, OpenSheet>
     requires within { Within (length room.old) held }
     requires from_in_bounds { from ≤ length chunk.now }
     ensures { ScannedTo room.old held chunk.now from result room.new }
@@ -63,7 +69,7 @@ pub fn feed(room: &mut [u8], held: Held, chunk: &[u8], from: usize) -> ControlFl
 }
 
 // A byte of the stream: the sheet goes on, or it is closed and the room holds so many bytes of it.
-fn next_byte(room: &mut [u8], held: Held, b: u8) -> ControlFlow<usize, Held>
+fn next_byte(room: &mut [u8], held: OpenSheet, b: u8) -> ControlFlow<usize, OpenSheet>
     requires { Within (length room.old) held }
     ensures { Stepped room.old held b result room.new }
 {
@@ -72,14 +78,14 @@ fn next_byte(room: &mut [u8], held: Held, b: u8) -> ControlFlow<usize, Held>
             return ControlFlow::Break(held.begun);
         }
         let length = put(room, held.length, b);
-        return ControlFlow::Continue(Held {
+        return ControlFlow::Continue(OpenSheet {
             length,
             begun: length,
             minuses: Some(0),
         });
     }
     let length = put(room, held.length, b);
-    ControlFlow::Continue(Held {
+    ControlFlow::Continue(OpenSheet {
         length,
         begun: held.begun,
         minuses: count(held.minuses, b),

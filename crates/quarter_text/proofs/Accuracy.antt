@@ -1,6 +1,8 @@
 -- The items of the summary are read back off the text, and say what they have to of the accepted sheets; the total is that of their buffers, which is
 -- as near the exact total as it has to be.
 -- Assumes nothing.
+-- In order: the accepted sheets; one sheet is accepted, or none; every line has the columns for what it says; the items of the summary, behind the
+-- lines of the sheets; the text.
 use mathlib.Core.Path.{◌≡◌, refl, sym, ap, subst, ◌∙◌}
 use mathlib.Core.Bool.{Bool, false}
 use mathlib.Core.List.{List, [], ◌∷◌, ◌++◌, append-nil}
@@ -13,23 +15,23 @@ use borrow.Author.Tests.{ltb-false}
 use Rattle.basics.specs.Pick.{pick}
 use Rattle.basics.specs.Each.{Each}
 use Rattle.basics.proofs.Picks.{if_false, by_test, never}
-use Rattle.basics.proofs.Eaches.{each_append}
+use Rattle.basics.proofs.Elements.{each_append}
 use Rattle.std.specs.Prelude.{Option, Some}
 use Rattle.guideline.specs.Buffer.{Sheet, buffer, AcceptedSheet}
 use Rattle.judgement.specs.Sheet.{sheet_of}
 use Rattle.judgement.specs.Judgement.{Judgement, judgement}
 use Rattle.judgement.specs.Judgement.Judgement.{turned_away, sound}
-use Rattle.judgement.proofs.Accepted.{sound_accepted, numbered}
+use Rattle.judgement.proofs.Acceptance.{sound_accepted, numbered}
 use Rattle.quarter_sheet.proofs.Answers.{buffer_most}
 use Rattle.report_line.specs.declared.Row.{Row}
 use Rattle.report_line.specs.Line.{rows_in, equal_bytes, found_at}
-use Rattle.report_line.proofs.ReadBack.{PrintableIn, row_is, number_among, read_in}
-use Rattle.text_answer.proofs.Lent.{refusal_row_fits}
+use Rattle.report_line.proofs.Readback.{PrintableIn, row_is, number_among, row_found}
+use Rattle.text_answer.proofs.LentRoom.{refusal_row_fits}
 use Rattle.report.specs.Rows.{row, items_from}
-use Rattle.report.proofs.Reread.{items_printable, number_append, items_found}
+use Rattle.report.proofs.Readback.{items_printable, number_append, items_found}
 use Rattle.refusal.specs.declared.Place.TheVariants as place
 use Rattle.quarter_stream.specs.Sheets.{Sheets, sheets_of, one, count}
-use Rattle.summary.specs.Together.{leading, foremost, smaller, larger, total, summary_of, mean, remainder, items_of, SummaryIs}
+use Rattle.summary.specs.Summaries.{leading, foremost, smaller, larger, total, summary_of, mean, remainder, items_of, SummaryIs}
 use Rattle.summary.specs.Exact.{total_buffer, TotalDemand}
 use Rattle.summary.specs.declared.Accepted.{Accepted}
 use Rattle.summary.specs.declared.Summary.{Summary}
@@ -37,7 +39,7 @@ use Rattle.summary.proofs.Summaries.{summary_is}
 use Rattle.summary.proofs.Totals.{total_demand}
 use Rattle.quarter_text.specs.Printout.{most_sheets, columns, SUM, sheet_row, answered, sheet_rows, sound_as, accepted_as, accepted_of, summary_rows, closed_or25, ending, quarter_rows, quarter_text}
 use Rattle.quarter_text.specs.Demand.{sound_ones, QuarterDemand}
-use Rattle.quarter_text.proofs.Rows.{all_answered, summary_follows, Small, small_of, summary_total, few_accepted}
+use Rattle.quarter_text.proofs.Rows.{all_answered, summary_follows, Small, small_of, summary_total, accepted_summary_fits}
 
 -- ---- the accepted sheets
 
@@ -128,7 +130,7 @@ mean_small s = (
 summary_fits : (xs : List (List ℕ)) → length xs ≤ most_sheets → Each Fits (summary_rows (accepted_of 1 xs))
 summary_fits xs h =
     let s = summary_of (accepted_of 1 xs) in
-    let f = few_accepted 1 xs h in
+    let f = accepted_summary_fits 1 xs h in
     let w = ends_small 100 (omega arith) (accepted_of 1 xs) (small_of 1 100 xs (omega arith)) in
     let m = mean_small s in
     let low : Each (λ v. v < 10 ^ columns) (s.total ∷ mean s ∷ remainder s ∷ []) = (omega (arith, f.1), (omega (arith, f.1, m.0), (omega (arith, f.1, m.1), tt))) in
@@ -186,7 +188,7 @@ quarter_demand s c r =
       summary = summary_of (accepted_of 1 xs);
       reads = λ i h k.
           ap (λ (v : List ℕ). found_at columns v SUM 0 i) t
-          ∙ read_in columns (omega arith) rs (row SUM 0 i 0) [] fits (record { code = refl; block = omega arith; item = omega arith; number = omega arith })
+          ∙ row_found columns (omega arith) rs (row SUM 0 i 0) [] fits (record { code = refl; block = omega arith; item = omega arith; number = omega arith })
           ∙ item_found i xs ns _ h (omega (arith, k));
       none = zeros (accepted_of 1 xs);
       some = λ d. (said (accepted_of 1 xs) d, near xs d);

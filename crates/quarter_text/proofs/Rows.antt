@@ -1,4 +1,5 @@
 -- The lines of sheets and the accepted ones of them: a sheet more, sheets cut at the room, and how many and how large they are. Assumes nothing.
+-- In order: a sheet more, behind the others; sheets cut at a room of one byte more than the longest; how many, and how large.
 use mathlib.Core.Path.{◌≡◌, refl, sym, ap, ◌∙◌}
 use mathlib.Core.List.{List, [], ◌∷◌, ◌++◌, map, append_assoc, append-nil}
 use Prim.Native.Nat.{ℕ, suc, ◌+◌, ◌≤◌, ◌<◌}
@@ -8,22 +9,22 @@ use lib.ListN.{length, take, length-append}
 use lib.Seq.{take_all}
 use Rattle.basics.specs.Each.{Each}
 use Rattle.basics.proofs.Picks.{if_ge}
-use Rattle.basics.proofs.Eaches.{each_append}
+use Rattle.basics.proofs.Elements.{each_append}
 use Rattle.judgement.specs.Sheet.{sheet_of}
 use Rattle.judgement.specs.Judgement.{Judgement, judgement}
 use Rattle.judgement.specs.Judgement.Judgement.{turned_away, sound}
-use Rattle.judgement.proofs.Accepted.{sound_accepted}
+use Rattle.judgement.proofs.Acceptance.{sound_accepted}
 use Rattle.sheet_length.specs.Measured.{longest_sheet}
 use Rattle.quarter_sheet.specs.Answer.{most_buffer}
 use Rattle.quarter_sheet.proofs.Answers.{cut_judged, buffer_most}
 use Rattle.report_line.specs.Line.{line_bytes, row_in}
-use Rattle.report_line.proofs.ReadBack.{length_in_lem}
+use Rattle.report_line.proofs.Readback.{length_in_lem}
 use Rattle.quarter_stream.specs.Sheets.{Sheets, sheets_of, count}
-use Rattle.summary.specs.Together.{total, summary_of}
+use Rattle.summary.specs.Summaries.{total, summary_of}
 use Rattle.summary.specs.declared.Accepted.{Accepted}
-use Rattle.summary.proofs.Foremost.{each_map}
+use Rattle.summary.proofs.Extremes.{each_map}
 use Rattle.summary.proofs.Summaries.{total_most}
-use Rattle.quarter_text.specs.Printout.{most_sheets, columns, Few, answered, sheet_row, sheet_rows, sound_as, accepted_as, accepted_of, summary_rows, closed_or25, ending}
+use Rattle.quarter_text.specs.Printout.{most_sheets, columns, SummaryFits, answered, sheet_row, sheet_rows, sound_as, accepted_as, accepted_of, summary_rows, closed_or25, ending}
 
 -- not more than 60 sheets are all answered
 pub all_answered : (s : List ℕ) → count (sheets_of s) ≤ most_sheets → answered s ≡ (sheets_of s).closed
@@ -112,8 +113,8 @@ unfolding summary_of total
 summary_total [] = refl
 summary_total (a ∷ xs) = refl
 
-pub few_accepted : (n : ℕ) (xs : List (List ℕ)) → length xs ≤ most_sheets → Few (summary_of (accepted_of n xs))
-few_accepted n xs h =
+pub accepted_summary_fits : (n : ℕ) (xs : List (List ℕ)) → length xs ≤ most_sheets → SummaryFits (summary_of (accepted_of n xs))
+accepted_summary_fits n xs h =
     let ys = accepted_of n xs in
     let l = few_of n xs in
     let bounded = each_map (λ (a : Accepted) (s : Small (n + length xs) a). s.buffer) ys (small_of n (n + length xs) xs (omega arith)) in

@@ -6,7 +6,7 @@ use Rattle.judgement.specs.Judgement.{judgement}
 use Rattle.report_line.specs.Line.{found_at}
 use Rattle.quarter_stream.specs.Sheets.{sheets_of, count}
 use Rattle.summary.specs.declared.Summary.{Summary}
-use Rattle.summary.specs.Together.{items_of, SummaryIs}
+use Rattle.summary.specs.Summaries.{items_of, SummaryIs}
 use Rattle.summary.specs.Exact.{TotalDemand}
 use Rattle.quarter_text.specs.Printout.{most_sheets, columns, SUM, sound_as, accepted_of}
 

@@ -17,7 +17,7 @@ use Rattle.report.specs.Rows.{row, items_from}
 use Rattle.quarter_stream.specs.Sheets.{Sheets, sheets_of, count}
 use Rattle.summary.specs.declared.Accepted.{Accepted}
 use Rattle.summary.specs.declared.Summary.{Summary}
-use Rattle.summary.specs.Together.{summary_of, items_of}
+use Rattle.summary.specs.Summaries.{summary_of, items_of}
 
 -- 'up to 60 sheets'
 abbrev pub most_sheets : ℕ
@@ -28,8 +28,8 @@ abbrev pub columns : ℕ
 columns = 19
 
 -- a summary of at most 60 sheets: a sheet more passes no word
-abbrev pub Few : Summary → Type 0
-Few m = (m.count ≤ most_sheets) × (m.total ≤ most_buffer * most_sheets)
+abbrev pub SummaryFits : Summary → Type 0
+SummaryFits m = (m.count ≤ most_sheets) × (m.total ≤ most_buffer * most_sheets)
 
 -- the codes of a sheet's line and of the summary's, as bytes
 abbrev pub SHT : List ℕ

@@ -4,9 +4,9 @@
 ghost use Rattle.std.specs.Prelude.{◌≡◌, List, ◌++◌, length};
 ghost use Rattle.judgement.specs.Judgement.{judgement};
 ghost use Rattle.report_line.specs.Line.{line_bytes, row_in};
-ghost use Rattle.summary.specs.Together.{summary_of};
+ghost use Rattle.summary.specs.Summaries.{summary_of};
 ghost use Rattle.summary.specs.declared.Accepted.{Accepted};
-ghost use Rattle.quarter_text.specs.Printout.{columns, Few, sheet_row, accepted_as};
+ghost use Rattle.quarter_text.specs.Printout.{columns, SummaryFits, sheet_row, accepted_as};
 
 use report_line::Row;
 use summary::{Accepted, Summary};
@@ -19,7 +19,7 @@ pub const LINE_BYTES: usize = 30;
 
 // A sheet that is closed, with its number: its line, and the summary with it.
 pub fn answer_sheet(sheet: &[u8], line: &mut [u8], number: usize, summary: Summary) -> Summary
-    requires { (length line.old ≡ line_bytes columns) × Few summary }
+    requires { (length line.old ≡ line_bytes columns) × SummaryFits summary }
     ensures line_after { line.new ≡ row_in columns (sheet_row number (judgement sheet.now)) }
     ensures summed { (xs : List Accepted) → summary ≡ summary_of xs → result ≡ summary_of (xs ++ accepted_as number (judgement sheet.now)) }
 {

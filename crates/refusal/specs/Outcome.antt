@@ -50,6 +50,13 @@ abbrev pub stated_by : {A : Type 0} → (A → List ℕ) → Result A Refusal �
 stated_by values (Ok x) = accepted (values x)
 stated_by values (Err r) = refused (rule_number r.0) r.1
 
+-- the same where a call gives one number, an amount or how many bytes it wrote, and where it gives several
+abbrev pub stated_number : Result ℕ Refusal → Outcome
+stated_number = stated_by (λ n. n ∷ [])
+
+abbrev pub stated_numbers : Result (List ℕ) Refusal → Outcome
+stated_numbers = stated_by (λ ns. ns)
+
 -- a place as its kind, which include/tsav.h names, and its line, position, risk or sheet; no place has 0
 abbrev pub place_of : Place → List ℕ
 place_of Nowhere = 0 ∷ 0 ∷ []

@@ -12,7 +12,7 @@ use Rattle.basics.proofs.Stretches.{Wrote, nothing, lent_part}
 use Rattle.basics.proofs.Stretches as lent
 use Rattle.sizes.specs.Sizes.{number_columns}
 use Rattle.report_line.specs.Line.{line_bytes, report_line_bytes, line_in, rows_in, print_rows}
-use Rattle.report_line.proofs.ReadBack.{length_in_lem, append_in}
+use Rattle.report_line.proofs.Readback.{length_in_lem, append_in}
 use Rattle.report.specs.Rows.{items_from}
 
 module _ (c : List ℕ) (b : ℕ) where

@@ -13,7 +13,7 @@ use Rattle.figures.specs.Parts.{figure_list, numbered_figures}
 use Rattle.figures.specs.declared.NumberedFigures.{NumberedFigures}
 use Rattle.report_line.specs.declared.Row.{Row}
 use Rattle.report_line.specs.Line.{report_line_bytes, rows_in, print_rows}
-use Rattle.report_line.proofs.ReadBack.{rows_append}
+use Rattle.report_line.proofs.Readback.{rows_append}
 use Rattle.report.specs.Rows.{BLK, TOT, items_from, block_rows, table_rows, report_bytes, report_length, totals}
 use Rattle.report.proofs.Items.{items_long}
 

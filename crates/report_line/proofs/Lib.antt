@@ -1,3 +1,3 @@
 -- A line of the report as it is written, and read back. Assumes nothing.
-pub mod Filled
-pub mod ReadBack
+pub mod LineBytes
+pub mod Readback

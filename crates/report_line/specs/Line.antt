@@ -6,19 +6,20 @@ use Rattle.std.specs.Prelude.{Option, None, ℕ, zero, suc, ◌+◌, ◌/◌, Bo
 use Rattle.basics.specs.Pick.{pick}
 use Rattle.sizes.specs.Sizes.{number_columns}
 use Rattle.field.specs.Field.{field, decimal}
+use Rattle.key_columns.specs.Key.{key_bytes, key}
 use Rattle.report_line.specs.declared.Row.{Row}
 
--- the bytes of a line whose number has w columns: ten stand before it, and the line feed after it
+-- how many columns stand before the number: 1–9 and a space
+abbrev pub before_number : ℕ
+before_number = key_bytes + 1
+
+-- the bytes of a line whose number has w columns, the line feed after it
 abbrev pub line_bytes : ℕ → ℕ
-line_bytes w = 10 + w + 1
+line_bytes w = before_number + w + 1
 
 -- 'A report line has 29 bytes'
 abbrev pub report_line_bytes : ℕ
 report_line_bytes = 29
-
--- columns 1–9: code, block and item
-unfoldable pub key : List ℕ → ℕ → ℕ → List ℕ
-key code block item = code ++ (32 ∷ []) ++ decimal 2 block ++ (32 ∷ []) ++ decimal 2 item
 
 -- a line whose number has w columns
 unfoldable pub line_in : ℕ → List ℕ → ℕ → ℕ → ℕ → List ℕ
@@ -51,7 +52,7 @@ equal_bytes (a ∷ s) (b ∷ t) = pick (eqb a b) (equal_bytes s t) false
 -- the number in the w columns from 11 on of the first of n lines whose columns 1–9 are k; none where there is none
 unfoldable pub found_in : ℕ → ℕ → List ℕ → List ℕ → Option ℕ
 found_in w zero report k = None
-found_in w (suc n) report k = pick (equal_bytes (take 9 report) k) (field (take w (drop 10 report))) (found_in w n (drop (line_bytes w) report) k)
+found_in w (suc n) report k = pick (equal_bytes (take key_bytes report) k) (field (take w (drop before_number report))) (found_in w n (drop (line_bytes w) report) k)
 
 -- the number that lines give for a code, a block and an item
 unfoldable pub found_at : ℕ → List ℕ → List ℕ → ℕ → ℕ → Option ℕ

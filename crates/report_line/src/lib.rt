@@ -3,27 +3,16 @@
 
 ghost use Rattle.std.specs.Prelude.{◌≡◌, ◌-◌, ◌<◌, length};
 ghost use Rattle.sizes.specs.Sizes.{number_columns};
-ghost use Rattle.report_line.specs.Line.{line_bytes, report_line_bytes, key, row_in};
+ghost use Rattle.report_line.specs.Line.{line_bytes, report_line_bytes, row_in};
 
-use field::{two_columns, write_field};
+use field::write_field;
+use key_columns::{KEY_BYTES, write_key};
 
 // The bytes of a line, its line feed with them.
 pub const REPORT_LINE_BYTES: usize = 29;
 
-// Columns 1–9: code, block and item.
-pub const KEY_BYTES: usize = 9;
-
-// Where the columns of the code end, and where those of the block and of the item begin and end.
-const CODE_END: usize = 3;
-
-const BLOCK: usize = 4;
-
-const BLOCK_END: usize = 6;
-
-const ITEM: usize = 7;
-
 // Where the columns of the number begin, and where they end in a line of the report.
-pub const NUMBER: usize = 10;
+pub const NUMBER: usize = KEY_BYTES + 1;
 
 pub const NUMBER_END: usize = REPORT_LINE_BYTES - 1;
 
@@ -57,16 +46,4 @@ impl Row {
         write_field(&mut out[NUMBER..last], self.number);
         out[last] = b'\n';
     }
-}
-
-// Writes columns 1–9 into their own stretch: a code and two numbers, with a space before each.
-pub fn write_key(out: &mut [u8], code: [u8; 3], block: u64, item: u64)
-    requires { length out.old ≡ 9 }
-    ensures { out.new ≡ key code block item }
-{
-    out[0..CODE_END].copy_from_slice(&code);
-    out[CODE_END] = b' ';
-    out[BLOCK..BLOCK_END].copy_from_slice(&two_columns(block));
-    out[BLOCK_END] = b' ';
-    out[ITEM..KEY_BYTES].copy_from_slice(&two_columns(item));
 }

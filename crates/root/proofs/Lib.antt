@@ -3,4 +3,4 @@
 pub mod Lengths
 pub mod Windows
 pub mod Floors
-pub mod Rooted
+pub mod Roots

@@ -59,21 +59,21 @@ pub fn root_and_steps(n: Wide) -> Root
 
 // What is held between two steps: the digits of the radicand that are not yet brought down, the root so far, and what its square leaves.
 #[derive(Clone, Copy)]
-struct Held {
+struct RootSoFar {
     window: Wide,
     root: u64,
     rest: u64,
 }
 
 // One step, of whatever radicand n: from what is held after step j to what is held after step j + 1.
-fn step(window: Wide, root: u64, rest: u64) -> Held
+fn step(window: Wide, root: u64, rest: u64) -> RootSoFar
     requires { (rest ≤ 2 * root) × (root < 2 ^ 61) × (window.high < 2 ^ 62) }
     ensures { (n j : ℕ) → n < 2 ^ 124 → j < steps n → After n j (value window) root rest → After n (j + 1) (value result.window) result.root result.rest }
 {
     let digits = top_digits(window);
     let moved = bring_down(window);
     let longer = root_step(root, rest, digits);
-    Held {
+    RootSoFar {
         window: moved,
         root: longer.root,
         rest: longer.rest,

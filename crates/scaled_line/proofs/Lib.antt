@@ -1,6 +1,6 @@
 -- What holds of a line in either sort of sheet. Assumes nothing.
-pub mod Small
-pub mod Scaled
+pub mod SmallLetters
+pub mod ScaledAmounts
 pub mod Lines
 pub mod Moves
-pub mod Stored
+pub mod StoredLines

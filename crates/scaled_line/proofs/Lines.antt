@@ -7,25 +7,25 @@ use lib.ListN.{length}
 use Rattle.basics.proofs.Picks.{by_test, never}
 use Rattle.refusal.specs.Outcome.{rule_number, Judging, judging}
 use Rattle.layout.specs.Columns.{sheet_line_bytes}
-use Rattle.layout.proofs.Laid.{length_lettered}
+use Rattle.layout.proofs.Columns.{length_lettered}
 use Rattle.sheet_line.specs.Line.{numbers_of}
 use Rattle.sheet_line.specs.Rules.{AcceptedLine}
 use Rattle.refusal.specs.declared.Rule.{Rule}
 use Rattle.sheet_line.specs.declared.Entry.{Entry}
-use Rattle.sheet_line.proofs.Accepted.{line_good}
-use Rattle.sheet_line.proofs.Printed.{parse_print, print_parsed}
+use Rattle.sheet_line.proofs.Acceptance.{line_good}
+use Rattle.sheet_line.proofs.PrintedLines.{parse_print, print_parsed}
 use Rattle.sheet_line.proofs.Refusals.{line_judging}
-use Rattle.scaled_line.specs.Scale.{letters_in, raised, parse_in, print_in}
+use Rattle.scaled_line.specs.Scale.{letters_in, with_capitals, parse_in, print_in}
 use Rattle.scaled_line.specs.Amounts.{barred_by, rule20or21, convertible}
 use Rattle.scaled_line.specs.declared.Scale.{Scale}
 use Rattle.scaled_line.specs.declared.Scale.TheVariants.{Cents, Thousands}
-use Rattle.scaled_line.proofs.Small.{three_in, length_raised, small_printed, small_read}
+use Rattle.scaled_line.proofs.SmallLetters.{three_in, length_with_capitals, small_printed, small_read}
 
 -- ---- read and printed
 
 pub line_accepted : (d : Scale) (s : List ℕ) → length s ≡ sheet_line_bytes → (e : Entry) → parse_in d s ≡ Ok e → AcceptedLine e
 line_accepted Cents s h e q = line_good s h e q
-line_accepted Thousands s h e q = line_good (raised s) (length_raised s h) e q
+line_accepted Thousands s h e q = line_good (with_capitals s) (length_with_capitals s h) e q
 
 pub line_printed : (d : Scale) (s : List ℕ) → length s ≡ sheet_line_bytes → (e : Entry) → parse_in d s ≡ Ok e → s ≡ print_in d e
 line_printed Cents s h e q = print_parsed s h e q
@@ -42,7 +42,7 @@ length_in_lem d e = length_lettered (letters_in d e.code) (three_in d e.code) (n
 
 pub line_refused : (d : Scale) (s : List ℕ) (r : Rule) → parse_in d s ≡ Err r → Judging (rule_number r)
 line_refused Cents s r q = line_judging s r q
-line_refused Thousands s r q = line_judging (raised s) r q
+line_refused Thousands s r q = line_judging (with_capitals s) r q
 
 barred_judging : (d : Scale) → Judging (rule_number (barred_by d))
 barred_judging Cents = judging 20 refl refl refl

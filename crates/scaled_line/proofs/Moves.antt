@@ -1,5 +1,6 @@
 -- A line that its rules let pass, in the other sort of sheet: its letters are the other ones, and an amount in cents is one in thousands of dollars
 -- with five zeros behind it, so that the columns of each are those of the other, moved by five. Assumes nothing.
+-- In order: zeros behind a number, and spaces before it; a number's last two columns; an amount; the scalar's line; a line.
 use Rattle.std.specs.Prelude.{Ok}
 use mathlib.Core.Path.{◌≡◌, refl, sym, ap, ◌∙◌}
 use mathlib.Core.Bool.{Bool, true, false}
@@ -14,28 +15,30 @@ use lib.ListN.{length, take, drop, replicate}
 use lib.Seq.{take_at, append_snoc}
 use borrow.Author.Tests.{eq-eqb, ne_eqb}
 use Rattle.basics.specs.Pick.{pick}
-use Rattle.basics.proofs.Picks.{if_true, if_false, if_ne}
+use Rattle.basics.proofs.Picks.{if_true, if_false, if_eq, if_ne}
 use Rattle.basics.proofs.Values.{values, is_values}
 use Rattle.field.specs.Field.{digit_or_space, leading_digits, decimal}
-use Rattle.field.proofs.Writing.{length_decimal}
+use Rattle.field.proofs.WrittenColumns.{length_decimal}
 use Rattle.field.proofs.Inverse.{digit_shown, leading_decimal, space_decimal}
 use Rattle.amount.specs.Amount.{limit}
+use Rattle.codes.specs.Codes.{scalar_class, row_of}
 use Rattle.codes.specs.declared.Code.{Code}
-use Rattle.codes.specs.declared.Code.TheVariants.{Rsk, Oth, Mor, Vol, Acq, Gen, Crd}
+use Rattle.codes.proofs.Table.{codes_same, rows_same}
+use Rattle.key_columns.specs.Key.{key}
 use Rattle.layout.specs.Columns.{sheet_line_bytes, lettered}
 use Rattle.layout.specs.declared.Numbers.{Numbers}
 use Rattle.sheet_line.specs.Line.{numbers_of}
-use Rattle.sheet_line.specs.Rules.{is_scalar, AcceptedLine}
+use Rattle.sheet_line.specs.Rules.{row_for, is_scalar, AcceptedLine}
 use Rattle.sheet_line.specs.declared.Entry.{Entry}
-use Rattle.scaled_line.specs.Scale.{lower, letters_in, parse_in, print_in}
-use Rattle.scaled_line.specs.Amounts.{thousand_dollars, of_scalar, convertible, in_other, amount_of, rescaled}
+use Rattle.scaled_line.specs.Scale.{to_small, letters_in, parse_in, print_in}
+use Rattle.scaled_line.specs.Amounts.{thousand_dollars, convertible, in_other, amount_of, rescaled}
 use Rattle.scaled_line.specs.Other.{other_line}
 use Rattle.line_fields.specs.Words.{amount_columns}
 use Rattle.scaled_line.specs.Moved.{other_case, zeros, keeps_amounts, holds_zero, shifted, moved_amount, moved_line}
 use Rattle.scaled_line.specs.declared.Scale.{Scale}
 use Rattle.scaled_line.specs.declared.Scale.TheVariants.{Cents, Thousands}
-use Rattle.scaled_line.proofs.Small.{three_in, letters_turned}
-use Rattle.scaled_line.proofs.Scaled.{Fits, other_none, Convertible, passes_convertible}
+use Rattle.scaled_line.proofs.SmallLetters.{three_in, letters_turned}
+use Rattle.scaled_line.proofs.ScaledAmounts.{Fits, other_none, Convertible, passes_convertible}
 use Rattle.scaled_line.proofs.Lines.{line_accepted, line_printed}
 
 -- ---- zeros behind a number, and spaces before it
@@ -119,23 +122,36 @@ amount_moved d false v h f =
 
 -- ---- the scalar's line
 
--- the bytes of a line that has a code tell it
-scalar_told : (d : Scale) (k : Code) (n : Numbers) → keeps_amounts (lettered (letters_in d k) n) ≡ is_scalar k n.class
-unfolding keeps_amounts lettered decimal leading_digits lower pick
-scalar_told Cents Rsk n = refl
-scalar_told Cents Oth n = refl
-scalar_told Cents Mor n = refl
-scalar_told Cents Vol n = refl
-scalar_told Cents Acq n = refl
-scalar_told Cents Gen n = last_two 4 n.class (omega arith)
-scalar_told Cents Crd n = refl
-scalar_told Thousands Rsk n = refl
-scalar_told Thousands Oth n = refl
-scalar_told Thousands Mor n = refl
-scalar_told Thousands Vol n = refl
-scalar_told Thousands Acq n = refl
-scalar_told Thousands Gen n = last_two 4 n.class (omega arith)
-scalar_told Thousands Crd n = refl
+-- the columns of a class show the scalar's
+abbrev shows_scalar : ℕ → Bool
+shows_scalar c = pick (eqb (digit_or_space (c / 10)) 32) (eqb (48 + c % 10) (48 + scalar_class)) false
+
+-- the bytes of a line that has a code tell it: the letters whether the code's rows have a scalar, and the columns of the class which
+bytes_told : (d : Scale) (n : Numbers) (k : Code) (b : ℕ)
+    → keeps_amounts (lettered (letters_in d k) n) ≡ pick (eqb (row_of k b).scalar 0) false (shows_scalar n.class)
+unfolding keeps_amounts lettered key decimal leading_digits to_small pick
+bytes_told Cents n k zero =
+    codes_same (λ k. keeps_amounts (lettered (letters_in Cents k) n)) (λ k. pick (eqb (row_of k 0).scalar 0) false (shows_scalar n.class)) refl k
+bytes_told Cents n k (suc b) =
+    codes_same (λ k. keeps_amounts (lettered (letters_in Cents k) n)) (λ k. pick (eqb (row_of k (suc b)).scalar 0) false (shows_scalar n.class)) refl k
+bytes_told Thousands n k zero =
+    codes_same (λ k. keeps_amounts (lettered (letters_in Thousands k) n)) (λ k. pick (eqb (row_of k 0).scalar 0) false (shows_scalar n.class)) refl k
+bytes_told Thousands n k (suc b) =
+    codes_same (λ k. keeps_amounts (lettered (letters_in Thousands k) n)) (λ k. pick (eqb (row_of k (suc b)).scalar 0) false (shows_scalar n.class)) refl k
+
+-- the class of the scalar is one, in whichever row
+one_scalar : (k : Code) (b : ℕ) → pick (eqb (row_of k b).scalar 0) scalar_class (row_of k b).scalar ≡ scalar_class
+unfolding pick
+one_scalar = rows_same (λ r. pick (eqb r.scalar 0) scalar_class r.scalar) (λ r. scalar_class) refl
+
+scalar_told : (d : Scale) (e : Entry) → 1 ≤ e.class → keeps_amounts (print_in d e) ≡ is_scalar e
+scalar_told d e h =
+    bytes_told d (numbers_of e) e.code e.block
+    ∙ ap (pick (eqb (row_for e).scalar 0) false) (last_two scalar_class e.class (omega arith))
+    ∙ elim (ℕ_discrete (row_for e).scalar 0) [
+      | yes z ↦ let n : e.class ≡ (row_for e).scalar → ⊥ = λ q. omega arith in if_eq _ z ∙ sym (ne_eqb _ _ n)
+      | no n ↦ if_ne _ n ∙ ap (eqb e.class) (sym (one_scalar e.code e.block) ∙ if_ne _ n)
+    ]
 
 -- ---- a line
 
@@ -148,12 +164,12 @@ module _ (d : Scale) (w : List ℕ) (h : length w ≡ 3) (n : Numbers) where
   moved v = moved_amount d (keeps_amounts (lettered w n)) (decimal amount_columns v)
 
   lettered_moved : moved_line d (lettered w n) ≡ before (moved n.first) (moved n.second)
-  unfolding moved_line lettered values decimal leading_digits
+  unfolding moved_line lettered key values decimal leading_digits
   lettered_moved = rw (is_values 0 3 w h) refl
 
   behind_letters : (f g : ℕ) → before (decimal amount_columns f) (decimal amount_columns g)
       ≡ lettered (map other_case w) (record { block = n.block; class = n.class; first = f; second = g })
-  unfolding lettered values decimal leading_digits
+  unfolding lettered key values decimal leading_digits
   behind_letters f g = rw (is_values 0 3 w h) refl
 
 -- the line of an entry
@@ -163,9 +179,9 @@ printed_moved d e a C =
     let w = letters_in d e.code in
     let n = numbers_of e in
     let m = a.amounts in
-    let amount : (v : ℕ) → v ≤ limit → (of_scalar e ≡ false → Fits d v)
+    let amount : (v : ℕ) → v ≤ limit → (is_scalar e ≡ false → Fits d v)
     → moved_amount d (keeps_amounts (lettered w n)) (decimal amount_columns v) ≡ decimal amount_columns (amount_of d e v) =
-    λ v b f. ap (λ (t : Bool). moved_amount d t (decimal amount_columns v)) (scalar_told d e.code n) ∙ amount_moved d (of_scalar e) v b f in
+    λ v b f. ap (λ (t : Bool). moved_amount d t (decimal amount_columns v)) (scalar_told d e a.key.one) ∙ amount_moved d (is_scalar e) v b f in
     let first = amount e.first m.first_most (λ s. (C.fit s).0) in
     let second = amount e.second m.second_most (λ s. (C.fit s).1) in
     lettered_moved d w (three_in d e.code) n

@@ -15,10 +15,6 @@ use Rattle.scaled_line.specs.declared.Scale.TheVariants.{Cents, Thousands}
 abbrev pub thousand_dollars : ℕ
 thousand_dollars = 100000
 
--- whether an entry is the scalar's line
-abbrev pub of_scalar : Entry → Bool
-of_scalar e = is_scalar e.code e.class
-
 -- ---- what is turned away
 
 -- an amount that the other sort of sheet can't have: 'an amount that isn't whole thousands', 'one that passes 14 digits in cents'
@@ -33,7 +29,7 @@ barred_by Thousands = rule.ThousandsAboveLimit
 
 -- whether an entry has such an amount; the scalar's line keeps its number
 unfoldable pub has_barred : Scale → Entry → Bool
-has_barred d e = pick (of_scalar e) false (pick (barred d e.first) true (barred d e.second))
+has_barred d e = pick (is_scalar e) false (pick (barred d e.first) true (barred d e.second))
 
 -- rule 20 of a sheet in cents, rule 21 of one in thousands
 unfoldable pub rule20or21 : Scale → Entry → Result Entry Rule
@@ -53,7 +49,7 @@ in_other Thousands n = n * thousand_dollars
 
 -- an amount of an entry in the other sort: the scalar's line keeps its number
 unfoldable pub amount_of : Scale → Entry → ℕ → ℕ
-amount_of d e n = pick (of_scalar e) n (in_other d n)
+amount_of d e n = pick (is_scalar e) n (in_other d n)
 
 -- an entry in the other sort of sheet
 abbrev pub rescaled : Scale → Entry → Entry

@@ -5,7 +5,8 @@
 use Rattle.std.specs.Prelude.{ℕ, ◌-◌, List, ◌++◌, map, Bool, true, false, eqb, get_or, take, drop, replicate, bit_xor}
 use Rattle.basics.specs.Pick.{pick}
 use Rattle.line_fields.specs.Words.{amount_columns}
-use Rattle.layout.specs.Columns.{byte_at, columns}
+use Rattle.key_columns.specs.Key.{columns, code_columns}
+use Rattle.layout.specs.Columns.{byte_at}
 use Rattle.scaled_line.specs.declared.Scale.{Scale}
 use Rattle.scaled_line.specs.declared.Scale.TheVariants.{Cents, Thousands}
 
@@ -38,5 +39,5 @@ moved_amount d kept l = pick kept l (pick (holds_zero l) l (shifted d l))
 -- a line in the other sort, whichever bytes it has: other letters, the amounts moved, every other column as it was
 unfoldable pub moved_line : Scale → List ℕ → List ℕ
 moved_line d s =
-    map other_case (columns 1 3 s) ++ columns 4 10 s ++ moved_amount d (keeps_amounts s) (columns 11 24 s)
+    map other_case (code_columns s) ++ columns 4 10 s ++ moved_amount d (keeps_amounts s) (columns 11 24 s)
     ++ columns 25 25 s ++ moved_amount d (keeps_amounts s) (columns 26 39 s) ++ columns 40 40 s

@@ -1,11 +1,11 @@
 // The amounts of a line in the two sorts of sheet: rules 20 and 21.
 ghost use Rattle.std.specs.Prelude.{◌≡◌};
-ghost use Rattle.scaled_line.specs.Amounts.{of_scalar, barred, barred_by, has_barred, convertible};
+ghost use Rattle.scaled_line.specs.Amounts.{barred, barred_by, has_barred, convertible};
 
 use super::Scale;
 use amount::LARGEST_AMOUNT;
 use refusal::Rule;
-use sheet_line::Entry;
+use sheet_line::{Entry, rules};
 
 // The cents of a thousand dollars.
 const THOUSAND_DOLLARS: u64 = 100000;
@@ -41,7 +41,7 @@ impl Scale {
     fn has_barred(self, e: Entry) -> bool
         ensures { result ≡ has_barred self e }
     {
-        !of_scalar(e) && (self.barred(e.first) || self.barred(e.second))
+        !rules::is_scalar(e) && (self.barred(e.first) || self.barred(e.second))
     }
 
     // Whether an amount isn't whole thousands; or one of thousands has more than 14 digits in cents.
@@ -53,12 +53,4 @@ impl Scale {
             Scale::Thousands => MOST_THOUSANDS < amount,
         }
     }
-}
-
-// Whether an entry is the scalar's line.
-fn of_scalar(e: Entry) -> bool
-    ensures { result ≡ of_scalar e }
-{
-    let code = e.code;
-    sheet_line::rules::is_scalar(code, e.class)
 }

@@ -13,7 +13,7 @@ const ZEROS: usize = 5;
 
 impl Scale {
     // Writes the columns of an amount as the other sort of sheet has them: as they stand where it is kept or is 0, else moved.
-    #[tactic(auto, using(crate::proofs::Stored::spaces_stored, crate::proofs::Stored::zeros_stored), unfolding(crate::specs::Moved::moved_amount, basics::specs::Pick::pick))]
+    #[tactic(auto, using(crate::proofs::StoredLines::spaces_stored, crate::proofs::StoredLines::zeros_stored), unfolding(crate::specs::Moved::moved_amount, basics::specs::Pick::pick))]
     pub(crate) fn move_amount(self, kept: bool, amount: &[u8], out: &mut [u8])
         requires { (length amount.now ≡ amount_columns) × (out.old ≡ amount.now) }
         ensures { out.new ≡ moved_amount self kept amount.now }

@@ -27,7 +27,7 @@ pub enum Scale {
 
 impl Scale {
     // Reads a line of a sheet of this sort: its columns, and its letters as capitals.
-    #[tactic(auto, using(crate::proofs::Small::read_by))]
+    #[tactic(auto, using(crate::proofs::SmallLetters::read_by))]
     pub fn read(self, line: &[u8; SHEET_LINE_BYTES]) -> Result<Entry, Rule>
         ensures { result ≡ parse_in self line.now }
     {
@@ -37,8 +37,8 @@ impl Scale {
     // Writes a line as the other sort of sheet has it. It isn't read again: where its rules let it pass, 20 and 21 among them, an amount keeps its digits
     // there, five columns further, with five zeros more or less; 0 and the scalar's line stay as they are. What stands after any other line is told
     // too, and nobody asks for it.
-    #[tactic(auto, using(crate::proofs::Stored::second_stands, crate::proofs::Stored::line_stored))]
-    pub fn write_other(self, line: &[u8; SHEET_LINE_BYTES], out: &mut [u8; SHEET_LINE_BYTES])
+    #[tactic(auto, using(crate::proofs::StoredLines::second_stands, crate::proofs::StoredLines::line_stored))]
+    pub fn write_other_scale(self, line: &[u8; SHEET_LINE_BYTES], out: &mut [u8; SHEET_LINE_BYTES])
         ensures { out.new ≡ moved_line self line.now }
     {
         let kept = columns::keeps_amounts(line);

@@ -1,6 +1,7 @@
 -- The sum over all i, j of factor × x(i) × x(j) along one risk: its root moves by at most as much as the risk's value. The form of x + s × e, with e one
 -- at that risk alone, has beside the two forms s times a pairing of x and e; the form at 8x less that pairing times e is never negative, which bounds
 -- the pairing by four roots of the form. Assumes nothing.
+-- In order: one risk alone; sums of two lines; the pairing with one risk is small; the root moves by at most as much as one value.
 use mathlib.Core.Path.{◌≡◌, refl, sym, ap, ◌∙◌}
 use Prim.Native.Nat.{ℕ, ◌+◌, ◌*◌, ◌/◌, ◌%◌, ◌≤◌, ◌<◌}
 use native.Mathlib.Nat.{mul-le-mul_left, mul-le-mul_right}
@@ -10,10 +11,11 @@ use lib.IntN.{ℤ, pos, neg_ℤ, nat_abs, ◌+ℤ◌, ◌*ℤ◌, +ℤ_invl, +�
 use Rattle.basics.specs.Pick.{pick}
 use Rattle.basics.proofs.Roots.{le_of_squares}
 use Rattle.basics.proofs.Values.{values, values_same}
+use Rattle.integer.specs.Sum.{sum}
 use Rattle.integer.proofs.Integer.{ring, +ℤ-*ℤ, abs_neg, abs_add, abs_mul}
+use Rattle.integer.proofs.Sums.{sum_same, sum_add, sum_times}
 use Rattle.sizes.specs.Sizes.{risks, products}
 use Rattle.guideline.specs.Factors.{factors, factor}
-use Rattle.guideline.proofs.Sums.{sum, sum_same, sum_add, sum_times}
 use Rattle.guideline.proofs.Squares.{product, square_pos}
 use Rattle.guideline.proofs.Table.{form, form_natural}
 

@@ -1,13 +1,13 @@
 -- Document 02, #111, 'One input moved': 'Actuaries ask how far a late correction can swing the result'. A block with one IR(i) raised by t cents,
--- and what is said of its exact and its reported K. proofs/Moved proves it of every accepted block (`block_moves`). Assumes nothing.
+-- and what is said of its exact and its reported K. proofs/Movement proves it of every accepted block (`block_moves`). Assumes nothing.
 use Rattle.std.specs.Prelude.{◌≡◌, List, ℕ, ◌+◌, ◌-◌, ◌*◌, ◌<◌, ℤ, pos, ◌-ℤ◌, set}
 use Rattle.std.proofs.Common.{sym, ap, ◌∙◌, arith}
 use Rattle.std.proofs.Math.IntN.{sub_ℕ}
 use Rattle.guideline.specs.Block.{ir, K}
-use Rattle.accuracy.specs.Difference.{diff_less}
 use Rattle.accuracy.specs.Fraction.{Fraction, numerator}
 use Rattle.accuracy.specs.Exact.{StrictlyBelowK}
 use Rattle.integer.proofs.Integer.{as_diff, diff_eq}
+use Rattle.integer.proofs.Difference.{diff_less}
 
 -- 'if one IR(i) is raised by t cents, all else kept'
 unfoldable pub raised : List ℕ → ℕ → ℕ → List ℕ

@@ -1,5 +1,5 @@
 -- The laws behind the shares call: the block without a part, its margins, its rules, and what they leave.
-pub mod Without
+pub mod PartsLeftOut
 pub mod Margins
 pub mod Rules
-pub mod Accepted
+pub mod Acceptance

@@ -10,7 +10,7 @@ use lib.ListN.{length, set}
 use borrow.Author.Tests.{lt-ltb, le-ltb}
 use Rattle.basics.specs.First.{any_to}
 use Rattle.basics.specs.Total.{sum_to}
-use Rattle.basics.proofs.Anys.{none_yet, next_decides, goes_on}
+use Rattle.basics.proofs.Existence.{none_yet, next_decides, goes_on}
 use Rattle.basics.proofs.Totals.{sum_step, sum_most}
 use Rattle.basics.proofs.Ascents.{Listed, listed_start, listed_more, listed_all}
 use Rattle.amount.specs.Amount.{limit}

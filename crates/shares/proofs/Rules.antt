@@ -17,7 +17,7 @@ use Rattle.guideline.specs.Block.{AcceptedBlock, K}
 use Rattle.block.specs.Call.{block_call}
 use Rattle.apportion.specs.Shares.{value_of_part, total, shares}
 use Rattle.apportion.specs.Steps.{Shareable}
-use Rattle.apportion.proofs.Fair.{of_part}
+use Rattle.apportion.proofs.Fairness.{of_part}
 use Rattle.apportion.proofs.Parts.{shares_alike}
 use Rattle.shares.specs.Margins.{negative, margin}
 use Rattle.shares.specs.Call.{after_block, unless_zero, rule23, shares_call}

@@ -1,8 +1,9 @@
 -- What the shares call accepts, after document 02, #112: just the blocks that rules 7, 8, 9 and 23 leave; and what is true of the shares where it
--- does. proofs/Accepted proves both of every call. Assumes nothing.
+-- does. proofs/Acceptance proves both of every call. Assumes nothing.
 use Rattle.std.specs.Prelude.{◌≡◌, List, ℕ, ◌+◌, ◌≤◌, length}
 use Rattle.refusal.specs.Outcome.{Outcome}
 use Rattle.refusal.specs.Outcome.Outcome.{accepted, refused}
+use Rattle.refusal.specs.Accepted.{AcceptsJust, IfAccepted}
 use Rattle.refusal.specs.declared.Place.{Place}
 use Rattle.refusal.specs.declared.Place.TheVariants.{Nowhere}
 use Rattle.sizes.specs.Sizes.{block_numbers, parts}
@@ -19,18 +20,16 @@ pub record AcceptedShares (b : List ℕ) : Type 0 where
   pub none_negative : (p : ℕ) → 1 ≤ p → p ≤ parts → k_without b p ≤ K b
   pub not_all_zero : ((p : ℕ) → 1 ≤ p → p ≤ parts → margin b p ≡ 0) → ⊥
 
--- of any numbers
-pub record AcceptsShares (b : List ℕ) : Type 0 where
-  -- 17 numbers that the rules leave are accepted, with their shares
-  pub accepts : length b ≡ block_numbers → AcceptedShares b → shares_call b ≡ accepted (shares (K b) (margin b))
-  -- and of 17 numbers no others are
-  pub accepted_only : (vs : List ℕ) → shares_call b ≡ accepted vs → AcceptedShares b
+-- of any numbers: 17 that the rules leave are accepted, with their shares, and no others are
+abbrev pub AcceptsShares : List ℕ → Type 0
+AcceptsShares b = AcceptsJust (length b ≡ block_numbers) (AcceptedShares b) (shares (K b) (margin b)) (shares_call b)
+
+-- of any numbers, by what the block call says of them
+pub record RefusesShares (b : List ℕ) : Type 0 where
   -- what the block call refuses is refused as it refuses it
   pub kept : (n : ℕ) (p : Place) → block_call b ≡ refused n p → shares_call b ≡ refused n p
   -- what it accepts is refused by 23 alone, 'with no place'
   pub refused_by : (n : ℕ) (p : Place) (ws : List ℕ) → block_call b ≡ accepted ws → shares_call b ≡ refused n p → (n ≡ 23) × (p ≡ Nowhere)
-  -- no refusal has the number 0
-  pub never_0 : (p : Place) → shares_call b ≡ refused 0 p → ⊥
 
 -- of a block and the ten shares that the call gives it
 pub record SharesOf (b vs : List ℕ) : Type 0 where
@@ -43,5 +42,4 @@ pub record SharesOf (b vs : List ℕ) : Type 0 where
 
 -- what the call promises, by its outcome
 abbrev pub SharesDemand : List ℕ → Outcome → Type 0
-SharesDemand b (accepted vs) = SharesOf b vs
-SharesDemand b (refused n p) = Unit {0}
+SharesDemand b = IfAccepted (SharesOf b)

@@ -1,21 +1,16 @@
 -- The shares call, after document 02, #112: 'It refuses, as number 23 with no place, a block with a negative margin or with all margins zero,
 -- after the block's own tests.' Assumes nothing.
-use Rattle.std.specs.Prelude.{Result, List, ℕ, eqb}
+use Rattle.std.specs.Prelude.{List, ℕ, eqb}
 use Rattle.basics.specs.Pick.{pick}
 use Rattle.basics.specs.First.{any_to}
-use Rattle.refusal.specs.Outcome.{Outcome, stated_by}
+use Rattle.refusal.specs.Outcome.{Outcome}
 use Rattle.refusal.specs.Outcome.Outcome.{accepted, refused}
 use Rattle.refusal.specs.declared.Place.TheVariants.{Nowhere}
-use Rattle.refusal.specs.declared.Refusal.{Refusal}
 use Rattle.sizes.specs.Sizes.{parts}
 use Rattle.guideline.specs.Block.{K}
 use Rattle.block.specs.Call.{block_call}
 use Rattle.apportion.specs.Shares.{total, shares}
 use Rattle.shares.specs.Margins.{negative, margin}
-
--- what the result says in document 02's numbers: the ten shares in the order of the parts, 1 to 10, or the refusal's number and place
-abbrev pub stated : Result (List ℕ) Refusal → Outcome
-stated = stated_by (λ shares. shares)
 
 -- 23 'with all margins zero', else the shares
 unfoldable pub unless_zero : List ℕ → Outcome

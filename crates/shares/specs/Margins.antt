@@ -11,7 +11,7 @@ use Rattle.guideline.specs.Block.{ir, lt, PC, credit, market, K}
 unfoldable pub without : List ℕ → ℕ → List ℕ
 without b p = pick (ltb risks p) (set b (p + 6) 0) (set (set b (2 * p - 2) 0) (2 * p - 1) 0)
 
--- the same in document 01's letters: the amounts of part p are 0, all others as they were; proofs/Without proves it of every part
+-- the same in document 01's letters: the amounts of part p are 0, all others as they were; proofs/PartsLeftOut proves it of every part
 pub record WithoutPart (b : List ℕ) (p : ℕ) : Type 0 where
   pub ir_is : (i : ℕ) → 1 ≤ i → i ≤ risks → ir (without b p) i ≡ pick (eqb p i) 0 (ir b i)
   pub lt_is : (i : ℕ) → 1 ≤ i → i ≤ risks → lt (without b p) i ≡ pick (eqb p i) 0 (lt b i)

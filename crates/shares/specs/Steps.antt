@@ -5,7 +5,7 @@ use Rattle.basics.specs.Ascending.{list_to}
 use Rattle.sizes.specs.Sizes.{parts}
 use Rattle.apportion.specs.Shares.{total}
 use Rattle.shares.specs.Margins.{negative, margin}
-use Rattle.shares.specs.declared.Found.{Found}
+use Rattle.shares.specs.declared.PartMargins.{PartMargins}
 
 -- the ten margins of a block, none of them negative, and their sum
 pub record AllMargins (b each : List ℕ) (sum : ℕ) : Type 0 where
@@ -14,6 +14,6 @@ pub record AllMargins (b each : List ℕ) (sum : ℕ) : Type 0 where
   pub sum_is : sum ≡ total (margin b)
 
 -- those, or that one of them is negative
-abbrev pub MarginsOf : List ℕ → Option Found → Type 0
+abbrev pub MarginsOf : List ℕ → Option PartMargins → Type 0
 MarginsOf b None = any_to (negative b) parts ≡ true
 MarginsOf b (Some f) = AllMargins b f.each f.sum

@@ -2,10 +2,11 @@
 #![tactic(auto)]
 
 ghost use Rattle.std.specs.Prelude.{◌≡◌, ◌≤◌};
+ghost use Rattle.refusal.specs.Outcome.{stated_numbers};
 ghost use Rattle.sizes.specs.Sizes.{parts};
 ghost use Rattle.guideline.specs.Block.{K};
 ghost use Rattle.shares.specs.Margins.{without, k_without};
-ghost use Rattle.shares.specs.Call.{stated, shares_call, rule23};
+ghost use Rattle.shares.specs.Call.{shares_call, rule23};
 ghost use Rattle.shares.specs.Accepted.{SharesDemand};
 ghost use Rattle.shares.specs.Steps.{MarginsOf};
 
@@ -15,7 +16,7 @@ use sizes::{BLOCK_NUMBERS, PARTS, RISKS};
 
 // The margins of the parts, and their sum.
 #[derive(Clone, Copy)]
-struct Found {
+struct PartMargins {
     each: [u64; PARTS],
     sum: u64,
 }
@@ -23,30 +24,30 @@ struct Found {
 // The shares of a block of any 17 numbers, seven pairs IR, LT, then PC, credit, market: those of the seven risks, then of PC, credit, market, in
 // cents. Where it is accepted, they total K, and each is within a cent of its unrounded share.
 pub fn shares_call(b: &[u64; BLOCK_NUMBERS]) -> Result<[u64; PARTS], Refusal>
-    ensures outcome { stated result ≡ shares_call b.now }
-    ensures shares_demand { SharesDemand b.now (stated result) }
+    ensures outcome { stated_numbers result ≡ shares_call b.now }
+    ensures shares_demand { SharesDemand b.now (stated_numbers result) }
 {
     let block = block::accepted_block(b)?;
-    rule_23(&block)
+    shares_of(&block)
 }
 
-// The shares of a block, or rule 23.
-fn rule_23(b: &Block) -> Result<[u64; PARTS], Refusal>
-    ensures { stated result ≡ rule23 b.now.numbers }
+// The shares of a block, or rule 23 where they can't be had.
+fn shares_of(b: &Block) -> Result<[u64; PARTS], Refusal>
+    ensures { stated_numbers result ≡ rule23 b.now.numbers }
 {
     let k = figures::figures_of(b).k;
-    let Some(found) = margins_of(b, k) else {
+    let Some(margins) = margins_of(b, k) else {
         return Err(Refusal(Rule::NoShares, Place::Nowhere));
     };
-    let sum = found.sum;
+    let sum = margins.sum;
     if sum == 0 {
         return Err(Refusal(Rule::NoShares, Place::Nowhere));
     }
-    Ok(apportion::shared_out(k, &found.each, sum))
+    Ok(apportion::shared_out(k, &margins.each, sum))
 }
 
 // The margins, where none is negative: the block is not worked out again after the first that is.
-fn margins_of(b: &Block, k: u64) -> Option<Found>
+fn margins_of(b: &Block, k: u64) -> Option<PartMargins>
     requires { k ≡ K b.now.numbers }
     ensures { MarginsOf b.now.numbers result }
 {
@@ -60,7 +61,7 @@ fn margins_of(b: &Block, k: u64) -> Option<Found>
         each[part] = k - less;
         sum += k - less;
     }
-    Some(Found { each, sum })
+    Some(PartMargins { each, sum })
 }
 
 // K with the amounts of a part, from 1 to 10, zero.

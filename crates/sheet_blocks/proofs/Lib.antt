@@ -1,2 +1,2 @@
 -- Laws of the blocks worked out. Assumes nothing.
-pub mod Figured
+pub mod WorkedBlocks

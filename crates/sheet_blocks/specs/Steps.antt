@@ -10,10 +10,10 @@ use Rattle.figures.specs.declared.NumberedFigures.{NumberedFigures}
 use Rattle.sheet_line.specs.declared.Entry.{Entry}
 use Rattle.ledger.specs.Numbers.{dividend_credit}
 use Rattle.sheet_blocks.specs.Blocks.{blocks_to, rows_to, dividend_barred}
-use Rattle.sheet_blocks.specs.declared.Worked.{Worked}
+use Rattle.sheet_blocks.specs.declared.BlockTotals.{BlockTotals}
 
 -- what is known of some blocks and of those after them
-abbrev pub join : Worked → Worked → Worked
+abbrev pub join : BlockTotals → BlockTotals → BlockTotals
 join w more =
     record {
       count = w.count + more.count;
@@ -24,7 +24,7 @@ join w more =
 
 -- the blocks 1 to n of the lines are worked out: how many exist, the sum of their K, the sum of their dividend credits, whether one of these is
 -- barred by rule 17, and the blocks' rows in front of a table for all blocks
-pub record WorkedOut (es : List Entry) (n : ℕ) (w : Worked) (rows : List NumberedFigures) : Type 0 where
+pub record WorkedOut (es : List Entry) (n : ℕ) (w : BlockTotals) (rows : List NumberedFigures) : Type 0 where
   pub count : w.count ≡ length (blocks_to es n)
   pub sum : w.sum ≡ sum_k (blocks_to es n)
   pub dividends : w.dividends ≡ sum_to (dividend_credit es) n

@@ -1,4 +1,5 @@
-// The blocks of a sheet worked out off the ledger that holds its lines: a row of figures for each, the sum of their K and of their dividend credits.
+// The blocks of a sheet worked out off the ledger that holds its lines: a row of figures for each, the sum of their K and of their dividend credits; and
+// rule 17's test, whether one of these is above its block's K.
 #![tactic(auto)]
 
 ghost use Rattle.std.specs.Prelude.{◌≡◌, ◌+◌, ◌-◌, ◌^◌, ◌≤◌, ◌<◌};
@@ -15,7 +16,7 @@ use sizes::BLOCKS;
 // Kept: a flag beside the sums, since a Result or an Option would drop the promise of the sums and rows of a barred sheet's blocks, and be no
 // plainer.
 #[derive(Clone, Copy)]
-pub struct Worked {
+pub struct BlockTotals {
     pub count: usize,
     pub sum: u64,
     pub dividends: u64,
@@ -24,11 +25,11 @@ pub struct Worked {
 
 // The rows of the blocks that exist, ascending, from the table's front on; behind them the table is as it was.
 // Kept: the rows beside the ledger, here, below and in judgement; they are the caller's memory, lent for the call.
-pub fn work_out(credited: &CreditedLedger<'_>, rows: &mut [NumberedFigures; BLOCKS]) -> Worked
+pub fn work_out(credited: &CreditedLedger<'_>, rows: &mut [NumberedFigures; BLOCKS]) -> BlockTotals
     ensures worked_out { OfLines credited.now.ledger.now (λ es. WorkedOut es blocks result rows.new) }
     ensures rest_kept { RestKept result.count rows.old rows.new }
 {
-    let mut w = Worked {
+    let mut w = BlockTotals {
         count: 0,
         sum: 0,
         dividends: 0,
@@ -46,8 +47,8 @@ fn work_block(
     credited: &CreditedLedger<'_>,
     rows: &mut [NumberedFigures; BLOCKS],
     block: usize,
-    w: Worked,
-) -> Worked
+    w: BlockTotals,
+) -> BlockTotals
     requires block_number { (1 ≤ block) × (block ≤ blocks) }
     requires worked_before { OfLines credited.now.ledger.now (λ es. WorkedOut es (block - 1) w rows.old) }
     ensures worked_out { OfLines credited.now.ledger.now (λ es. WorkedOut es block result rows.new) }
@@ -56,7 +57,7 @@ fn work_block(
     let ledger = credited.ledger;
     let dividend = credits::dividend_credit(ledger, block);
     if !ledger.block_exists(block) {
-        let absent = Worked {
+        let absent = BlockTotals {
             count: 0,
             sum: 0,
             dividends: dividend,
@@ -70,7 +71,7 @@ fn work_block(
         block: cast::word(block),
         figures,
     };
-    let present = Worked {
+    let present = BlockTotals {
         count: 1,
         sum: figures.k,
         dividends: dividend,
@@ -80,11 +81,11 @@ fn work_block(
 }
 
 // What is known of some blocks and of those after them.
-fn joined(w: Worked, more: Worked) -> Worked
+fn joined(w: BlockTotals, more: BlockTotals) -> BlockTotals
     requires { (w.count + more.count < 2 ^ 64) × (w.sum + more.sum < 2 ^ 64) × (w.dividends + more.dividends < 2 ^ 64) }
     ensures { result ≡ join w more }
 {
-    Worked {
+    BlockTotals {
         count: w.count + more.count,
         sum: w.sum + more.sum,
         dividends: w.dividends + more.dividends,

@@ -18,15 +18,15 @@ use Rattle.report_line.specs.Line.{number_at}
 use Rattle.sheet_line.specs.declared.Entry.{Entry}
 use Rattle.places.specs.Entries.{exists}
 use Rattle.report.specs.Rows.{BLK, TOT, totals}
-use Rattle.report.proofs.Reread.{total_read, figure_read}
+use Rattle.report.proofs.Readback.{total_read, figure_read}
 use Rattle.credits.specs.Credits.{after_credit}
 use Rattle.text_answer.specs.Lent.{Done}
 use Rattle.judgement.specs.Sheet.{sheet_of}
 use Rattle.judgement.specs.Judgement.{judgement}
 use Rattle.judgement.specs.Judgement.Judgement.{sound}
-use Rattle.credits.proofs.Accepted.{credit_accurate, block_accepted, credit_taken}
-use Rattle.judgement.proofs.Accepted.{exists_within, sound_passed, sound_accepted}
-use Rattle.sheet_answer.proofs.Judged.{by_answer}
+use Rattle.credits.proofs.Acceptance.{credit_accurate, block_accepted, credit_taken}
+use Rattle.judgement.proofs.Acceptance.{exists_within, sound_passed, sound_accepted}
+use Rattle.sheet_answer.proofs.Judgements.{by_answer}
 use Rattle.sheet_call.specs.Call.{block_rows_of, report_of, sheet_call}
 use Rattle.sheet_call.specs.Demand.{ReportedBlock, ReportDemand, Demand3, WholeNumbers, PrintedWhole}
 

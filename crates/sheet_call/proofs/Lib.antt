@@ -2,4 +2,4 @@
 pub mod Rows
 pub mod Rules
 pub mod Accuracy
-pub mod Alike
+pub mod AlikeSheets

@@ -15,7 +15,7 @@ use Rattle.guideline.specs.Block.{figures_of}
 use Rattle.guideline.specs.Buffer.{count}
 use Rattle.report_line.specs.declared.Row.{Row}
 use Rattle.report_line.specs.Line.{report_line_bytes, rows_in, print_rows}
-use Rattle.report_line.proofs.ReadBack.{rows_append}
+use Rattle.report_line.proofs.Readback.{rows_append}
 use Rattle.sheet_line.specs.declared.Entry.{Entry}
 use Rattle.places.specs.Entries.{exists}
 use Rattle.report.specs.Rows.{BLK, TOT, items_from, block_rows, table_rows, totals, report_length}

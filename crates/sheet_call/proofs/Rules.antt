@@ -14,16 +14,16 @@ use Rattle.sheet_line.specs.declared.Entry.{Entry}
 use Rattle.text_answer.specs.Lent.{Done, TooLong, untouched, lent}
 use Rattle.text_answer.specs.Printing.{ReadsRefusal, printout}
 use Rattle.text_answer.specs.Lent.Text.{bytes}
-use Rattle.text_answer.proofs.Lent.{lent_short, lent_filled}
+use Rattle.text_answer.proofs.LentRoom.{lent_short, lent_filled}
 use Rattle.report.specs.Rows.{total_rows, table_rows, report_bytes, report_length, longest_report}
 use Rattle.judgement.specs.Sheet.{sheet_of}
 use Rattle.judgement.specs.Judgement.{judgement, findings}
 use Rattle.judgement.specs.Judgement.Findings.{figures}
 use Rattle.judgement.specs.Judgement.Judgement.{turned_away}
-use Rattle.sheet_blocks.proofs.Figured.{few_blocks}
+use Rattle.sheet_blocks.proofs.WorkedBlocks.{few_blocks}
 use Rattle.judgement.proofs.Rules.{findings_figures}
-use Rattle.sheet_answer.proofs.Judged as judged
-use Rattle.sheet_answer.proofs.Judged.{of_lines}
+use Rattle.sheet_answer.proofs.Judgements as judged
+use Rattle.sheet_answer.proofs.Judgements.{of_lines}
 use Rattle.sheet_call.specs.Call.{report_of, answer_to, sheet_call}
 use Rattle.sheet_call.proofs.Rows.{table_lines, report_long}
 

@@ -2,7 +2,8 @@
 #![tactic(auto)]
 
 ghost use Rattle.std.specs.Prelude.{◌≡◌};
-ghost use Rattle.text_answer.specs.Lent.{stated, Done};
+ghost use Rattle.refusal.specs.Outcome.{stated_number};
+ghost use Rattle.text_answer.specs.Lent.{Done};
 ghost use Rattle.text_answer.specs.Printing.{printout, Printed};
 ghost use Rattle.judgement.specs.Judgement.{judgement};
 ghost use Rattle.sheet_call.specs.Call.{answer_to, sheet_call};
@@ -16,9 +17,9 @@ use sizes::BLOCKS;
 
 // A sheet of any bytes, and a lent report of any length: nothing is written of it before every rule passes.
 pub fn sheet_call(sheet: &[u8], report: &mut [u8]) -> Result<usize, Refusal>
-    ensures answer { ◌≡◌ {A = Done} (record { outcome = stated result; room = report.new }) (sheet_call sheet.now report.old) }
-    ensures demand3 { Demand3 sheet.now (stated result) report.new }
-    ensures printed_whole { PrintedWhole sheet.now (stated result) report.new }
+    ensures answer { ◌≡◌ {A = Done} (record { outcome = stated_number result; room = report.new }) (sheet_call sheet.now report.old) }
+    ensures demand3 { Demand3 sheet.now (stated_number result) report.new }
+    ensures printed_whole { PrintedWhole sheet.now (stated_number result) report.new }
 {
     let mut ledger = Ledger::new();
     let mut rows = [NumberedFigures::default(); BLOCKS];

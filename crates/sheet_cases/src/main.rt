@@ -69,13 +69,13 @@ fn run<R: Read>(rt: &impl Print, input: &mut R, sheet: &mut [u8], room: &mut [u8
         return;
     }
     let answer = sheet_call::sheet_call(sheet, room);
-    tell(rt, answer);
+    print_answer(rt, answer);
     show(rt, room);
     show(rt, b"\n");
 }
 
 // The answer in the form of a report line: ACC and the length, or REF, the number, the kind of the place and the place.
-fn tell(rt: &impl Print, answer: Result<usize, Refusal>) {
+fn print_answer(rt: &impl Print, answer: Result<usize, Refusal>) {
     let row = match answer {
         Ok(length) => Row {
             code: *b"ACC",

@@ -13,7 +13,8 @@ use Rattle.refusal.specs.declared.Rule.TheVariants as rule
 use Rattle.refusal.specs.Outcome.{rule_number, Judging, judging, printed}
 use Rattle.layout.specs.Columns.{sheet_line_bytes}
 use Rattle.layout.specs.Whole.{whole_lines, lines_kept}
-use Rattle.sheet_length.specs.Measured.{most_lines, longest_sheet, layout_first, rule2, measured}
+use Rattle.codes.specs.Codes.{most_lines}
+use Rattle.sheet_length.specs.Measured.{longest_sheet, layout_first, rule2, measured}
 
 module _ (s : List ℕ) where
   -- rule 1 turns it away, whatever its lines are

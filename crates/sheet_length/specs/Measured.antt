@@ -8,18 +8,11 @@ use Rattle.refusal.specs.declared.Place.TheVariants as place
 use Rattle.refusal.specs.declared.Refusal.{Refusal}
 use Rattle.refusal.specs.declared.Rule.TheVariants as rule
 use Rattle.refusal.specs.Outcome.{rule_number}
-use Rattle.sizes.specs.Sizes.{non_participating, participating, blocks, territories, volume_pairs, adjustable_products}
 use Rattle.layout.specs.Columns.{sheet_line_bytes}
 use Rattle.layout.specs.Whole.{whole_lines, lines_kept}
-use Rattle.codes.specs.Codes.{risk_classes, other_classes, mortality_classes, acquired_classes, general_classes, dividend_classes}
+use Rattle.codes.specs.Codes.{most_lines}
 
--- the lines that a sheet can have, one for each code, block and class: 629
-abbrev pub most_lines : ℕ
-most_lines =
-    blocks * (risk_classes + other_classes) + non_participating * mortality_classes + volume_pairs + territories * acquired_classes + general_classes
-    + participating * dividend_classes + adjustable_products
-
--- the bytes of that many lines
+-- the bytes of the most lines that a sheet can have
 abbrev pub longest_sheet : ℕ
 longest_sheet = sheet_line_bytes * most_lines
 

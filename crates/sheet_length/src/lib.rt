@@ -4,26 +4,11 @@
 ghost use Rattle.std.specs.Prelude.{◌≡◌};
 ghost use Rattle.sheet_length.specs.Measured.{measured};
 
-use codes::{
-    ACQUIRED_CLASSES, DIVIDEND_CLASSES, GENERAL_CLASSES, MORTALITY_CLASSES, OTHER_CLASSES,
-    RISK_CLASSES,
-};
+use codes::MOST_LINES;
 use layout::SHEET_LINE_BYTES;
 use refusal::{Place, Refusal, Rule};
-use sizes::{
-    ADJUSTABLE_PRODUCTS, BLOCKS, NON_PARTICIPATING, PARTICIPATING, TERRITORIES, VOLUME_PAIRS,
-};
 
-// The lines that a sheet can have, one for each code, block and class.
-pub const MOST_LINES: usize = BLOCKS * (RISK_CLASSES + OTHER_CLASSES)
-    + NON_PARTICIPATING * MORTALITY_CLASSES
-    + VOLUME_PAIRS
-    + TERRITORIES * ACQUIRED_CLASSES
-    + GENERAL_CLASSES
-    + PARTICIPATING * DIVIDEND_CLASSES
-    + ADJUSTABLE_PRODUCTS;
-
-// The bytes of that many lines.
+// The bytes of the most lines that a sheet can have.
 pub const LONGEST_SHEET: usize = SHEET_LINE_BYTES * MOST_LINES;
 
 // The room that a sheet is read into: a byte more than the longest sheet, so that a sheet that is too long is seen to be.

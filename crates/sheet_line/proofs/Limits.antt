@@ -12,6 +12,7 @@ use Rattle.refusal.specs.declared.Rule.{Rule}
 use Rattle.codes.specs.Codes.{is_code, code_among}
 use Rattle.codes.specs.declared.Code.{Code}
 use Rattle.codes.specs.declared.Code.TheVariants.{Rsk, Oth, Mor, Vol, Acq, Gen, Crd}
+use Rattle.key_columns.specs.Key.{key}
 use Rattle.layout.specs.Columns.{spaced, layout_of, lettered}
 use Rattle.sheet_line.specs.declared.Entry.{Entry}
 use Rattle.sheet_line.specs.Line.{print_line}
@@ -89,6 +90,6 @@ wanted (l ∷ ls) = l.number ∷ wanted ls
 
 pub limits_hold : found limits ≡ wanted limits
 unfolding
-    pick digits field digit_or_space leading_digits decimal is_code code_among spaced layout_of lettered outside second_barred trend_above
+    pick digits field digit_or_space leading_digits decimal is_code code_among spaced layout_of lettered key outside second_barred trend_above
     scalar_outside rule10 rule9 rule8 rule6 rule5 parse_line
 limits_hold = refl

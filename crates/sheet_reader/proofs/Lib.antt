@@ -1,2 +1,2 @@
 -- What holds of the ledger after some lines of a sheet. Assumes nothing.
-pub mod Filling
+pub mod FilledLedger

@@ -1,6 +1,6 @@
 -- How many there are of each thing, and how large a scalar and a figure can be, after documents 01 and 02. A number stands here or at the thing that it counts,
 -- once. Assumes nothing.
-use Rattle.std.specs.Prelude.{ℕ, ◌+◌, ◌*◌, ◌^◌, ◌<◌}
+use Rattle.std.specs.Prelude.{ℕ, ◌+◌, ◌-◌, ◌*◌, ◌^◌, ◌<◌}
 
 -- blocks without participation: 1 to this one. They alone have MOR lines
 abbrev pub non_participating : ℕ
@@ -29,6 +29,22 @@ other_amounts = 3
 -- the block call's numbers: seven pairs IR, LT, then PC, credit, market: 17
 abbrev pub block_numbers : ℕ
 block_numbers = 2 * risks + other_amounts
+
+-- where those that are no pair of a risk stand, by how many stand before: PC
+abbrev pub pc_position : ℕ
+pc_position = 2 * risks
+
+-- credit
+abbrev pub credit_position : ℕ
+credit_position = pc_position + 1
+
+-- market
+abbrev pub market_position : ℕ
+market_position = pc_position + 2
+
+-- the last LT, right before them
+abbrev pub last_lt_position : ℕ
+last_lt_position = pc_position - 1
 
 -- the parts that K is divided among (document 02, #112): risks 1 to 7, then 8 PC, 9 credit, 10 market
 abbrev pub parts : ℕ

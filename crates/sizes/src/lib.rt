@@ -22,6 +22,15 @@ pub const OTHER_AMOUNTS: usize = 3;
 // The block call's numbers: seven pairs IR, LT, then PC, credit, market.
 pub const BLOCK_NUMBERS: usize = 2 * RISKS + OTHER_AMOUNTS;
 
+// Where the numbers of a block that are no pair of a risk stand, by how many stand before: PC, credit and market; and the last LT, right before them.
+pub const PC_POSITION: usize = 2 * RISKS;
+
+pub const CREDIT_POSITION: usize = PC_POSITION + 1;
+
+pub const MARKET_POSITION: usize = PC_POSITION + 2;
+
+pub const LAST_LT_POSITION: usize = PC_POSITION - 1;
+
 // The parts that K is divided among: the risks, then PC, credit, market.
 pub const PARTS: usize = RISKS + OTHER_AMOUNTS;
 

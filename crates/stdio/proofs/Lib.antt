@@ -1,2 +1,2 @@
 -- What a program promises, of what is known after its input was answered.
-pub mod Printed
+pub mod PrintedText

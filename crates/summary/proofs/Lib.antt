@@ -1,4 +1,4 @@
 -- The foremost of some sheets, summaries that grow by a sheet, and the accuracy of the total. Assumes nothing.
-pub mod Foremost
+pub mod Extremes
 pub mod Summaries
 pub mod Totals

@@ -7,10 +7,10 @@ use native.Mathlib.Omega.{arith}
 use lib.ListN.{length, length-append}
 use Rattle.basics.proofs.Picks.{if_eq, if_ne}
 use Rattle.basics.specs.Each.{Each}
-use Rattle.summary.specs.Together.{leading, foremost, smaller, larger, total, summary_of, mean, remainder, SummaryIs}
+use Rattle.summary.specs.Summaries.{leading, foremost, smaller, larger, total, summary_of, mean, remainder, SummaryIs}
 use Rattle.summary.specs.declared.Accepted.{Accepted}
 use Rattle.summary.specs.declared.Summary.{Summary}
-use Rattle.summary.proofs.Foremost.{foremost_more, smallest_first, largest_first}
+use Rattle.summary.proofs.Extremes.{foremost_more, smallest_first, largest_first}
 
 pub total_more : (xs : List Accepted) (a : Accepted) → total (xs ++ (a ∷ [])) ≡ total xs + a.buffer
 unfolding total

@@ -1,3 +1,3 @@
 -- The summary of the accepted sheets, and the exact total. Assumes nothing.
-pub mod Together
+pub mod Summaries
 pub mod Exact

@@ -1,9 +1,9 @@
-// What is said of several sheets together: of those that are accepted their number, the smallest and the largest buffer, each with the first sheet
-// that has it, the total and the mean.
+// The quarter, request #114: of its accepted sheets the number, the smallest and the largest buffer, each with the first sheet that has it, the total
+// and the mean.
 #![tactic(auto)]
 
 ghost use Rattle.std.specs.Prelude.{◌≡◌, List, ◌∷◌, [], ◌++◌, ◌+◌, ◌^◌, ◌<◌};
-ghost use Rattle.summary.specs.Together.{summary_of, items_of};
+ghost use Rattle.summary.specs.Summaries.{summary_of, items_of};
 ghost use Rattle.summary.specs.declared.Accepted.{Accepted};
 
 use std::cmp::{max_by_key, min_by_key};
@@ -29,7 +29,7 @@ pub struct Summary {
 pub const SUMMARY_ITEMS: usize = 8;
 
 // No sheet yet.
-pub fn none() -> Summary
+pub fn no_sheets() -> Summary
     ensures { result ≡ summary_of [] }
 {
     let nothing = Accepted {

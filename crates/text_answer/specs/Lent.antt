@@ -3,17 +3,12 @@
 -- last, 'lent report shorter than the report', and then the text: it gives the length written, 'and bytes past it keep their content'. 'A refusal
 -- writes nothing.'
 -- Assumes nothing.
-use Rattle.std.specs.Prelude.{◌≡◌, Result, List, [], ◌∷◌, ◌++◌, ℕ, ◌≤◌, ◌<◌, ltb, length, drop}
+use Rattle.std.specs.Prelude.{◌≡◌, List, [], ◌∷◌, ◌++◌, ℕ, ◌≤◌, ◌<◌, ltb, length, drop}
 use Rattle.basics.specs.Pick.{pick}
-use Rattle.refusal.specs.Outcome.{Outcome, stated_by}
+use Rattle.refusal.specs.Outcome.{Outcome}
 use Rattle.refusal.specs.Outcome.Outcome.{accepted, refused}
 use Rattle.refusal.specs.declared.Place.{Place}
 use Rattle.refusal.specs.declared.Place.TheVariants.{Nowhere}
-use Rattle.refusal.specs.declared.Refusal.{Refusal}
-
--- what a call's result says: the length written, or the refusal's number and place
-abbrev pub stated : Result ℕ Refusal → Outcome
-stated = stated_by (λ n. n ∷ [])
 
 -- what a call has to say of its input, before the room is looked at
 pub data Text : Type 0 where

@@ -6,8 +6,9 @@ use Rattle.refusal.specs.declared.Place.{Place}
 use Rattle.refusal.specs.declared.Refusal.{Refusal}
 use Rattle.sizes.specs.Sizes.{number_columns}
 use Rattle.field.specs.Field.{field}
+use Rattle.key_columns.specs.Key.{code_columns, block_columns, class_columns}
 use Rattle.report_line.specs.declared.Row.{Row}
-use Rattle.report_line.specs.Line.{row_in}
+use Rattle.report_line.specs.Line.{before_number, row_in}
 use Rattle.text_answer.specs.Lent.{Text}
 use Rattle.text_answer.specs.Lent.Text.{no_text, bytes}
 
@@ -25,10 +26,10 @@ refusal_line n p = row_in number_columns (refusal_row n p)
 
 -- a text that begins with the line of a refusal, read back by the line's columns: the code, the refusal's number, 0 and the place, each whole
 pub record ReadsRefusal (n : ℕ) (p : Place) (text : List ℕ) : Type 0 where
-  pub code : take 3 text ≡ REF
-  pub number : field (take 2 (drop 4 text)) ≡ Some n
-  pub item : field (take 2 (drop 7 text)) ≡ Some 0
-  pub place : field (take number_columns (drop 10 text)) ≡ Some (printed p)
+  pub code : code_columns text ≡ REF
+  pub number : field (block_columns text) ≡ Some n
+  pub item : field (class_columns text) ≡ Some 0
+  pub place : field (take number_columns (drop before_number text)) ≡ Some (printed p)
 
 -- the text, or the line of the refusal
 unfoldable pub printout : Text → List ℕ

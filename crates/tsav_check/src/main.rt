@@ -2,14 +2,11 @@
 // or a write that fails is said on standard error; a sheet that could not be read gets neither.
 #![tactic(auto)]
 
-ghost use Rattle.std.specs.Prelude.{◌≡◌};
 ghost use Rattle.judgement.specs.Judgement.{judgement};
 ghost use Rattle.text_answer.specs.Printing.{printout};
 ghost use Rattle.check_call.specs.Call.{listing_to};
 ghost use Rattle.stdio.specs.Answered.{Prints};
 
-use needs::LONGEST_LISTING;
-use sheet_length::SHEET_ROOM;
 use std::io;
 use std::io::{Read, Write};
 use stdio::Failure;
@@ -26,21 +23,9 @@ fn main(rt: HostRuntime) {
 }
 
 // Of a sheet of any bytes and any length, the listing or the line of its refusal.
-// Kept: in each program, as the room, the call and its text differ: what the programs share is `stdio::answer`.
+// Kept: a call of a function that promises the same, so that this program promises its own text.
 fn answer<R: Read, W: Write>(input: &mut R, output: &mut W) -> Result<(), Failure>
     ensures { Prints (λ s. printout (listing_to (judgement s))) (R.remaining input.old) (W.contents output.old) (W.contents output.new) result }
 {
-    let mut sheet = [0u8; SHEET_ROOM];
-    let mut listing = [0u8; LONGEST_LISTING];
-    stdio::answer(
-        input,
-        output,
-        &mut sheet,
-        |sheet: &[u8]| -> &[u8]
-            ensures { result.now ≡ printout (listing_to (judgement sheet.now)) }
-        {
-            let length = check_call::print_check(sheet, &mut listing);
-            &listing[..length]
-        },
-    )
+    program_answers::check_sheet(input, output)
 }

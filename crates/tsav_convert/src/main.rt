@@ -2,12 +2,10 @@
 // or a write that fails is said on standard error; a sheet that could not be read gets neither.
 #![tactic(auto)]
 
-ghost use Rattle.std.specs.Prelude.{◌≡◌};
 ghost use Rattle.text_answer.specs.Printing.{printout};
 ghost use Rattle.convert.specs.Call.{conversion};
 ghost use Rattle.stdio.specs.Answered.{Prints};
 
-use sheet_length::{LONGEST_SHEET, SHEET_ROOM};
 use std::io;
 use std::io::{Read, Write};
 use stdio::Failure;
@@ -24,21 +22,9 @@ fn main(rt: HostRuntime) {
 }
 
 // Of a sheet of any bytes and any length, the converted sheet or the line of its refusal.
-// Kept: in each program, as the room, the call and its text differ: what the programs share is `stdio::answer`.
+// Kept: a call of a function that promises the same, so that this program promises its own text.
 fn answer<R: Read, W: Write>(input: &mut R, output: &mut W) -> Result<(), Failure>
     ensures { Prints (λ s. printout (conversion s)) (R.remaining input.old) (W.contents output.old) (W.contents output.new) result }
 {
-    let mut sheet = [0u8; SHEET_ROOM];
-    let mut converted = [0u8; LONGEST_SHEET];
-    stdio::answer(
-        input,
-        output,
-        &mut sheet,
-        |sheet: &[u8]| -> &[u8]
-            ensures { result.now ≡ printout (conversion sheet.now) }
-        {
-            let length = convert::print_converted(sheet, &mut converted);
-            &converted[..length]
-        },
-    )
+    program_answers::convert_sheet(input, output)
 }

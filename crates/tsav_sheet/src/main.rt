@@ -2,14 +2,11 @@
 // said on standard error; a sheet that could not be read gets neither a report nor a refusal.
 #![tactic(auto)]
 
-ghost use Rattle.std.specs.Prelude.{◌≡◌};
 ghost use Rattle.judgement.specs.Judgement.{judgement};
 ghost use Rattle.text_answer.specs.Printing.{printout};
 ghost use Rattle.sheet_call.specs.Call.{answer_to};
 ghost use Rattle.stdio.specs.Answered.{Prints};
 
-use report::LONGEST_REPORT;
-use sheet_length::SHEET_ROOM;
 use std::io;
 use std::io::{Read, Write};
 use stdio::Failure;
@@ -26,21 +23,9 @@ fn main(rt: HostRuntime) {
 }
 
 // Of a sheet of any bytes and any length, its report or the line of its refusal.
-// Kept: in each program, as the room, the call and its text differ: what the programs share is `stdio::answer`.
+// Kept: a call of a function that promises the same, so that this program promises its own text.
 fn answer<R: Read, W: Write>(input: &mut R, output: &mut W) -> Result<(), Failure>
     ensures { Prints (λ s. printout (answer_to (judgement s))) (R.remaining input.old) (W.contents output.old) (W.contents output.new) result }
 {
-    let mut sheet = [0u8; SHEET_ROOM];
-    let mut report = [0u8; LONGEST_REPORT];
-    stdio::answer(
-        input,
-        output,
-        &mut sheet,
-        |sheet: &[u8]| -> &[u8]
-            ensures { result.now ≡ printout (answer_to (judgement sheet.now)) }
-        {
-            let length = sheet_call::print_sheet(sheet, &mut report);
-            &report[..length]
-        },
-    )
+    program_answers::report_sheet(input, output)
 }

@@ -3,26 +3,34 @@
 from typing import NamedTuple, Optional
 
 import tsav
-from tsav.command import columns, compared, files, refusals, telling
+from tsav.command import columns, compared, files, kinds, refusals, telling
 from tsav.command.answer import Failure
 from tsav.command.messages import _
 from tsav.command.visible import visible
 
 
 class Refused(NamedTuple):
-    """A file that is refused, and why."""
+    """A file that is refused, why, and what it has."""
 
     name: str
     refusal: tsav.Refused
+    data: bytes
 
     def text(self) -> str:
-        said = _("{file} is refused: {refusal}. {what} tsav explain says what to mend.")
-        place, what = telling.refusal_place(self.refusal), refusals.words(self.refusal.number).what
-        return said.format(file=visible(files.shown(self.name)), refusal=place, what=what)
+        """What is no sheet in cents is told to be what it is."""
+        kind = self._kind()
+        said = _("{file} is refused: {refusal}. {what}") if kind else _("{file} is refused: {refusal}. {what} tsav explain says what to mend.")
+        return said.format(file=visible(files.shown(self.name)), refusal=telling.refusal_place(self.refusal), what=kind or self._what())
 
     def value(self) -> dict:
-        what = refusals.words(self.refusal.number).what
+        what = self._kind() or self._what()
         return {"file": self.name, "refusal": self.refusal.number, "line": self.refusal.line, "what": what}
+
+    def _kind(self) -> str:
+        return kinds.told(kinds.of(self.data), self.name)
+
+    def _what(self) -> str:
+        return refusals.words(self.refusal.number).what
 
 
 class Sheet:
@@ -71,5 +79,5 @@ def read(*names: str) -> tuple:
             sheets.append(Sheet(name, data))
         except tsav.Refused as refusal:
             sheets.append(None)
-            refused.append(Refused(name, refusal))
+            refused.append(Refused(name, refusal, data))
     return sheets, refused

@@ -9,7 +9,7 @@ decimal that is that float is what was typed into the cell, since amounts of up 
 import re
 from decimal import Decimal
 
-from tsav.command.messages import _
+from tsav.command.messages import _, language
 from tsav.command.money import LARGEST_AMOUNT, above_the_limit
 
 # What is taken for a space between thousands: the plain one, the no-break one, the narrow no-break one of French, the thin and the figure's.
@@ -41,12 +41,12 @@ def cents(value) -> int:
     if either:
         raise Unreadable(
             _("it may be {whole} or {decimal}: type it without a sign between thousands, or with two decimals").format(
-                whole="".join(either.groups()), decimal=".".join(either.groups())
+                whole="".join(either.groups()), decimal=decimal_sign().join(either.groups())
             )
         )
     whole, decimals = _parts(text)
     if len(decimals) > 2:
-        raise Unreadable(_("it has more than two decimals, and an amount is in whole cents"))
+        raise Unreadable(_("it has more than two decimals, and an amount is in whole cents: round it, up or down as it must be"))
     if len(whole) > _WHOLE_DIGITS:
         raise Unreadable(above_the_limit())
     return int(whole) * 100 + int(decimals.ljust(2, "0"))
@@ -64,6 +64,11 @@ def ten_thousandths(value) -> int:
     if len(decimals) > 4:
         raise Unreadable(finer)
     return int(whole) * 10_000 + int(decimals.ljust(4, "0"))
+
+
+def decimal_sign() -> str:
+    """The language's."""
+    return "." if language() == "en" else ","
 
 
 def whole(value) -> int:

@@ -13,9 +13,8 @@ def add(commands, common) -> None:
     parser = commands.add_parser(
         NAME,
         parents=[common],
-        allow_abbrev=False,
         help=_("work out the figures of a block: I, D, U, LT and K"),
-        usage=_("%(prog)s SHEET --block BLOCK [--json | --csv]\n       %(prog)s AMOUNT ... [--json | --csv]"),
+        usage=_("%(prog)s SHEET --block BLOCK [--json | --csv]\n%(prog)s AMOUNT ... [--json | --csv]"),
         description=_("Works out section 11.2 for a block of a sheet, after the credit of its MOR line, or for 17 amounts."),
     )
     given.add(parser)

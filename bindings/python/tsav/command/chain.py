@@ -1,5 +1,5 @@
-"""The way from a sheet's entries to its buffer: figure by figure, each an entry, a call's, or a step between these that is checked
-against the call. Where a step and a call differ there is no chain."""
+"""The way from a sheet's entries to its buffer: figure by figure, each an entry, a factor of the guideline, a call's, or a step between these that is
+checked against the call. Where a step and a call differ there is no chain."""
 
 from fractions import Fraction
 from typing import NamedTuple
@@ -9,8 +9,9 @@ from tsav.command import columns, compared, exactly, labels
 from tsav.command.answer import Failure
 from tsav.command.messages import N_, _
 
-ENTRY, CALL, STEP = "entry", "call", "step"
-CENTS, ONE = "cents", "1"
+# An entry of a line that the sheet hasn't is absent, and counts as 0.
+ENTRY, ABSENT, GUIDELINE, CALL, STEP = "entry", "absent", "guideline", "call", "step"
+CENTS, SQUARE, ONE = "cents", "square cents", "1"
 
 # Where the sheet says nothing it is zero.
 _NOTHING = columns.Line("", 0, 0, 0, 0)
@@ -18,7 +19,7 @@ _ONE = 10_000
 
 
 class Figure(NamedTuple):
-    """`amount` is exact: in cents, or of unit 1. `place` is the line of the sheet, the line of the report, or the call."""
+    """`amount` is exact: in cents, in square cents, or of unit 1. `place` is the line of the sheet, the line of the report, or the call."""
 
     key: str
     name: str
@@ -63,7 +64,12 @@ class Chain:
 
     def entry(self, key: str, code: str, block: int, klass: int, words: labels.Label, second: bool = False) -> Fraction:
         line = self.entered(code, block, klass)
-        return self.add(key, words, line.second if second else line.first, ENTRY, f"{code} {block} {klass}")
+        source = ABSENT if line is _NOTHING else ENTRY
+        return self.add(key, words, line.second if second else line.first, source, f"{code} {block} {klass}")
+
+    def factor(self, key: str, words: labels.Label, factor: Fraction) -> Fraction:
+        """Of the guideline, as it prints it."""
+        return self.add(key, words, factor, GUIDELINE, words.section, ONE)
 
     def reported(self, key: str, code: str, block: int, item: int, parts: int = 1) -> Fraction:
         """A figure of the report, which is in cents or in parts of a cent."""
@@ -126,7 +132,7 @@ _PRODUCTS = labels.Label(N_("sum of the credits of adjustable products"), "11.3"
 _BRACKET = labels.Label(N_("bracket: what the scalar multiplies"), "11.3")
 _BY_SCALAR = labels.Label(N_("what the scalar adds, rounded up to the cent"), "11.3")
 _BLOCKS = labels.Label(N_("number of blocks"), "", "n")
-_ALLOWANCE = labels.Label(N_("allowance"), "", "g × (1.01 × n + 1) + 1")
+_ALLOWANCE = labels.Label(N_("allowance"), "", "γ × (1.01 × n + 1) + 1")
 
 
 def sum_of(chain: Chain, ending: str) -> Fraction:

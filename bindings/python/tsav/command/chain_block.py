@@ -4,7 +4,7 @@ from fractions import Fraction
 
 import tsav
 from tsav.command import compared, labels
-from tsav.command.chain import CALL, STEP, Chain, check, named
+from tsav.command.chain import CALL, SQUARE, STEP, Chain, check, named
 from tsav.command.messages import N_, _
 
 RISKS = range(1, 8)
@@ -27,6 +27,24 @@ _SAVING = labels.Label(N_("saving by diversification"), "11.2.4", "U − K")
 _AFTER = N_("{name}, after the credit")
 _NET = N_("{name}, half of level and trend taken off")
 _LEVEL_AND_TREND = N_("{name}, level and trend")
+_WEIGHTED = N_("{name}: sum of the correlations times the amounts")
+_PRODUCT = N_("{name}: product")
+_Q = labels.Label(N_("sum of the products"), "11.2.1", "Q")
+_FLOOR = labels.Label(N_("floor: the largest amount"), "11.2.1", "max(IRi − 0.5 × LTi)")
+_RADICAND = labels.Label(N_("what D is the root of, at the I that is shown"), "11.2.2", "A² + A × I + I²")
+_BETWEEN = labels.Label(N_("correlation of credit and market risk with insurance risk"), "11.2.2")
+_HALF = labels.Label(N_("part of level and trend that is taken off"), "11.2.1")
+
+
+def factors(chain: Chain) -> None:
+    """Those of section 11.2, once for all blocks."""
+    for i, row in zip(RISKS, _CORRELATION):
+        for j, quarters in zip(RISKS, row):
+            one, other = (labels.label("RSK", 1, risk).name for risk in (i, j))
+            name = _("correlation of {one} and {other}").format(one=one, other=other)
+            chain.factor(f"factor.correlation.{i}.{j}", labels.Label(name, "11.2.1", f"ρ{i}{j}"), Fraction(quarters, 4))
+    chain.factor("factor.half", named(_HALF), Fraction(1, 2))
+    chain.factor("factor.between", named(_BETWEEN), Fraction(1, 2))
 
 
 def block(chain: Chain, number: int) -> None:
@@ -86,15 +104,13 @@ def _steps(chain: Chain, number: int, numbers: list, found: tsav.Figures) -> Non
     """I, D, U, LT and K, each beside the step that leads to it. In half cents, as I and D are."""
     at = f"block.{number}"
     ys = [2 * numbers[2 * risk - 2] - numbers[2 * risk - 1] for risk in RISKS]
-    for risk, y in zip(RISKS, ys):
-        words = labels.label("RSK", number, risk)
-        name = _(_NET).format(name=words.name)
-        chain.add(f"{at}.risk.{risk}.net", labels.Label(name, "11.2.1", f"IR{risk} − 0.5 × LT{risk}"), Fraction(y, 2), STEP)
     pc, market = numbers[14], numbers[15] + numbers[16]
-    check(f"{at}.i", _insurance(ys, found.i - 2 * pc))
+    quarters = _correlated(chain, number, ys)
+    check(f"{at}.i", _insurance(ys, quarters, found.i - 2 * pc))
     chain.reported(f"{at}.i", "BLK", number, 1, parts=2)
     chain.add(f"{at}.a", named(_CREDIT_AND_MARKET), market, STEP)
     check(f"{at}.d", _diversified(2 * market, found.i, found.d))
+    chain.add(f"{at}.radicand", named(_RADICAND), Fraction(_radicand(2 * market, found.i), 4), STEP, unit=SQUARE)
     chain.reported(f"{at}.d", "BLK", number, 2, parts=2)
     check(f"{at}.u", found.u == sum(numbers[0:14:2]) + pc + market)
     chain.reported(f"{at}.u", "BLK", number, 3)
@@ -105,9 +121,28 @@ def _steps(chain: Chain, number: int, numbers: list, found: tsav.Figures) -> Non
     chain.reported(f"{at}.k", "BLK", number, 5)
 
 
-def _insurance(ys: list, root: int) -> bool:
-    """The root, before property and casualty, is the least half cents at or above the correlated sum's and the largest y."""
-    quarters = sum(factor * x * y for row, x in zip(_CORRELATION, ys) for factor, y in zip(row, ys))
+def _correlated(chain: Chain, number: int, ys: list) -> int:
+    """Each risk's amount times the sum of its correlations with all amounts, and Q, the sum of these products: in quarters of square half cents."""
+    quarters = 0
+    for risk, row, y in zip(RISKS, _CORRELATION, ys):
+        at = f"block.{number}.risk.{risk}"
+        name = labels.label("RSK", number, risk).name
+
+        def words(of: str, symbol: str, name: str = name) -> labels.Label:
+            return labels.Label(_(of).format(name=name), "11.2.1", symbol)
+
+        weighted = sum(factor * other for factor, other in zip(row, ys))
+        chain.add(f"{at}.net", words(_NET, f"IR{risk} − 0.5 × LT{risk}"), Fraction(y, 2), STEP)
+        chain.add(f"{at}.weighted", words(_WEIGHTED, f"∑ ρ{risk}j × (IRj − 0.5 × LTj)"), Fraction(weighted, 8), STEP)
+        chain.add(f"{at}.product", words(_PRODUCT, ""), Fraction(y * weighted, 16), STEP, unit=SQUARE)
+        quarters += y * weighted
+    chain.add(f"block.{number}.q", named(_Q), Fraction(quarters, 16), STEP, unit=SQUARE)
+    chain.add(f"block.{number}.floor", named(_FLOOR), Fraction(max(ys), 2), STEP)
+    return quarters
+
+
+def _insurance(ys: list, quarters: int, root: int) -> bool:
+    """The root, before property and casualty, is the least half cents at or above that of Q and the largest y."""
 
     def enough(half_cents: int) -> bool:
         return half_cents >= max(ys) and 4 * half_cents**2 >= quarters
@@ -115,13 +150,14 @@ def _insurance(ys: list, root: int) -> bool:
     return enough(root) and (root == 0 or not enough(root - 1))
 
 
+def _radicand(a: int, i: int) -> int:
+    """Of D, in square half cents."""
+    return a * a + a * i + i * i
+
+
 def _diversified(a: int, i: int, d: int) -> bool:
     """D is taken at the I that isn't rounded yet, which is within a half cent below the printed one."""
-
-    def radicand(half_cents: int) -> int:
-        return a * a + a * half_cents + half_cents**2
-
-    return d * d >= radicand(max(i - 1, 0)) and (d == 0 or (d - 1) ** 2 < radicand(i))
+    return d * d >= _radicand(a, max(i - 1, 0)) and (d == 0 or (d - 1) ** 2 < _radicand(a, i))
 
 
 def _adjusted(found: tsav.Figures) -> bool:

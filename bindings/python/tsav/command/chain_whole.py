@@ -5,14 +5,16 @@ from typing import NamedTuple
 
 from tsav.command import labels
 from tsav.command.chain import Chain, check, total
-from tsav.command.chain_block import block
-from tsav.command.chain_operational import operational
+from tsav.command.chain_block import block, factors
+from tsav.command.chain_operational import charge_factors, operational
 from tsav.command.messages import N_, _
 
 
 def build(sheet: bytes) -> Chain:
     """Of an accepted sheet."""
     chain = Chain(sheet)
+    factors(chain)
+    charge_factors(chain)
     for number in chain.blocks:
         block(chain, number)
     operational(chain)

@@ -28,7 +28,6 @@ def add(commands, common) -> None:
     parser = commands.add_parser(
         NAME,
         parents=[common],
-        allow_abbrev=False,
         help=_("say in which lines two sheets differ, and what each moves of the buffer"),
         description=_("Says in which lines two accepted sheets differ, and what each line alone, put into the old sheet, moves of its buffer."),
     )

@@ -31,17 +31,13 @@ def rows(content: bytes):
 
 def content(lines) -> bytes:
     """The file of these lines."""
-    sign = decimal_sign()
+    sign = amounts.decimal_sign()
     found = [tables.column_names().values()]
     for line in lines:
         scalar = (line.code, line.block, line.klass) == SCALAR
         first = amounts.scalar_written(line.first, sign) if scalar else amounts.written(line.first, sign)
         found.append((line.code, line.block, line.klass, first, amounts.written(line.second, sign)))
     return written(found).encode("utf-8")
-
-
-def decimal_sign() -> str:
-    return "." if language() == "en" else ","
 
 
 def written(rows_) -> str:

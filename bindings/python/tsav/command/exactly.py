@@ -6,16 +6,20 @@ from tsav.command.messages import language
 from tsav.command.money import NO_BREAK, number
 
 
-def decimal(amount) -> str:
-    """For CSV and JSON: 562.5, -3, 0.00002."""
-    sign, whole, digits = _digits(Fraction(amount), 0)
-    return sign + str(whole) + ("." + digits if digits else "")
+# As people read it; what programs read has a hyphen.
+MINUS = "\u2212"
+
+
+def decimal(amount, point: str = ".", least: int = 0) -> str:
+    """For CSV and JSON: 562.5, -3, 0.00002; with at least so many decimals."""
+    sign, whole, digits = _digits(Fraction(amount), least)
+    return sign + str(whole) + (point + digits if digits else "")
 
 
 def shown(amount, least: int = 0) -> str:
     """As people read it, with at least so many decimals."""
     sign, whole, digits = _digits(Fraction(amount), least)
-    return sign + number(whole) + (("." if language() == "en" else ",") + digits if digits else "")
+    return sign.replace("-", MINUS) + number(whole) + (("." if language() == "en" else ",") + digits if digits else "")
 
 
 def dollars(cents, least: int = 2) -> str:
@@ -23,7 +27,7 @@ def dollars(cents, least: int = 2) -> str:
     text = shown(Fraction(cents) / 100, least)
     if language() != "en":
         return f"{text}{NO_BREAK}$"
-    return f"-${text[1:]}" if text.startswith("-") else f"${text}"
+    return f"{MINUS}${text[1:]}" if text.startswith(MINUS) else f"${text}"
 
 
 def _digits(amount: Fraction, least: int) -> tuple:

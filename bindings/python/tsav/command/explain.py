@@ -2,8 +2,11 @@
 movement call says of its input: the line as it stands, a caret under the column, what is there, what is wanted, and what to type
 instead, of every fault."""
 
+import argparse
+from typing import Optional
+
 import tsav
-from tsav.command import files, money, movements, quarters, refusals, telling
+from tsav.command import files, kinds, lines, money, movements, quarters, refusals, telling
 from tsav.command.answer import DONE, REFUSED, Answer
 from tsav.command.compared import figures
 from tsav.command.finder import Finder
@@ -17,7 +20,6 @@ def add(commands, common) -> None:
     parser = commands.add_parser(
         NAME,
         parents=[common],
-        allow_abbrev=False,
         help=_("say in words why a sheet is refused, all its faults"),
         description=_("Says of a sheet what the sheet call says, in words: each fault with its line, and what to type instead."),
     )
@@ -25,11 +27,15 @@ def add(commands, common) -> None:
     what.add_argument("--convert", action="store_true", help=_("say what the converter says of it"))
     what.add_argument("--quarter", action="store_true", help=_("the file is a quarter: sheets that are each closed by 39 minus signs"))
     what.add_argument("--movement", action="store_true", help=_("the file has the 18 numbers of the movement call"))
-    what.add_argument(
-        "--refusal", metavar=_("NUMBER"), type=int, choices=refusals.NUMBERS, help=_("say what a refusal means, and read no file")
-    )
+    what.add_argument("--refusal", metavar=_("NUMBER"), type=_number, help=_("say what a refusal means, and read no file"))
     parser.add_argument("file", metavar=_("FILE"), nargs="?", default=files.STANDARD_INPUT, help=_("the sheet; otherwise standard input"))
     parser.set_defaults(run=run)
+
+
+def _number(text: str) -> int:
+    if text not in map(str, refusals.NUMBERS):
+        raise argparse.ArgumentTypeError(_("a refusal is a number from 1 to {most}").format(most=max(refusals.NUMBERS)))
+    return int(text)
 
 
 def run(options) -> Answer:
@@ -57,7 +63,7 @@ def of_sheet(name: str, sheet: bytes) -> Answer:
     finder = Finder(sheet)
     value = {"file": name, "call": "sheet", **telling.value(finder)}
     if finder.first:
-        return _refused(_("{file} is refused: {refusal}. {faults}:"), name, finder, value)
+        return _refused(_("{file} is refused: {refusal}. {faults}:"), name, finder, value, kinds.of(sheet))
     buffer = figures(tsav.sheet(sheet))["TOT", 0, 3]
     said = _("{file} is accepted. Base solvency buffer: {amount}").format(file=visible(files.shown(name)), amount=money.dollars(buffer))
     return Answer(DONE, said + "\n", {**value, "buffer": buffer})
@@ -70,6 +76,12 @@ def _converted(name: str, finder: Finder) -> Answer:
     return Answer(DONE, _("{file} is accepted by the converter.").format(file=visible(files.shown(name))) + "\n", value)
 
 
-def _refused(said: str, name: str, finder: Finder, value: dict) -> Answer:
+def _refused(said: str, name: str, finder: Finder, value: dict, kind: Optional[str] = None) -> Answer:
+    """What the file is, where it isn't what was meant, stands before its faults, which then don't name the converter again."""
     head = said.format(file=visible(files.shown(name)), refusal=telling.refusal_place(finder.first), faults=telling.count_of(finder.faults))
-    return Answer(REFUSED, "\n".join([head + "\n", *telling.paragraphs(finder.faults, finder.not_tested)]), value)
+    told, faults = kinds.told(kind, name), finder.faults
+    heads = [head + "\n"] + ([told + "\n"] if told else [])
+    if kind == kinds.THOUSANDS:
+        again = _(lines.CONVERT_FIRST) + " "
+        faults = [fault._replace(advice=fault.advice.removeprefix(again)) for fault in faults]
+    return Answer(REFUSED, "\n".join([*heads, *telling.paragraphs(faults, finder.not_tested)]), value)

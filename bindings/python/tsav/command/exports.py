@@ -1,7 +1,7 @@
 """`tsav export`: a sheet as rows (CSV) or as a workbook, which `tsav import` makes the same sheet of, byte for byte."""
 
 import tsav
-from tsav.command import csvfile, files, form
+from tsav.command import accepted, csvfile, files, form
 from tsav.command.answer import DONE, REFUSED, Answer
 from tsav.command.columns import LENGTH, read
 from tsav.command.messages import _, ngettext
@@ -13,7 +13,6 @@ def add(commands, common) -> None:
     parser = commands.add_parser(
         NAME,
         parents=[common],
-        allow_abbrev=False,
         help=_("write a sheet as CSV or as a workbook"),
         description=_("Writes the lines of an accepted sheet as rows in dollars; tsav import makes the same sheet of them."),
     )
@@ -32,16 +31,13 @@ def run(options) -> Answer:
     try:
         tsav.sheet(sheet)
     except tsav.Refused as refusal:
-        return _refused(options.file, refusal)
+        return _refused(accepted.Refused(options.file, refusal, sheet))
     lines = [read(sheet[at : at + LENGTH]) for at in range(0, len(sheet), LENGTH)]
     files.write(options.output, (csvfile if ending == ".csv" else form).content(lines))
     text = ngettext("{file}: {count} row.", "{file}: {count} rows.", len(lines)).format(file=options.output, count=len(lines))
     return Answer(DONE, text + "\n", {"written": options.output, "rows": len(lines)})
 
 
-def _refused(file: str, refusal) -> Answer:
-    text = _("{file} is refused by {number}, and nothing is written; tsav explain says why.")
-    if refusal.line is not None:
-        text = _("{file} is refused by {number} at line {line}, and nothing is written; tsav explain says why.")
-    text = text.format(file=files.shown(file), number=refusal.number, line=refusal.line)
-    return Answer(REFUSED, text + "\n", {"written": None, "refusal": refusal.number, "line": refusal.line})
+def _refused(refused: accepted.Refused) -> Answer:
+    value = {"written": None, "refusal": refused.refusal.number, "line": refused.refusal.line}
+    return Answer(REFUSED, f"{refused.text()} {_('Nothing is written.')}\n", value)

@@ -6,7 +6,7 @@ import unicodedata
 from typing import NamedTuple
 
 import tsav
-from tsav.command import given, printed
+from tsav.command import arguments, given, printed
 from tsav.command.answer import Answer
 from tsav.command.messages import N_, _, language
 from tsav.command.printed import Amount
@@ -38,8 +38,7 @@ def add(commands, common) -> None:
     parser = commands.add_parser(
         NAME,
         parents=[common],
-        allow_abbrev=False,
-        formatter_class=argparse.RawDescriptionHelpFormatter,
+        formatter_class=arguments.AsWritten,
         help=_("take a morbidity requirement times its fluctuation factor"),
         description=_("Works out a requirement of section 11.1.2 after its fluctuation factor."),
         epilog="\n".join([_("The rows:")] + [f"  {number} {_typed(row):27} {_(row.name)}" for number, row in ROWS.items()]),

@@ -4,7 +4,7 @@ import argparse
 from typing import NamedTuple, Optional
 
 import tsav
-from tsav.command import accepted, amounts, columns, files, labels, money, movements, printed, tables
+from tsav.command import accepted, amounts, arguments, columns, files, labels, money, movements, printed, tables
 from tsav.command.answer import Answer, Failure
 from tsav.command.messages import _
 from tsav.command.printed import Amount
@@ -41,7 +41,7 @@ def add(parser) -> None:
     """The arguments of a call of a block."""
     parser.add_argument("given", nargs="+", metavar=_("SHEET|AMOUNT"), help=_("a sheet, or the 17 amounts of a block in dollars"))
     parser.add_argument("--block", metavar=_("BLOCK"), type=_block, help=_("the block of the sheet, 1 to 32"))
-    parser.formatter_class = argparse.RawDescriptionHelpFormatter
+    parser.formatter_class = arguments.AsWritten
     parser.epilog = "\n".join(
         [_("The 17 amounts, in this order; where there is nothing, 0:")]
         + [f"  {number:2} {movements.name_of(number)}" for number in range(1, tsav.BLOCK_NUMBERS + 1)]
@@ -70,7 +70,7 @@ def answered(options, call: str, answer) -> Answer:
     try:
         return answer(options, _read(options), value)
     except printed.SheetRefused as refused:
-        return printed.sheet_refused(options, options.given[0], refused.refusal, value)
+        return printed.sheet_refused(options, refused.refused, value)
     except tsav.Refused as refusal:
         place = "" if refusal.position is None else movements.name_of(refusal.position + 1)
         return printed.refused(options, refusal, place, value)
@@ -102,7 +102,7 @@ def sheet(name: str) -> accepted.Sheet:
     try:
         return accepted.Sheet(name, data)
     except tsav.Refused as refusal:
-        raise printed.SheetRefused(refusal) from refusal
+        raise printed.SheetRefused(accepted.Refused(name, refusal, data)) from refusal
 
 
 def of_sheet(found: accepted.Sheet, block: int) -> Given:

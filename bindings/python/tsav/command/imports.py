@@ -3,7 +3,7 @@
 import os
 
 import tsav
-from tsav.command import columns, compared, csvfile, files, labels, money, tables, workbook
+from tsav.command import columns, compared, csvfile, files, kinds, labels, money, tables, workbook
 from tsav.command.answer import DONE, REFUSED, Answer, Failure
 from tsav.command.messages import N_, _, ngettext
 from tsav.command.tables import Fault
@@ -18,7 +18,6 @@ def add(commands, common) -> None:
     parser = commands.add_parser(
         NAME,
         parents=[common],
-        allow_abbrev=False,
         help=_("make a sheet of figures in CSV or a workbook"),
         description=_(
             "Makes a sheet of rows of code, block, class and two amounts in dollars, or tells the cells that are wrong and writes nothing."
@@ -61,6 +60,12 @@ def _only_a_sheet(name: str) -> None:
         raise Failure(_("{file} is there already, and is no sheet: give another name").format(file=name))
 
 
+_SHEETS = {
+    kinds.SHEET: N_("it is a sheet already, in fixed columns; tsav explain says what the sheet call says of it, and tsav export makes rows of it"),
+    kinds.THOUSANDS: N_("it is a sheet already, in thousands of dollars; tsav-convert makes one in cents of it"),
+}
+
+
 def read(content: bytes) -> tables.Table:
     """The table in this file: a workbook, or otherwise text."""
     book = workbook.is_one(content)
@@ -68,6 +73,9 @@ def read(content: bytes) -> tables.Table:
         raise tables.Unreadable(_("it is far longer than the figures of a sheet"))
     if book:
         return tables.read(workbook.rows(content))
+    kind = kinds.of(content)
+    if kind in _SHEETS:
+        raise tables.Unreadable(_(_SHEETS[kind]))
     return tables.read(*csvfile.rows(content))
 
 
@@ -167,8 +175,10 @@ def _above(number: int, found: compared.Compared) -> str:
 def _wanted(number: int, line) -> str:
     """What is wanted in the place of what this line has there."""
     if number == 5:
-        return _("of {code} one of these: {values}").format(code=line.code, values=labels.numbers(columns.BLOCKS[line.code]))
+        said = _("{code} has no block {block}; its blocks are {values}")
+        return said.format(code=line.code, block=line.block, values=labels.numbers(columns.BLOCKS[line.code]))
     if number == 6:
         classes = labels.numbers(columns.classes(line.code, line.block))
-        return _("of {code} in block {block} one of these: {values}").format(code=line.code, block=line.block, values=classes)
+        said = _("{code} has no class {klass} in block {block}; its classes there are {values}")
+        return said.format(code=line.code, klass=line.klass, block=line.block, values=classes)
     return _(_REFUSED[number])

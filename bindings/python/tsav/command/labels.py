@@ -1,8 +1,9 @@
 """What the lines and figures of a sheet are called, in the words of chapters 8 and 11, with their sections and symbols."""
 
+import re
 from typing import NamedTuple, Optional
 
-from tsav.command.messages import N_, _
+from tsav.command.messages import N_, _, language
 
 
 class Label(NamedTuple):
@@ -87,6 +88,11 @@ REPORT = {
     ("TOT", 2): Label(N_("requirement for operational risk"), "8.1", "RO"),
     ("TOT", 3): Label(N_("base solvency buffer"), "11.3"),
 }
+
+
+def letters(symbol: str) -> str:
+    """A symbol's decimals as the language writes them."""
+    return symbol if language() == "en" else re.sub(r"(?<=[0-9])\.(?=[0-9])", ",", symbol)
 
 
 def label(code: str, block: int, klass: int) -> Label:

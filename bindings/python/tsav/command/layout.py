@@ -239,6 +239,7 @@ def _figures(text: str, words: list) -> Reading:
     ]
     causes += _blanks(text, fields) + _lacking(text, code, klass, fields)
     causes = causes or _places(text, words[0], fields, code, klass)
+    numbers = _one_unit(numbers, fields)
     values = [number.value for number in numbers[:4]]
     if len(values) == 3:
         values.append(0)
@@ -248,6 +249,24 @@ def _figures(text: str, words: list) -> Reading:
         line = columns.Line(code, *values).written()[:-1]
     advice = " ".join(number.advice for number in numbers if number.advice)
     return Reading(causes, code, block, klass, line, advice=advice)
+
+
+def _one_unit(numbers: list, fields: list) -> list:
+    """An amount that has no sign of dollars is read as dollars where the line's other one has: a line has one unit. What it is in cents is said."""
+    for at, other in ((2, 3), (3, 2)):
+        if len(numbers) < 4 or not _of_dollars(numbers[other]) or _of_dollars(numbers[at]) or not numbers[at].value:
+            continue
+        cents = numbers[at].value
+        value = cents * 100 if len(str(cents * 100)) <= columns.WIDTHS[columns.FIRST] else None
+        said = _("Both amounts are read as dollars, as {other} has a sign of them: {text} is then {cents}. If {text} is in cents, type {as_cents}.")
+        said = said.format(other=visible(fields[other].text), text=visible(fields[at].text), cents=cents * 100, as_cents=cents)
+        numbers = [*numbers[:at], numbers[at]._replace(value=value, advice=said), *numbers[at + 1 :]]
+    return numbers
+
+
+def _of_dollars(number: "_Number") -> bool:
+    """Written with decimals, or with a dollar sign: cents have neither."""
+    return any(cause[0] in ("decimal-sign", "dollar-sign") for cause in number.causes)
 
 
 def _klass(fields: list) -> Optional[int]:

@@ -7,7 +7,7 @@ import tsav
 from tsav.command import columns, layout, money
 from tsav.command.faults import Amount, Mark, NotTested, key_of, line_words, shown, typed
 from tsav.command.labels import amounts, line_name, numbers
-from tsav.command.messages import _, ngettext
+from tsav.command.messages import N_, _, ngettext
 from tsav.command.rows import Row
 from tsav.command.visible import decoded, visible
 from tsav.command.whole import of_file, return_mark
@@ -15,6 +15,8 @@ from tsav.command.whole import of_file, return_mark
 # The unit of a sheet in thousands, in cents, and its largest amount.
 THOUSANDS = 100_000
 LARGEST_THOUSANDS = 999_999_999
+# Said of a sheet in thousands, unless the command stands above its faults.
+CONVERT_FIRST = N_("Convert the sheet first: tsav-convert < FILE > cents.sheet.")
 
 
 def broken(finder, refusal) -> None:
@@ -174,7 +176,7 @@ def _thousands(finder, refusal, row: Row) -> Optional[bool]:
         marks=(
             Mark(1, "thousands-of-dollars", _("a code in small letters, as in all lines"), _("codes in capitals, and amounts in cents")),
         ),
-        advice=_("Convert the sheet first: tsav-convert < FILE > cents.sheet. What the converter says of it is explained by --convert."),
+        advice=_(CONVERT_FIRST) + " " + _("What the converter says of it is explained by --convert."),
     )
     try:
         converted = tsav.convert(finder.rows.data())
@@ -194,7 +196,7 @@ def block(finder, refusal) -> None:
     code = line.code.upper()
     blocks = columns.BLOCKS[code]
     found = _("block {block}").format(block=line.block)
-    wanted = _("of {code} one of these: {values}").format(code=line.code, values=numbers(blocks))
+    wanted = _("of {code} one of the blocks {values}").format(code=line.code, values=numbers(blocks))
     _out_of_range(finder, refusal, row, "block", _("no such block of this code"), columns.BLOCK, found, wanted, "block", blocks)
 
 
@@ -207,9 +209,9 @@ def klass(finder, refusal) -> None:
     classes = columns.classes(code, line.block)
     found = _("class {klass}").format(klass=line.klass)
     if code == "CRD":
-        wanted = _("of CRD in block {block} one of these: {values}").format(block=line.block, values=numbers(classes))
+        wanted = _("of CRD in block {block} one of the classes {values}").format(block=line.block, values=numbers(classes))
     else:
-        wanted = _("of {code} one of these: {values}").format(code=line.code, values=numbers(classes))
+        wanted = _("of {code} one of the classes {values}").format(code=line.code, values=numbers(classes))
     _out_of_range(finder, refusal, row, "class", _("no such class of this code"), columns.CLASS, found, wanted, "klass", classes)
 
 

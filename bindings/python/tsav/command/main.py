@@ -11,6 +11,7 @@ import os
 import sys
 
 from tsav.command import (
+    arguments,
     block,
     compare,
     explain,
@@ -68,13 +69,12 @@ def _choose_language(arguments) -> None:
         messages.choose("en")
 
 
-def _parser() -> argparse.ArgumentParser:
+def _parser() -> arguments.Parser:
     common = argparse.ArgumentParser(add_help=False, allow_abbrev=False)
     _add_language(common, argparse.SUPPRESS)
     common.add_argument("--json", action="store_true", help=_("write the answer as JSON, for scripts"))
-    parser = argparse.ArgumentParser(
+    parser = arguments.Parser(
         prog="tsav",
-        allow_abbrev=False,
         description=_("Chapters 8 and 11 of the guideline on life insurance capital, to the cent, by proved calls."),
     )
     parser.add_argument("--version", action=_Version, nargs=0, help=_("name the versions of the package, the library and the toolchain"))

@@ -14,9 +14,8 @@ def add(commands, common) -> None:
     parser = commands.add_parser(
         NAME,
         parents=[common],
-        allow_abbrev=False,
         help=_("say how far K of a block moves as a component is raised"),
-        usage=_("%(prog)s SHEET --block BLOCK --by AMOUNT [--json | --csv]\n       %(prog)s AMOUNT ... --by AMOUNT [--json | --csv]"),
+        usage=_("%(prog)s SHEET --block BLOCK --by AMOUNT [--json | --csv]\n%(prog)s AMOUNT ... --by AMOUNT [--json | --csv]"),
         description=_("Says how far K of a block of a sheet, or of 17 amounts, moves as each risk's component is raised, all else kept."),
     )
     given.add(parser)

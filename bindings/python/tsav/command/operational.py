@@ -18,7 +18,6 @@ def add(commands, common) -> None:
     parser = commands.add_parser(
         NAME,
         parents=[common],
-        allow_abbrev=False,
         help=_("work out the requirement for operational risk, RO"),
         description=_("Works out section 8.2 for a sheet: RO, and the volumes and general figures that it comes of."),
     )
@@ -33,7 +32,7 @@ def run(options) -> Answer:
     try:
         sheet = given.sheet(options.file)
     except printed.SheetRefused as refused:
-        return printed.sheet_refused(options, options.file, refused.refusal, value)
+        return printed.sheet_refused(options, refused.refused, value)
     volumes = [
         _volume(sheet, territory, klass)
         for territory in columns.TERRITORIES

@@ -6,13 +6,16 @@ from pathlib import Path
 from typing import Any, NamedTuple, Optional
 
 import tsav
-from tsav.command import exactly, versions
+from tsav.command import exactly, labels, versions
 from tsav.command.answer import Failure
-from tsav.command.chain import CALL, ENTRY, ONE, Figure
+from tsav.command.chain import ABSENT, CALL, ENTRY, GUIDELINE, ONE, SQUARE, Figure
 from tsav.command.messages import N_, _, language
 from tsav.command.money import NO_BREAK
 
 _TEMPLATE = Path(__file__).resolve().parent / "page.html"
+
+# In a square dollar.
+_SQUARE_CENTS = 10_000
 
 
 class Head(NamedTuple):
@@ -57,6 +60,18 @@ class Page(NamedTuple):
     buffer: Optional[Any] = None
 
     @property
+    def foot(self) -> str:
+        """What stands at the foot of each printed page: the title, and on a line of its own the first fact, a SHA-256."""
+        name, sha = self.facts[0]
+        return _in_style(f"{self.title}\n{name}{self.colon}{sha}")
+
+    @property
+    def count(self) -> tuple:
+        """The words around the number of a printed page and how many there are."""
+        before, between, after = _("page {number} of {all}").replace("{all}", "{number}").split("{number}")
+        return _in_style(before), _in_style(between), _in_style(after)
+
+    @property
     def language(self) -> str:
         return language()
 
@@ -67,6 +82,11 @@ class Page(NamedTuple):
     @property
     def contents(self) -> str:
         return _("Contents")
+
+
+def _in_style(text: str) -> str:
+    """As a string of a style sheet, in which no sign but letters and digits stands for itself: a space behind another one would be taken for its end."""
+    return "".join(sign if sign.isascii() and sign.isalnum() else f"\\{ord(sign):06x}" for sign in text)
 
 
 class Shown(NamedTuple):
@@ -91,11 +111,30 @@ def title(text: str) -> str:
 
 def amount(figure: Figure) -> str:
     if figure.unit == ONE:
-        return exactly.shown(figure.amount)
-    return exactly.dollars(figure.amount, 3 if figure.symbol in ("I", "D") else 2)
+        return exactly.shown(figure.amount, decimals(figure))
+    if figure.unit == SQUARE:
+        return exactly.shown(figure.amount / _SQUARE_CENTS, decimals(figure))
+    return exactly.dollars(figure.amount, decimals(figure))
 
 
-_SOURCES = {ENTRY: N_("entry, {place}"), CALL: N_("call, {place}")}
+def decimals(figure: Figure) -> int:
+    """At least so many of them: I and D, which are in half cents, have three; the scalar and its like as many as they need."""
+    if figure.unit == ONE:
+        return 0
+    return 3 if figure.symbol in ("I", "D") else 2
+
+
+def taken_off(figure: Figure) -> str:
+    """An amount that is taken off."""
+    return f"{exactly.MINUS}{amount(figure)}" if figure.amount else amount(figure)
+
+
+_SOURCES = {
+    ENTRY: N_("entry, {place}"),
+    ABSENT: N_("no line {place}:\u00a00"),
+    GUIDELINE: N_("guideline, {place}"),
+    CALL: N_("call, {place}"),
+}
 
 
 def source(figure: Figure) -> str:
@@ -111,9 +150,8 @@ def chain_heads() -> list:
 
 def chain_row(figure: Figure, strong: bool = False, less: bool = False) -> Row:
     """`less` are amounts that are taken off."""
-    text = amount(figure)
-    cells = [Cell(figure.name), Cell(figure.symbol), Cell(figure.section), Cell(source(figure))]
-    return Row([*cells, Cell(f"−\u2009{text}" if less else text, figure.key)], strong)
+    cells = [Cell(figure.name), Cell(labels.letters(figure.symbol)), Cell(figure.section), Cell(source(figure))]
+    return Row([*cells, Cell(taken_off(figure) if less else amount(figure), figure.key)], strong)
 
 
 def sheet_facts(sheet: bytes) -> list:
@@ -127,6 +165,6 @@ def sheet_facts(sheet: bytes) -> list:
 def version_facts() -> list:
     return [
         (_("package"), f"tsav {tsav.__version__}"),
-        (_("library"), _("calls of version {calls}").format(calls=tsav.VERSION)),
-        (_("toolchain of the proofs"), versions.toolchain()),
+        (_("library"), versions.library_words()),
+        (_("toolchain of the proofs"), versions.toolchain_words()),
     ]

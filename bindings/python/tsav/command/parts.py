@@ -4,13 +4,13 @@ from fractions import Fraction
 
 import tsav
 from tsav.command import doubts, drawings, exactly, labels, refusals
-from tsav.command.chain import Chain, sum_of
+from tsav.command.chain import ABSENT, Chain, sum_of
 from tsav.command.chain_block import RISKS
-from tsav.command.chain_operational import FACTORS, GENERAL, VOLUMES
+from tsav.command.chain_operational import GENERAL, VOLUMES
 from tsav.command.drawings import LESS, MORE, TOTAL, Given
 from tsav.command.messages import N_, _
 from tsav.command.money import NO_BREAK
-from tsav.command.page import Cell, Head, Part, Row, Table, amount, chain_heads, chain_row, source
+from tsav.command.page import Cell, Head, Part, Row, Table, amount, chain_heads, chain_row, source, taken_off
 
 
 def buffer(chain: Chain) -> Part:
@@ -35,7 +35,8 @@ def buffer(chain: Chain) -> Part:
 
 
 _AMOUNTS_ARE = N_(
-    "All amounts are in dollars. Each is an entry of the sheet, a figure of a proved call, or a step between these that was checked against the call."
+    "All amounts are in dollars. Each is an entry of the sheet, a factor of the guideline, a figure of a proved call, or a step between these that was "
+    "checked against the call. A line that the sheet hasn't counts as 0."
 )
 
 
@@ -69,12 +70,13 @@ def _waterfall(chain: Chain) -> list:
 def accuracy(chain: Chain) -> Part:
     said = _(
         "It is proved that the buffer of {buffer} is at or above the exact one, square roots taken without rounding, and less than "
-        "g × (1.01 × n + 1) + 1 cents above it. Here n, the number of blocks, is {n}; g, the scalar, is {g}; and that is less than {cents} cents."
+        "{allowance} cents above it. Here n, the number of blocks, is {n}; γ, the scalar, is {scalar}; and that is less than {cents} cents."
     )
     text = said.format(
         buffer=amount(chain["total.buffer"]),
         n=exactly.shown(chain.amount("accuracy.blocks")),
-        g=exactly.shown(chain.amount("total.scalar")),
+        allowance=labels.letters(chain["accuracy.allowance"].symbol),
+        scalar=exactly.shown(chain.amount("total.scalar")),
         cents=exactly.shown(chain.amount("accuracy.allowance")),
     )
     rows = [chain_row(chain["accuracy.blocks"]), chain_row(chain["total.scalar"]), chain_row(chain["accuracy.allowance"], strong=True)]
@@ -167,6 +169,28 @@ def _amounts(link) -> tuple:
     return (link.before, ".before"), (link.now, ".now"), (link.change, "")
 
 
+def factors(chain: Chain) -> Part:
+    """All of them, once, for whoever adds up again."""
+    names = [labels.label("RSK", 1, risk).name for risk in RISKS]
+    heads = [Head(_("risk")), *(Head(f"{risk}", True) for risk in RISKS)]
+    rows = [
+        Row([Cell(f"{i} {name}"), *(_cell(chain[f"factor.correlation.{i}.{j}"]) for j in RISKS)]) for i, name in zip(RISKS, names)
+    ]
+    others = [
+        Row([Cell(figure.name), Cell(figure.section), _cell(figure)])
+        for key, figure in chain.figures.items()
+        if key.startswith("factor.") and not key.startswith("factor.correlation.")
+    ]
+    return Part(
+        "factors",
+        _("The factors of the guideline"),
+        [
+            ("table", Table(_("Correlation of the insurance risks, section 11.2.1"), heads, rows, many=True)),
+            ("table", Table(_("Other factors"), [Head(_("factor")), Head(_("section")), Head(_("number"), True)], others, many=True)),
+        ],
+    )
+
+
 def block(chain: Chain, number: int) -> Part:
     at = f"block.{number}"
     name = labels.block_name("RSK", number)
@@ -175,10 +199,13 @@ def block(chain: Chain, number: int) -> Part:
         rows = [chain_row(chain[f"{at}.mor.{ending}"], strong=ending == "credit") for ending in ("s", "t", "aggregate", "credit")]
         items.append(("text", _(_HOW_CREDIT)))
         items.append(("table", Table(_("Survival and death products, section 11.1.1"), chain_heads(), rows)))
-    rows = [chain_row(chain[f"{at}.{ending}"], strong=ending == "k") for ending in ("i", "a", "d", "u", "lt", "saving", "k")]
+    steps = ("q", "floor", "pc", "i", "a", "radicand", "d", "u", "lt", "saving", "k")
+    rows = [chain_row(chain[f"{at}.{ending}"], strong=ending in ("i", "d", "k")) for ending in steps]
     items += [
-        ("table", Table(_("From the components to K, section 11.2"), chain_heads(), rows)),
+        ("table", _products(chain, number)),
         ("text", _(_HOW_I)),
+        ("text", _(_HOW_D)),
+        ("table", Table(_("From the components to K, section 11.2"), chain_heads(), rows)),
         ("text", _(_HOW_K)),
         *_shares(chain, number, name),
     ]
@@ -190,8 +217,12 @@ _HOW_CREDIT = N_(
     "the credit lowers both amounts of mortality."
 )
 _HOW_I = N_(
-    "I is the root of the sum over all pairs of risks of their correlation times both amounts of the last column, at least the largest of these, plus PC. "
-    "D is the root of A² + A × I + I². Both are shown to the half cent, rounded up; K is taken at the finer ones."
+    "Each product is a risk's amount times the sum over all risks of their correlation with it times their amounts. Q is the sum of the products. "
+    "I is the root of Q, or the floor where that is larger, plus PC, to the half cent, rounded up. Q, like the square below, is in dollars squared."
+)
+_HOW_D = N_(
+    "D is the root of A² + 2 × 0.5 × A × I + I², with the correlation 0.5 of section 11.2.2, to the half cent, rounded up. It is taken at the I before that is "
+    "rounded, so that at the I that is shown the root may come out up to a half cent above D."
 )
 _HOW_K = N_(
     "K is 0.8 × U + 0.1 × LT + (10 × D − 7 × V) × (3 × D − V) / (30 × V), with V = U − 0.5 × LT and D in the same unit, "
@@ -208,9 +239,9 @@ def _components(chain: Chain, number: int) -> Table:
     for risk in RISKS:
         gross, level, net = (chain[f"{at}.risk.{risk}.{ending}"] for ending in ("ir", "lt", "net"))
         if credit and risk == 1:
-            off = Cell(f"−\u2009{amount(credit)}", credit.key)
+            off = Cell(taken_off(credit), credit.key)
             rows.append(_risk(gross, level, Cell("")))
-            rows.append(Row([Cell(credit.name), Cell(credit.symbol), Cell(source(credit)), off, off, Cell("")]))
+            rows.append(Row([Cell(credit.name), Cell(labels.letters(credit.symbol)), Cell(source(credit)), off, off, Cell("")]))
             gross, level = (chain[f"{at}.risk.1.{ending}_after"] for ending in ("ir", "lt"))
         rows.append(_risk(gross, level, _cell(net)))
     for ending in ("pc", "credit", "market"):
@@ -220,6 +251,20 @@ def _components(chain: Chain, number: int) -> Table:
     name = _("sum, after the credit") if credit else _("sum")
     rows.append(Row([Cell(name), Cell("U, LT"), Cell(source(u)), _cell(u), _cell(lt), Cell("")], True))
     return Table(_("The components, section 11.2.1"), heads, rows, many=True)
+
+
+def _products(chain: Chain, number: int) -> Table:
+    """From the amounts to Q."""
+    at = f"block.{number}"
+    heads = [Head(_("risk")), Head(_("less half of level and trend"), True), Head(_("sum of correlations times amounts"), True)]
+    heads.append(Head(_("product, dollars squared"), True))
+    rows = []
+    for risk in RISKS:
+        name = labels.label("RSK", number, risk).name
+        rows.append(Row([Cell(f"{risk} {name}"), *(_cell(chain[f"{at}.risk.{risk}.{ending}"]) for ending in ("net", "weighted", "product"))]))
+    q = chain[f"{at}.q"]
+    rows.append(Row([Cell(f"{q.name}, {q.symbol}"), Cell(""), Cell(""), _cell(q)], True))
+    return Table(_("The products of the insurance risks, section 11.2.1"), heads, rows, many=True)
 
 
 def _risk(gross, level, net: Cell) -> Row:
@@ -256,10 +301,13 @@ def operational(chain: Chain) -> Part:
         items += _territory(chain, territory)
     heads = [Head(_("figure")), Head(_("section")), Head(_("from")), Head(_("amount"), True), Head(_("factor"), True), Head(_("charge"), True)]
     rows = []
-    for klass, factor in GENERAL.items():
+    for klass in GENERAL:
         figure, charge = chain[f"general.{klass}.amount"], chain[f"general.{klass}.charge"]
-        cells = [Cell(figure.name), Cell("8.2.3"), Cell(source(figure)), _cell(figure), Cell(_factor(factor)), _cell(charge)]
+        factor = chain[f"factor.general.{klass}"]
+        cells = [Cell(figure.name), Cell("8.2.3"), Cell(source(figure)), _cell(figure), Cell(_percent(factor)), _cell(charge)]
         rows.append(Row(cells))
+    part = chain["general.charge"]
+    rows.append(Row([Cell(part.name), Cell(part.section), Cell(source(part)), Cell(""), Cell(""), _cell(part)], True))
     items.append(("table", Table(_("The general part, section 8.2.3"), heads, rows)))
     rows = [chain_row(chain[f"territory.{territory}.charge"]) for territory in chain.territories]
     rows += [chain_row(chain["general.charge"]), chain_row(chain["operational.sum"]), chain_row(chain["operational.ro"], strong=True)]
@@ -268,8 +316,8 @@ def operational(chain: Chain) -> Part:
     return Part("operational", _("Operational risk, chapter 8"), items)
 
 
-def _factor(ten_thousandths: int) -> str:
-    return _("{number}%").format(number=exactly.shown(Fraction(ten_thousandths, 100), 2))
+def _percent(factor) -> str:
+    return _("{number}%").format(number=exactly.shown(factor.amount * 100, 2))
 
 
 def _territory(chain: Chain, territory: int) -> list:
@@ -277,20 +325,35 @@ def _territory(chain: Chain, territory: int) -> list:
     name = labels.block_name("VOL", territory)
     first, factor = Head(_("volume")), Head(_("factor"), True)
     heads = [first, Head(_("current period"), True), Head(_("previous period"), True), Head(_("previous period, bought"), True)]
-    heads.append(Head(_("growth above 120 %"), True))
+    heads.append(Head(_("growth above 120%"), True))
     rows = [_volume(chain, territory, klass, ("current", "prior", "acquired", "growth")) for klass in VOLUMES]
     caption = _("Volumes of {territory}, section 8.2; entries are VOL and ACQ {number}").format(territory=name, number=territory)
-    charged = [_volume(chain, territory, klass, ("volume_charge", "growth_charge"), _factor(FACTORS[klass - 1])) for klass in VOLUMES]
-    total = chain[f"territory.{territory}.charge"]
-    charged.append(Row([Cell(total.name), Cell(""), Cell(""), _cell(total)], True))
-    charges = [first, factor, Head(_("charge of the volume"), True), Head(_("charge of the growth"), True)]
+    charged = []
+    for klass in VOLUMES:
+        of = chain[f"factor.volume.{klass}"]
+        charged.append(_volume(chain, territory, klass, ("volume_charge", "growth_charge", "charge"), Cell(_percent(of))))
+    totals = [chain[f"territory.{territory}.{ending}"] for ending in ("volume_charge", "growth_charge", "charge")]
+    charged.append(Row([Cell(totals[-1].name), Cell(""), *map(_cell, totals)], True))
+    charges = [first, factor, Head(_("charge of the volume"), True), Head(_("charge of the growth"), True), Head(_("both"), True)]
     told = _("Charges of {territory}, sections 8.2.1 and 8.2.2: factor times volume, factor times growth").format(territory=name)
-    return [("table", Table(caption, heads, rows, many=True)), ("table", Table(told, charges, charged, many=True))]
+    volumes = [("table", Table(caption, heads, rows, many=True)), *_without_line(chain, territory)]
+    return [*volumes, ("table", Table(told, charges, charged, many=True))]
 
 
-def _volume(chain: Chain, territory: int, klass: int, endings: tuple, *before: str) -> Row:
+def _without_line(chain: Chain, territory: int):
+    """Which of the volumes are none of the sheet's."""
+    at = f"territory.{territory}.volume"
+    absent = {
+        code: [klass for klass in VOLUMES if chain[f"{at}.{klass}.{ending}"].source == ABSENT] for code, ending in (("VOL", "current"), ("ACQ", "acquired"))
+    }
+    told = [_("{code} {number}, classes {classes}").format(code=code, number=territory, classes=labels.numbers(found)) for code, found in absent.items() if found]
+    if told:
+        yield "text", _("The sheet has no lines {lines}: they count as 0.").format(lines="; ".join(told))
+
+
+def _volume(chain: Chain, territory: int, klass: int, endings: tuple, *before: Cell) -> Row:
     at = f"territory.{territory}.volume.{klass}"
-    return Row([Cell(labels.label("VOL", territory, klass).name), *map(Cell, before), *(_cell(chain[f"{at}.{ending}"]) for ending in endings)])
+    return Row([Cell(labels.label("VOL", territory, klass).name), *before, *(_cell(chain[f"{at}.{ending}"]) for ending in endings)])
 
 
 def raw(chain: Chain) -> Part:

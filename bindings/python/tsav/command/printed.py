@@ -23,9 +23,9 @@ def half_cents(count: int) -> Amount:
 class SheetRefused(Exception):
     """The sheet that a call's numbers were to be taken from is refused."""
 
-    def __init__(self, refusal: tsav.Refused):
-        self.refusal = refusal
-        super().__init__(refusal)
+    def __init__(self, refused_: accepted.Refused):
+        self.refused = refused_
+        super().__init__(refused_.refusal)
 
 
 def add_options(parser) -> None:
@@ -48,13 +48,13 @@ def table(rows) -> str:
 def done(options, text: str, rows, value: dict) -> Answer:
     """The rows, of which the first is the heading, are what CSV has."""
     if options.csv:
-        sign = csvfile.decimal_sign()
+        sign = amounts.decimal_sign()
         text = csvfile.written([amounts.written(cell.units, sign, cell.places) if isinstance(cell, Amount) else cell for cell in row] for row in rows)
     return Answer(DONE, text, {**value, "refusal": None})
 
 
-def sheet_refused(options, name: str, refusal: tsav.Refused, value: dict) -> Answer:
-    return _refused(options, accepted.Refused(name, refusal).text(), refusal, value)
+def sheet_refused(options, refused_: accepted.Refused, value: dict) -> Answer:
+    return _refused(options, refused_.text(), refused_.refusal, value)
 
 
 def refused(options, refusal: tsav.Refused, place: str, value: dict) -> Answer:

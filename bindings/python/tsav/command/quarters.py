@@ -16,7 +16,7 @@ from tsav.command.whole import narrow, return_mark
 MOST = 64 * 1024 * 1024
 CLOSING = layout.CLOSING.encode("ascii")
 _CLOSED = re.compile(rb"^%b\n" % CLOSING, re.MULTILINE)
-_TOO_MANY = 24
+TOO_MANY = 24
 _NOT_CLOSED = 25
 
 
@@ -45,11 +45,11 @@ def answer(name: str, data: bytes) -> Answer:
         faults.append(fault)
     parts, rest = _parts(data)
     lines = _lines(data)
-    if _last(data).code == "REF" and _last(data).number == _TOO_MANY:
+    if _last(data).code == "REF" and _last(data).number == TOO_MANY:
         faults.append(_too_many(rest if len(parts) <= tsav.MOST_SHEETS else parts[tsav.MOST_SHEETS]))
         parts, lines = parts[: tsav.MOST_SHEETS], lines[: tsav.MOST_SHEETS]
     sheets = [_sheet(part, line) for part, line in zip(parts, lines)]
-    refused = first if first.code == "REF" and first.number in (_TOO_MANY, _NOT_CLOSED) else None
+    refused = first if first.code == "REF" and first.number in (TOO_MANY, _NOT_CLOSED) else None
     value = {
         "file": name,
         "call": "quarter",
@@ -101,6 +101,11 @@ def _parts(data: bytes) -> tuple:
     return parts, Part(data[at:], line)
 
 
+def sheets(data: bytes) -> list:
+    """The bytes before each closing line."""
+    return [part.sheet for part in _parts(data)[0]]
+
+
 def _sheet(part: Part, said: Line) -> Optional[Finder]:
     """The faults of a sheet, which the call has refused as the sheet call does."""
     finder = Finder(part.sheet)
@@ -112,7 +117,7 @@ def _sheet(part: Part, said: Line) -> Optional[Finder]:
 
 def _too_many(part: Part) -> Fault:
     return Fault(
-        _TOO_MANY,
+        TOO_MANY,
         "too-many-sheets",
         _("there are more than {most} sheets").format(most=tsav.MOST_SHEETS),
         line=part.line,

@@ -16,7 +16,6 @@ def add(commands, common) -> None:
     parser = commands.add_parser(
         NAME,
         parents=[common],
-        allow_abbrev=False,
         help=_("write a page with the way from the sheet to its buffer"),
         description=_(
             "Writes a page of an accepted sheet: every figure from the entries to the buffer, pictures, and what a file needs. "
@@ -98,7 +97,7 @@ def _page(title, now: Chain, before, links: list, warnings: list) -> page.Page:
     if before:
         found.append(parts.changes(links, hashlib.sha256(before.sheet).hexdigest()))
     found += [parts.block(now, number) for number in now.blocks]
-    found += [parts.operational(now), parts.raw(now)]
+    found += [parts.operational(now), parts.factors(now), parts.raw(now)]
     figure = now["total.buffer"]
     kind = _("Report on the base solvency buffer, chapters 8 and 11")
     facts = page.sheet_facts(now.sheet) + page.version_facts()

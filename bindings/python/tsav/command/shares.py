@@ -13,9 +13,8 @@ def add(commands, common) -> None:
     parser = commands.add_parser(
         NAME,
         parents=[common],
-        allow_abbrev=False,
         help=_("divide K of a block among its risks"),
-        usage=_("%(prog)s SHEET --block BLOCK [--json | --csv]\n       %(prog)s AMOUNT ... [--json | --csv]"),
+        usage=_("%(prog)s SHEET --block BLOCK [--json | --csv]\n%(prog)s AMOUNT ... [--json | --csv]"),
         description=_("Divides K of a block of a sheet, or of 17 amounts, among its ten parts by the marginal method."),
     )
     given.add(parser)

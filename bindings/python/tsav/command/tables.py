@@ -307,5 +307,5 @@ class _Reader:
 
 def quoted(cell) -> str:
     if isinstance(cell, Decimal):
-        return shown(str(cell))
+        return shown(str(cell).replace(".", amounts.decimal_sign()))
     return _("'{text}'").format(text=shown(cell))

@@ -14,7 +14,6 @@ def add(commands, common) -> None:
     parser = commands.add_parser(
         NAME,
         parents=[common],
-        allow_abbrev=False,
         help=_("write a workbook to fill in"),
         description=_("Writes a workbook with a row for every line of these blocks, their names, sections, symbols and units, and checks."),
     )

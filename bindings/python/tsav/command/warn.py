@@ -12,7 +12,6 @@ def add(commands, common) -> None:
     parser = commands.add_parser(
         NAME,
         parents=[common],
-        allow_abbrev=False,
         help=_("say what looks wrong in a sheet that is accepted"),
         description=_("Says of an accepted sheet what looks wrong, each with its reason and the section of the guideline; it refuses nothing."),
     )

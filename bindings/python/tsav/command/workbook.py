@@ -217,6 +217,9 @@ def _value(cell):
         return tables.Odd(_("a formula stands here: copy it, and paste its value"))
     if isinstance(value, (date, time, timedelta)):
         return tables.Odd(_("the cell has a date's format: give it a number's, and type the number again"))
-    if kind == "e" or isinstance(value, bool):
+    if isinstance(value, bool):
+        value = _("TRUE") if value else _("FALSE")
+        kind = "e"
+    if kind == "e":
         return tables.Odd(_("{value} is no figure").format(value=value))
     return amounts.number(value)

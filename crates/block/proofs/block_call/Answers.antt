@@ -6,7 +6,7 @@ use Rattle.guideline.specs.Block.{figures_of}
 use Rattle.figures.specs.RootSteps.{steps_of}
 use Rattle.figures.specs.Parts.{figure_list, step_list}
 use Rattle.block.specs.Call.{block_call}
-use Rattle.block.proofs.Accepted.{block_demanded, block_few_steps}
+use Rattle.block.proofs.Acceptance.{block_demanded, block_few_steps}
 use Rattle.block.proofs.block_call.Goals.{After-worked_out}
 use Rattle.block.proofs.block_call.Goals as goal
 

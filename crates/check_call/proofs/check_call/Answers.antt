@@ -1,8 +1,8 @@
 -- What judging tells is what the judgement has to tell, so each way out is the call's: a refusal, or what is made of the ledger. Assumes nothing.
 use mathlib.Core.Path.{◌∙◌}
 use Rattle.std.proofs.lemmas.Result.{err_from_is_err_and}
-use Rattle.sheet_answer.proofs.Judged.{turned}
-use Rattle.check_call.proofs.Calls.{walks, promised}
+use Rattle.sheet_answer.proofs.Judgements.{turned}
+use Rattle.check_call.proofs.Calls.{off_tables, promised}
 use Rattle.check_call.proofs.check_call.Goals as goal
 
 pub judge-requires : goal.judge-requires
@@ -15,4 +15,4 @@ returns-in_err-judge c =
 
 pub returns : goal.returns
 returns c =
-    promised _ _ _ (c.list.ensures ∙ walks _ _ _ _ _ _ _ c.in_ok-judge.ensures.findings c.judge.new.ledger c.in_ok-judge.ensures.tables)
+    promised _ _ _ (c.list.ensures ∙ off_tables _ _ _ _ _ _ _ c.in_ok-judge.ensures.findings c.judge.new.ledger c.in_ok-judge.ensures.tables)

@@ -4,8 +4,8 @@ use Prim.Native.Nat.{ℕ, ◌+◌, ◌-◌}
 use native.Mathlib.Omega.{arith}
 use Rattle.basics.specs.Ascending.{ascending}
 use Rattle.needs.specs.Needing.{most_listed}
-use Rattle.check_call.specs.Walk.{unmet_at}
-use Rattle.check_call.proofs.Walking.{count_more, count_same, count_most}
+use Rattle.check_call.specs.Tabled.{unmet_at}
+use Rattle.check_call.proofs.Listing.{count_more, count_same, count_most}
 use Rattle.check_call.proofs.count_unmet.Goals.{After-unmet, then-unmet, else-unmet}
 use Rattle.check_call.proofs.count_unmet.Goals as goal
 

@@ -1,6 +1,6 @@
 use mathlib.Core.Path.{◌≡◌}
 use Prim.Native.Nat.{◌-◌}
-use Rattle.check_call.specs.Walk.{counted_to}
+use Rattle.check_call.specs.Tabled.{counted_to}
 use Rattle.check_call.proofs.count_unmet.Given as goal
 
 abbrev pub invariant-loop-n : goal.invariant-loop-n

@@ -1,6 +1,6 @@
 -- With room for the longest listing, what is printed is what the judgement has to say. Assumes nothing.
 use native.Mathlib.Omega.{arith}
-use Rattle.sheet_answer.proofs.Judged.{printed_text}
+use Rattle.sheet_answer.proofs.Judgements.{printed_text}
 use Rattle.check_call.proofs.Calls.{never_longer}
 use Rattle.check_call.proofs.print_check.Goals as goal
 

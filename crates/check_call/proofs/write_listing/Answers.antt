@@ -3,8 +3,8 @@ use Prim.Native.Nat.{◌+◌, ◌≤◌}
 use lib.ListN.{length}
 use Rattle.basics.specs.Ascending.{ascending}
 use Rattle.basics.proofs.Stretches.{nothing}
-use Rattle.check_call.specs.Walk.{one_at}
-use Rattle.check_call.proofs.Walking.{room_left, next_put}
+use Rattle.check_call.specs.Tabled.{one_at}
+use Rattle.check_call.proofs.Listing.{room_left, next_put}
 use Rattle.check_call.proofs.write_listing.Goals.{In-loop-n}
 use Rattle.check_call.proofs.write_listing.Goals as goal
 

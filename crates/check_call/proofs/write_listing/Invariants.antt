@@ -1,7 +1,7 @@
 use Prim.Native.Nat.{◌-◌}
 use Rattle.basics.proofs.Stretches.{Wrote}
-use Rattle.check_call.specs.Walk.{walked_to}
+use Rattle.check_call.specs.Tabled.{tabled_listing_to}
 use Rattle.check_call.proofs.write_listing.Given as goal
 
 abbrev pub invariant-loop-n : goal.invariant-loop-n
-invariant-loop-n l = Wrote l.initial.room l.at (walked_to l.ledger.firsts l.ledger.seconds (l.n - 1)) l.room
+invariant-loop-n l = Wrote l.initial.room l.at (tabled_listing_to l.ledger.firsts l.ledger.seconds (l.n - 1)) l.room

@@ -4,8 +4,8 @@ use mathlib.Core.Bool.{true}
 use mathlib.Core.List.{[]}
 use native.Mathlib.Omega.{arith}
 use Rattle.needs.specs.Needs.{need_of}
-use Rattle.check_call.specs.Walk.{unmet_at}
-use Rattle.check_call.proofs.Walking.{none_put, one_long, one_put}
+use Rattle.check_call.specs.Tabled.{unmet_at}
+use Rattle.check_call.proofs.Listing.{none_put, one_long, one_put}
 use Rattle.check_call.proofs.write_one.Goals.{After-unmet, Else-not-unmet}
 use Rattle.check_call.proofs.write_one.Goals as goal
 

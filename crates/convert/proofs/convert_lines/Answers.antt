@@ -2,8 +2,8 @@
 use mathlib.Core.Path.{refl, sym, ap, ◌∙◌}
 use native.Mathlib.Omega.{arith}
 use Rattle.std.proofs.lemmas.Result.{err_from_is_err_and}
+use Rattle.refusal.specs.Outcome.{stated_number}
 use Rattle.places.specs.Marks.{marks_of}
-use Rattle.text_answer.specs.Lent.{stated}
 use Rattle.convert.proofs.Calls.{lines_turned, lines_short, lines_written}
 use Rattle.convert.proofs.convert_lines.Goals as goal
 
@@ -15,14 +15,14 @@ pub returns-in_err-test_lines : goal.returns-in_err-test_lines
 returns-in_err-test_lines c =
     let p = err_from_is_err_and c.from_residual.result c.from_residual.ensures.1 in
     rw (p.1, p.2)
-    (lines_turned c.args.scale c.args.sheet.now c.args.room.now (sym (ap stated c.in_err-test_lines.was) ∙ c.test_lines.ensures))
+    (lines_turned c.args.scale c.args.sheet.now c.args.room.now (sym (ap stated_number c.in_err-test_lines.was) ∙ c.test_lines.ensures))
 
 pub returns-then-room-sheet : goal.returns-then-room-sheet
 returns-then-room-sheet c =
-    lines_short c.args.scale c.args.sheet.now c.args.room.now (sym (ap stated c.in_ok-test_lines.was) ∙ c.test_lines.ensures) c.requires
+    lines_short c.args.scale c.args.sheet.now c.args.room.now (sym (ap stated_number c.in_ok-test_lines.was) ∙ c.test_lines.ensures) c.requires
     (omega (arith, c.if-room-sheet.true))
 
 pub returns : goal.returns
 returns c =
-    let tested = sym (ap stated c.in_ok-test_lines.was) ∙ c.test_lines.ensures in
+    let tested = sym (ap stated_number c.in_ok-test_lines.was) ∙ c.test_lines.ensures in
     lines_written c.args.scale c.args.sheet.now c.args.room.now tested c.requires (omega (arith, c.if-room-sheet.false)) c.write_lines.ensures

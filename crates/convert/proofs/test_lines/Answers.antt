@@ -2,7 +2,7 @@
 use mathlib.Core.Path.{◌≡◌, ap, ◌∙◌}
 use native.Mathlib.Omega.{arith}
 use Rattle.layout.specs.Whole.{line_at}
-use Rattle.layout.proofs.Lent.{count_lines, within, line_is}
+use Rattle.layout.proofs.WholeLines.{count_lines, within, line_is}
 use Rattle.order.proofs.Lines.{line_keyed}
 use Rattle.scaled_line.specs.Scale.{parse_in}
 use Rattle.convert.proofs.Reading.{reads}

@@ -2,13 +2,13 @@
 use mathlib.Core.Path.{refl}
 use native.Mathlib.Omega.{arith}
 use Rattle.std.proofs.lemmas.Int.{to_z-of_z}
-use Rattle.guideline.specs.Factors.{so_far}
-use Rattle.guideline.proofs.Order.{in_order}
+use Rattle.integer.specs.Sum.{sum}
+use Rattle.guideline.proofs.ProductOrder.{in_order}
 use Rattle.correlation.proofs.row_by_row.Goals as goal
 
 -- before the first row
 pub with_row-s1-requires-clause-so_far : goal.with_row-s1-requires-clause-so_far
-unfolding so_far
+unfolding sum
 with_row-s1-requires-clause-so_far c = record { small = c.requires; sum = refl; room = omega arith }
 
 pub returns : goal.returns

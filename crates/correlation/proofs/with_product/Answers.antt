@@ -5,7 +5,7 @@ use native.Mathlib.Omega.{arith}
 use lib.IntN.{pos, nat_abs, ◌*ℤ◌}
 use Rattle.std.proofs.lemmas.Int.{to_z-of_z}
 use Rattle.sizes.specs.Sizes.{risks}
-use Rattle.correlation.proofs.Running.{product, term_small, next}
+use Rattle.correlation.proofs.RunningSum.{product, term_small, next}
 use Rattle.correlation.proofs.with_product.Goals.{After-from-3}
 use Rattle.correlation.proofs.with_product.Goals as goal
 

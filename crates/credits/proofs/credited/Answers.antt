@@ -1,6 +1,6 @@
 -- Where the test finds no credit above its block's LT(1), all are covered. Assumes nothing.
 use mathlib.Core.Path.{sym, ◌∙◌}
-use Rattle.credits.proofs.Accepted.{all_covered}
+use Rattle.credits.proofs.Acceptance.{all_covered}
 use Rattle.credits.proofs.credited.Goals as goal
 
 pub invariant_of-result-clause-covered : goal.invariant_of-result-clause-covered

@@ -2,7 +2,7 @@
 use native.Mathlib.Omega.{arith}
 use mathlib.Core.Path.{◌∙◌}
 use lib.ListN.{length-set}
-use Rattle.field.proofs.Writing.{last_written, two_written, one_written, all_written}
+use Rattle.field.proofs.WrittenColumns.{last_written, two_written, one_written, all_written}
 use Rattle.field.proofs.write_field.Goals as goal
 
 pub loop-at-init : goal.loop-at-init

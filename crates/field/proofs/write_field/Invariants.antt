@@ -1,6 +1,6 @@
 -- The columns from `at` on are written, and what is left of the number belongs into the columns before them. Assumes nothing.
 use lib.ListN.{length}
-use Rattle.field.proofs.Writing.{Written}
+use Rattle.field.proofs.WrittenColumns.{Written}
 use Rattle.field.proofs.write_field.Given as goal
 
 abbrev pub invariant-loop-at : goal.invariant-loop-at

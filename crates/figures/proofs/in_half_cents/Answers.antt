@@ -3,7 +3,7 @@ use mathlib.Core.Path.{◌≡◌, ◌∙◌}
 use Prim.Native.Nat.{◌+◌, ◌-◌, ◌/◌}
 use native.Mathlib.Omega.{arith}
 use Rattle.sizes.specs.Sizes.{fineness}
-use Rattle.figures.proofs.Joint.{reported_is}
+use Rattle.figures.proofs.JointRadicand.{reported_is}
 use Rattle.figures.proofs.in_half_cents.Goals as goal
 
 pub returns : goal.returns

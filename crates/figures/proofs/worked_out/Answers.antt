@@ -6,7 +6,7 @@ use native.Mathlib.Omega.{arith}
 use Rattle.guideline.specs.Block.{fine_d, figures_of}
 use Rattle.root.specs.Steps.{steps}
 use Rattle.figures.specs.RootSteps.{steps_of}
-use Rattle.figures.proofs.Joint.{joint_fits, joint_found, joint_radicand, fine_fit, i_found, d_found}
+use Rattle.figures.proofs.JointRadicand.{joint_fits, joint_found, joint_radicand, fine_fit, i_found, d_found}
 use Rattle.figures.proofs.Numerator.{bounded, adjusted_found}
 use Rattle.figures.proofs.worked_out.Goals.{After-diversified-joint}
 use Rattle.figures.proofs.worked_out.Goals as goal

@@ -5,9 +5,13 @@ use mathlib.Core.List.{[], ◌∷◌}
 use Prim.Native.Nat.{ℕ}
 use native.Mathlib.Omega.{arith}
 use Rattle.refusal.specs.Outcome.Outcome.{accepted}
-use Rattle.fluctuation.specs.Call.{rule7, fluctuation_call}
-use Rattle.fluctuation.proofs.Rules.{no_row_below, no_row_above, passed_18, refused_7, passed_7, within_limit}
-use Rattle.fluctuation.proofs.Accepted.{fluctuation_demanded}
+use Rattle.amount.specs.Rule7.{rule7}
+use Rattle.amount.proofs.Rule7.{refused_7, passed_7}
+use Rattle.fluctuation.specs.Rows.{row_of}
+use Rattle.fluctuation.specs.Result.{factored_requirement}
+use Rattle.fluctuation.specs.Call.{fluctuation_call}
+use Rattle.fluctuation.proofs.Rules.{no_row_below, no_row_above, passed_18, within_limit}
+use Rattle.fluctuation.proofs.Acceptance.{fluctuation_demanded}
 use Rattle.fluctuation.proofs.fluctuation_call.Goals.{Else-row-gt-ROWS}
 use Rattle.fluctuation.proofs.fluctuation_call.Goals as goal
 
@@ -26,11 +30,12 @@ returns-then-row-gt-ROWS c = record {
 -- past rule 18
 after_18 : (c : Else-row-gt-ROWS) →
     let a = c.args in
-    fluctuation_call a.row a.requirement a.face ≡ rule7 a.row a.requirement a.face
+    fluctuation_call a.row a.requirement a.face
+    ≡ rule7 (a.requirement ∷ a.face ∷ []) (accepted (factored_requirement (row_of a.row) a.requirement a.face ∷ []))
 after_18 c = passed_18 _ _ _ c.if-row-lt1.false (omega (arith, c.if-row-gt-ROWS.false))
 
 pub returns-in-Some-clause-outcome : goal.returns-in-Some-clause-outcome
-returns-in-Some-clause-outcome c = sym (after_18 (goal.at.returns-in-Some-clause-outcome c).Else-row-gt-ROWS ∙ refused_7 _ _ _ c.in-Some.ensures)
+returns-in-Some-clause-outcome c = sym (after_18 (goal.at.returns-in-Some-clause-outcome c).Else-row-gt-ROWS ∙ refused_7 _ _ c.in-Some.ensures)
 
 pub fluctuation-requires : goal.fluctuation-requires
 fluctuation-requires c =
@@ -43,7 +48,7 @@ returns c =
     let row_gt_rows = (goal.at.returns c).Else-row-gt-ROWS in
     let e =
     ap (λ (x : ℕ). accepted (x ∷ [])) c.fluctuation.ensures
-    ∙ sym (after_18 row_gt_rows ∙ passed_7 _ _ _ c.in_default.ensures) in record {
+    ∙ sym (after_18 row_gt_rows ∙ passed_7 _ _ c.in_default.ensures) in record {
       outcome = e;
       accuracy = fluctuation_demanded _ _ _ _ e;
     }

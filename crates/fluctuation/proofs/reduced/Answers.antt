@@ -4,7 +4,7 @@ use Prim.Native.Nat.{◌+◌, ◌*◌, ◌≤◌}
 use native.Mathlib.Nat.{mul-le-mul}
 use native.Mathlib.Omega.{arith}
 use Rattle.amount.specs.Amount.{limit}
-use Rattle.fluctuation.proofs.Reached.{square_small, root_high, rounded_up}
+use Rattle.fluctuation.proofs.LeastCents.{square_small, root_high, rounded_up}
 use Rattle.fluctuation.proofs.reduced.Goals.{After-over_root-over, Start}
 use Rattle.fluctuation.proofs.reduced.Goals as goal
 

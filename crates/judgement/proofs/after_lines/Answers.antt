@@ -31,4 +31,4 @@ pub returns-clause-findings : goal.returns-clause-findings
 returns-clause-findings c es H =
     let not_has_scalar = (goal.at.returns-clause-findings c).Else-not-has_scalar in
     let some = c.in-Some.ensures in
-    c.rule_17.ensures.findings es (rw some.ledger H) ∙ credits_pass es (has_scalar_line not_has_scalar es H) (sym (some.rule_16 es H))
+    c.totals_of.ensures.findings es (rw some.ledger H) ∙ credits_pass es (has_scalar_line not_has_scalar es H) (sym (some.rule_16 es H))

@@ -9,7 +9,7 @@ use Rattle.judgement.specs.Sheet.{sheet_of}
 use Rattle.ledger.specs.Lines.{Holds}
 use Rattle.std.proofs.Props.{props}
 use Rattle.ledger.proofs.Tables.{of_lines, volumes_are, general_is}
-use Rattle.judgement.proofs.Accepted.{amounts_within}
+use Rattle.judgement.proofs.Acceptance.{amounts_within}
 use Rattle.judgement.proofs.operational_figure.Goals.{After-general_amount-3}
 use Rattle.judgement.proofs.operational_figure.Goals as goal
 

@@ -4,7 +4,7 @@ use borrow.Author.Tests.{tests}
 use mathlib.Core.Path.{◌≡◌}
 use mathlib.Core.Bool.{true, false}
 use Rattle.std.proofs.lemmas.Iterator.{IsFirst-from_position, YieldsList-from_slice}
-use Rattle.layout.proofs.Lent.{breaks, broken_found}
+use Rattle.layout.proofs.WholeLines.{breaks, broken_found}
 use Rattle.layout.proofs.first_broken.Goals as goal
 
 pub returns : goal.returns

@@ -5,7 +5,7 @@ use lib.Bits.{bit_and, and_le_l}
 use Rattle.line_fields.proofs.Bytes.{lanes, within_all}
 use Rattle.line_fields.proofs.Bits.{runs, lower_halves, digits_within}
 use Rattle.line_fields.proofs.Fields.{holds}
-use Rattle.line_fields.proofs.Spelled.{blank, marks_apart, digits_short, digits_unmarked, digits_high, digits_above_9}
+use Rattle.line_fields.proofs.WordTests.{blank, marks_apart, digits_short, digits_unmarked, digits_high, digits_above_9}
 use Rattle.line_fields.proofs.digits_in.Goals.{then-y-behind-via-then-y-behind, then-y-behind-via-else-y-behind+then-marks-y}
 use Rattle.line_fields.proofs.digits_in.Goals as goal
 

@@ -1,4 +1,4 @@
--- A label is columns 1–9 of a report line, with the letters of its code. Assumes nothing.
+-- A label is columns 1–9 of a line, with the letters of its code. Assumes nothing.
 use mathlib.Core.Path.{◌∙◌}
 use Rattle.needs.specs.Listing.{label_of}
 use Rattle.needs_line.proofs.write_label.Goals as goal

@@ -1,5 +1,5 @@
 -- The two labels are put back where they were lent, and the stores put a space and the line feed behind them. Assumes nothing.
-use Rattle.needs_line.proofs.Written.{listed_filled}
+use Rattle.needs_line.proofs.LineBytes.{listed_filled}
 use Rattle.needs_line.proofs.write_listed.Goals as goal
 
 pub returns : goal.returns

@@ -4,7 +4,7 @@ use Prim.Native.Nat.{◌+◌, ◌≤◌}
 use native.Mathlib.Omega.{arith}
 use lib.ListN.{length}
 use Rattle.quarter.specs.Steps.{lines_long, longest_output}
-use Rattle.quarter.proofs.Ending.{room_left, finished_24, finished_25, finished_summary}
+use Rattle.quarter.proofs.InputEnd.{room_left, finished_24, finished_25, finished_summary}
 use Rattle.quarter.proofs.finish.Goals.{Start}
 use Rattle.quarter.proofs.finish.Goals as goal
 

@@ -7,7 +7,7 @@ use Rattle.basics.proofs.Stretches.{stretch_long}
 use Rattle.report_line.specs.Line.{line_bytes}
 use Rattle.quarter_text.specs.Printout.{columns}
 use Rattle.quarter.specs.Steps.{lines_long, longest_output}
-use Rattle.quarter.proofs.Taking.{at_first, of_held, out_is, held_within, few, line_fits, taken_all, taken_many, taken_on, taken_next, taken_over}
+use Rattle.quarter.proofs.Chunks.{at_first, of_held, out_is, held_within, fits, line_fits, taken_all, taken_many, taken_on, taken_next, taken_over}
 use Rattle.quarter.proofs.take_chunk.Goals.{In-Break}
 use Rattle.quarter.proofs.take_chunk.Goals as goal
 
@@ -21,12 +21,12 @@ pub returns-then-sheets-eq-MOST_SHEETS : goal.returns-then-sheets-eq-MOST_SHEETS
 returns-then-sheets-eq-MOST_SHEETS c =
     of_held c.in-Some.is (taken_many c.loop-at.invariant (omega (arith, c.if-sheets-eq-MOST_SHEETS.true)) c.loop-at-test.true)
 
-pub feed-requires-clause-within : goal.feed-requires-clause-within
-feed-requires-clause-within c = held_within c.loop-at.invariant
+pub scan-requires-clause-within : goal.scan-requires-clause-within
+scan-requires-clause-within c = held_within c.loop-at.invariant
 
 pub returns-in-Continue : goal.returns-in-Continue
 returns-in-Continue c =
-    of_held c.in-Some.is (taken_on c.loop-at.invariant c.feed.ensures c.feed.auto.room c.if-sheets-eq-MOST_SHEETS.false c.in-Continue.is)
+    of_held c.in-Some.is (taken_on c.loop-at.invariant c.scan.ensures c.scan.auto.room c.if-sheets-eq-MOST_SHEETS.false c.in-Continue.is)
 
 -- the line of a closed sheet has a place
 closed : (c : In-Break) → (lines_long c.loop-at.sheets + line_bytes columns ≤ length c.loop-at.out) × (length c.loop-at.out ≡ longest_output)
@@ -34,12 +34,12 @@ closed c = (line_fits c.loop-at.invariant c.if-sheets-eq-MOST_SHEETS.false, out_
 
 pub answer_sheet-summary-requires : goal.answer_sheet-summary-requires
 answer_sheet-summary-requires c =
-    (stretch_long _ _ _ (line_fits c.loop-at.invariant c.if-sheets-eq-MOST_SHEETS.false), few c.loop-at.invariant)
+    (stretch_long _ _ _ (line_fits c.loop-at.invariant c.if-sheets-eq-MOST_SHEETS.false), fits c.loop-at.invariant)
 
 pub loop-at-preserved : goal.loop-at-preserved
 loop-at-preserved c =
-    taken_next c.loop-at.invariant c.feed.ensures c.feed.auto.room c.if-sheets-eq-MOST_SHEETS.false c.in-Break.is
-    c.answer_sheet-summary.ensures.line_after c.fresh-held.ensures c.answer_sheet-summary.ensures.summed
+    taken_next c.loop-at.invariant c.scan.ensures c.scan.auto.room c.if-sheets-eq-MOST_SHEETS.false c.in-Break.is
+    c.answer_sheet-summary.ensures.line_after c.new_sheet-held.ensures c.answer_sheet-summary.ensures.summed
 
 pub returns : goal.returns
 returns c = of_held c.in-Some.is (taken_all c.loop-at.invariant c.loop-at-test.false)

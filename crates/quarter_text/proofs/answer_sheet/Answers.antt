@@ -1,8 +1,8 @@
 -- The sheet's answer is its line, and a buffer more in the summary. Assumes nothing.
 use mathlib.Core.Path.{sym, ◌∙◌}
-use Rattle.report_line.proofs.Filled.{in_columns}
+use Rattle.report_line.proofs.LineBytes.{in_columns}
 use Rattle.quarter_text.specs.Printout.{columns}
-use Rattle.quarter_text.proofs.Closed.{accepted_line, accepted_fits, accepted_with, refused_line, refused_with}
+use Rattle.quarter_text.proofs.ClosedSheets.{accepted_line, accepted_fits, accepted_with, refused_line, refused_with}
 use Rattle.quarter_text.proofs.answer_sheet.Goals as goal
 
 pub with_sheet-requires : goal.with_sheet-requires

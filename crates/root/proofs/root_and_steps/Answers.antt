@@ -6,7 +6,7 @@ use native.Mathlib.Omega.{arith}
 use Rattle.wide.specs.Value.{value}
 use Rattle.root.specs.Steps.{steps, After, Aligned}
 use Rattle.root.proofs.Lengths.{has_digits}
-use Rattle.root.proofs.Rooted.{few, small, window_small, at_start, root_small, exact_root, next_root, root_of_none}
+use Rattle.root.proofs.Roots.{few, small, window_small, at_start, root_small, exact_root, next_root, root_of_none}
 use Rattle.root.proofs.root_and_steps.Goals.{After-aligned-window, After-loop-j, At-loop-j, In-loop-j}
 use Rattle.root.proofs.root_and_steps.Goals as goal
 

@@ -1,6 +1,6 @@
 -- The digit is 0 or 1, as a number, and the law of one digit more says what it leaves. Assumes nothing.
 use native.Mathlib.Omega.{arith}
-use Rattle.root.proofs.Rooted.{Digit, digit}
+use Rattle.root.proofs.Roots.{Digit, digit}
 use Rattle.root.proofs.root_step.Goals.{After-left_above-left}
 use Rattle.root.proofs.root_step.Goals as goal
 

@@ -4,7 +4,7 @@ use Prim.Native.Nat.{◌+◌, ◌*◌, ◌^◌, ◌<◌}
 use native.Mathlib.Omega.{arith}
 use lib.Arith.{digits_lt}
 use Rattle.wide.specs.Value.{value}
-use Rattle.root.proofs.Rooted.{step}
+use Rattle.root.proofs.Roots.{step}
 use Rattle.root.proofs.step.Goals.{After-bring_down-moved}
 use Rattle.root.proofs.step.Goals as goal
 

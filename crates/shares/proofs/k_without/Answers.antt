@@ -5,7 +5,7 @@ use Prim.Native.Nat.{ℕ}
 use Rattle.guideline.specs.Block.{AcceptedBlock, K}
 use Rattle.figures.specs.Parts.{figures_are}
 use Rattle.shares.specs.Margins.{without, k_without}
-use Rattle.shares.proofs.Without.{accepted_without}
+use Rattle.shares.proofs.PartsLeftOut.{accepted_without}
 use Rattle.shares.proofs.k_without.Goals.{After-without_part}
 use Rattle.shares.proofs.k_without.Goals as goal
 

@@ -1,7 +1,7 @@
 -- Each number is the sum of two, and one of the two is barred where either is. Assumes nothing.
 use mathlib.Core.Path.{sym, ◌∙◌}
 use Rattle.basics.proofs.Picks.{if_true, if_false}
-use Rattle.sheet_blocks.proofs.Figured.{joined_is}
+use Rattle.sheet_blocks.proofs.WorkedBlocks.{joined_is}
 use Rattle.sheet_blocks.proofs.joined.Goals as goal
 
 pub returns-then-w : goal.returns-then-w

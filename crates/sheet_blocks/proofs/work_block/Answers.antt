@@ -15,7 +15,7 @@ use Rattle.credits.specs.Credits.{after_credit}
 use Rattle.ledger.specs.Lines.{Holds}
 use Rattle.std.proofs.Props.{props}
 use Rattle.ledger.proofs.Tables.{of_lines, exists_is}
-use Rattle.sheet_blocks.proofs.Figured.{absent, present, fits, dividends_fit}
+use Rattle.sheet_blocks.proofs.WorkedBlocks.{absent, present, fits, dividends_fit}
 use Rattle.sheet_blocks.proofs.work_block.Goals.{After-block_exists, After-figures_of-figures, Start}
 use Rattle.sheet_blocks.proofs.work_block.Goals as goal
 

@@ -5,7 +5,7 @@ use native.Mathlib.Omega.{arith}
 use lib.ListN.{length, take}
 use lib.Seq.{length-take-le}
 use Rattle.std.proofs.lemmas.Result.{err_from_is_err_and}
-use Rattle.sheet_answer.proofs.Judged.{turned}
+use Rattle.sheet_answer.proofs.Judgements.{turned}
 use Rattle.sheet_call.proofs.Rules.{few, too_short, reported}
 use Rattle.sheet_call.proofs.Accuracy.{promised}
 use Rattle.sheet_call.proofs.sheet_call.Goals.{Else-report-length}

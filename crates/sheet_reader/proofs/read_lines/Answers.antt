@@ -3,9 +3,9 @@
 use mathlib.Core.Path.{◌≡◌, ap, ◌∙◌}
 use native.Mathlib.Omega.{arith}
 use Rattle.layout.specs.Whole.{line_at}
-use Rattle.layout.proofs.Lent.{count_lines, within, line_is}
+use Rattle.layout.proofs.WholeLines.{count_lines, within, line_is}
 use Rattle.sheet_line.specs.Rules.{parse_line}
-use Rattle.sheet_reader.proofs.Filling.{line_sound, entry_good, turned, again, done}
+use Rattle.sheet_reader.proofs.FilledLedger.{line_sound, entry_good, turned, again, done}
 use Rattle.sheet_reader.proofs.read_lines.Goals.{After-read_line-read}
 use Rattle.sheet_reader.proofs.read_lines.Goals as goal
 

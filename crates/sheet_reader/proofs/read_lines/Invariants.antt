@@ -1,4 +1,4 @@
-use Rattle.sheet_reader.proofs.Filling.{FilledTo}
+use Rattle.sheet_reader.proofs.FilledLedger.{FilledTo}
 use Rattle.sheet_reader.proofs.read_lines.Given as goal
 
 abbrev pub invariant-loop-i : goal.invariant-loop-i

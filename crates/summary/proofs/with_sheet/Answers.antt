@@ -1,7 +1,7 @@
 -- The first sheet is all that there is; any other is compared with the smallest and the largest so far. Assumes nothing.
 use mathlib.Core.Path.{◌∙◌}
 use Rattle.std.proofs.lemmas.List.Sorted.{answers_always}
-use Rattle.summary.proofs.Foremost.{smaller_is, larger_is}
+use Rattle.summary.proofs.Extremes.{smaller_is, larger_is}
 use Rattle.summary.proofs.Summaries.{summary_first, summary_more}
 use Rattle.summary.proofs.with_sheet.Goals as goal
 

@@ -10,8 +10,8 @@ use Rattle.refusal.specs.Outcome.{rule_number}
 use Rattle.refusal.specs.declared.Refusal.{Refusal}
 use Rattle.sizes.specs.Sizes.{number_columns}
 use Rattle.report_line.specs.Line.{line_bytes, report_line_bytes, row_in}
-use Rattle.report_line.proofs.Filled.{in_columns}
-use Rattle.report_line.proofs.ReadBack.{length_line}
+use Rattle.report_line.proofs.LineBytes.{in_columns}
+use Rattle.report_line.proofs.Readback.{length_line}
 use Rattle.text_answer.specs.Printing.{refusal_row, refusal_line, Shown}
 use Rattle.text_answer.proofs.print_answer.Goals as goal
 

@@ -6,7 +6,7 @@ use Rattle.std.specs.Io.KnownBytes.{Consumes, IsAtEnd}
 use Rattle.std.proofs.KnownBytes.{Consumes-nil, Consumes-trans}
 use Rattle.quarter.specs.declared.Quarter.{Quarter}
 use Rattle.quarter.specs.Steps.{After}
-use Rattle.quarter.proofs.Taking.{taken_over}
+use Rattle.quarter.proofs.Chunks.{taken_over}
 use Rattle.tsav_quarter.specs.Input.{TakenAll}
 use Rattle.tsav_quarter.proofs.take_input.Goals.{then-ended-via-then-ended, then-ended-via-else-ended+then-is_none}
 use Rattle.tsav_quarter.proofs.take_input.Goals as goal

@@ -8,7 +8,7 @@ use Rattle.credits.specs.Credits.{credit_of, after_credit}
 use Rattle.ledger.specs.Lines.{Holds}
 use Rattle.std.proofs.Props.{props}
 use Rattle.ledger.proofs.Tables.{of_lines, numbers_are}
-use Rattle.credits.proofs.Accepted.{entered_accepted, block_accepted}
+use Rattle.credits.proofs.Acceptance.{entered_accepted, block_accepted}
 use Rattle.credits.proofs.CreditedLedger.numbers_after_credit.Goals.{After-credit_of, After-lowered}
 use Rattle.credits.proofs.CreditedLedger.numbers_after_credit.Goals as goal
 

@@ -5,7 +5,7 @@ use native.Mathlib.Omega.{arith}
 use lib.ListN.{get_or, set}
 use Rattle.guideline.specs.Block.{AcceptedBlock}
 use Rattle.sensitivity.specs.Movement.{raised}
-use Rattle.sensitivity.proofs.Moved.{raised_accepted}
+use Rattle.sensitivity.proofs.Movement.{raised_accepted}
 use Rattle.movement.proofs.Lines.{raised_is}
 use Rattle.movement.proofs.moves.raised.Goals.{After-numbers}
 use Rattle.movement.proofs.moves.raised.Goals as goal

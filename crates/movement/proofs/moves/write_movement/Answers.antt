@@ -4,7 +4,7 @@ use native.Mathlib.Omega.{arith}
 use Rattle.sizes.specs.Sizes.{number_columns}
 use Rattle.guideline.specs.Block.{K}
 use Rattle.figures.specs.Parts.{figures_are}
-use Rattle.report_line.proofs.Filled.{in_columns}
+use Rattle.report_line.proofs.LineBytes.{in_columns}
 use Rattle.movement.proofs.Lines.{refused_line, within, moved_line}
 use Rattle.movement.proofs.moves.write_movement.Goals as goal
 

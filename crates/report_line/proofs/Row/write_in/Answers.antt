@@ -1,5 +1,5 @@
 -- Columns 1–9 and the number's are put back where they were lent, with a space stored between them and the line feed behind. Assumes nothing.
-use Rattle.report_line.proofs.Filled.{line_filled}
+use Rattle.report_line.proofs.LineBytes.{line_filled}
 use borrow.Author.Rules.{rules}
 use Rattle.report_line.proofs.Row.write_in.Goals as goal
 

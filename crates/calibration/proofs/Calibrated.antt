@@ -1,7 +1,0 @@
--- Every row of document 01's table holds: the computed test. Assumes nothing.
-use lib.Dec.{T}
-use Rattle.calibration.specs.Points.{all_given, points}
-use Rattle.calibration.proofs.Computed.{computed}
-
-pub calibrated : T (all_given points)
-calibrated = computed.rows

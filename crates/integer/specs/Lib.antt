@@ -1,0 +1,3 @@
+-- Sums in ℤ, and the larger of two.
+pub mod Sum
+pub mod Larger

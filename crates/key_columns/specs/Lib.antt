@@ -1,0 +1,2 @@
+-- Columns 1 to 9 of a line. Assumes nothing.
+pub mod Key
