@@ -10,6 +10,7 @@ from pathlib import Path
 
 import pages
 from pages import ENGLISH, FRENCH, PROGRAMMING, TOP
+from running import names_of
 
 from tsav.command import amounts, csvfile, fluctuation, labels, messages, workbook
 
@@ -237,15 +238,6 @@ class Commands(unittest.TestCase):
             done = self.run_command(f"tsav report {arguments} --json", "en")
             self.assertEqual((done.returncode, done.stderr), (0, b""))
             self.assertEqual({name for name in names_of(json.loads(done.stdout)) if not name.isdigit()} - known, set())
-
-
-def names_of(value):
-    """The names of a JSON value, of all its parts."""
-    if isinstance(value, dict):
-        yield from value
-        value = list(value.values())
-    for part in value if isinstance(value, list) else []:
-        yield from names_of(part)
 
 
 class Words(unittest.TestCase):
