@@ -284,8 +284,8 @@ class Lines(Explain):
     def test_the_other_line(self):
         for name, other, advice in (
             ("twice", 2, "The two are the same: take one of them out."),
-            ("order", 8, "Move line 9 behind line 1."),
-            ("scalar on top", 1, "Move line 1 behind line 13."),
+            ("order", 8, "Move line 9 after line 1."),
+            ("scalar on top", 1, "Move line 1 after line 13."),
         ):
             given = next(rule[1] for rule in RULES if rule[0] == name)
             with self.subTest(name):

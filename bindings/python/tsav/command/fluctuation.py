@@ -71,7 +71,7 @@ def _row(text: str) -> int:
 def run(options) -> Answer:
     printed.one_form(options)
     if options.row == _OF_FACE and options.face is None:
-        options.wrong(_("critical illness has the face amount as its base: type it behind the requirement"))
+        options.wrong(_("critical illness has the face amount as its base: type it after the requirement"))
     name = _(ROWS[options.row].name)
     result = tsav.fluctuation(options.row, options.requirement, options.face or 0)
     cells = [(_("Requirement"), Amount(options.requirement))]

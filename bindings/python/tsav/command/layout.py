@@ -364,7 +364,7 @@ def read_amount(text: str, name: str) -> Tuple[list, Optional[int]]:
     if not causes and word.end != width:
         causes = [_displaced(text, word, width, [], name)]
     elif not causes and len(text) > width:
-        found = ngettext("{count} space behind the amount", "{count} spaces behind the amount", len(text) - width)
+        found = ngettext("{count} space after the amount", "{count} spaces after the amount", len(text) - width)
         wanted = _("a line feed in column {column}").format(column=width + 1)
         causes = [Cause("trailing-spaces", width + 1, found.format(count=len(text) - width), wanted)]
     return sorted(causes, key=lambda cause: cause.column), None if controls else number.value
@@ -451,7 +451,7 @@ def _lacking(text: str, code: str, klass: Optional[int], fields: list) -> list:
     """Numbers that are missing, or one too many."""
     if len(fields) > len(_FIELDS):
         extra = fields[len(_FIELDS)]
-        found = _("more behind the second amount: {text}").format(text=visible(text[extra.start :].rstrip()))
+        found = _("more after the second amount: {text}").format(text=visible(text[extra.start :].rstrip()))
         return [Cause("too-long", extra.start + 1, found, _("five values in 39 characters"))]
     if len(fields) < len(_FIELDS):
         found = _("nothing for {name}").format(name=_name(code, klass, _FIELDS[len(fields)]))
@@ -473,7 +473,7 @@ def _places(text: str, code: Word, fields: list, code_text: str, klass: Optional
             return [_displaced(text, field, end, fields, _name(code_text, klass, end))]
     if len(text) >= columns.LENGTH:
         spaces = len(text) - columns.LENGTH + 1
-        found = ngettext("{count} space behind the second amount", "{count} spaces behind the second amount", spaces)
+        found = ngettext("{count} space after the second amount", "{count} spaces after the second amount", spaces)
         wanted = _("a line feed in column {column}").format(column=columns.LENGTH)
         return [Cause("trailing-spaces", columns.LENGTH, found.format(count=spaces), wanted)]
     return []

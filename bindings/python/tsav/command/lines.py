@@ -115,7 +115,7 @@ def _no_line_feed(finder, refusal, row: Row) -> None:
             Mark(
                 columns.LENGTH,
                 "no-line-feed",
-                _("nothing behind the last line"),
+                _("nothing after the last line"),
                 _("a line feed in column {column}").format(column=columns.LENGTH),
             ),
         ),
@@ -330,11 +330,11 @@ def order(finder, refusal) -> None:
         title = _("the line before it came too early")
     else:
         title = _("it doesn't come after the line before it")
-    found = _("{name}, behind {line}").format(name=line_name(*key_of(row.line)), line=line_words(other))
+    found = _("{name}, after {line}").format(name=line_name(*key_of(row.line)), line=line_words(other))
     finder.rows.move(moved)
     place = finder.rows.current.index(moved)
     if place:
-        advice = _("Move {line} behind {other}.").format(line=line_words(moved), other=line_words(finder.rows.current[place - 1]))
+        advice = _("Move {line} after {other}.").format(line=line_words(moved), other=line_words(finder.rows.current[place - 1]))
     else:
         advice = _("Move {line} to the top.").format(line=line_words(moved))
     finder.add(

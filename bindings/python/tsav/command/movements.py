@@ -97,7 +97,7 @@ class _Lines:
         elif self.data and not self.data.endswith(b"\n"):
             line = decoded(self.data.split(b"\n")[-1])
             mark = Mark(
-                len(line) + 1, "no-line-feed", _("nothing behind the last line"), _("a line feed in column {column}").format(column=WIDTH)
+                len(line) + 1, "no-line-feed", _("nothing after the last line"), _("a line feed in column {column}").format(column=WIDTH)
             )
             self._add(refusal, mark.cause, _(layout.NAMES[mark.cause]), 1 + self.data.count(b"\n"), visible(line), (mark,))
             self.data += b"\n"
@@ -132,7 +132,7 @@ class _Lines:
             self.faults.append(Fault(refusal.number, "lines", title, advice=_("A zero is typed, too: no line may be left out.")))
             return
         text = visible(decoded(lines[LINES][:-1]))
-        mark = Mark(1, "lines", _("a line behind that of t"), _("the end of the file"))
+        mark = Mark(1, "lines", _("a line after that of t"), _("the end of the file"))
         self._add(refusal, "lines", title, LINES + 1, text, (mark,))
         self.data = b"".join(lines[:LINES])
 

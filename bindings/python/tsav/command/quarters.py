@@ -126,11 +126,11 @@ def _too_many(part: Part) -> Fault:
             Mark(
                 1,
                 "too-many-sheets",
-                _("something behind the closing line of sheet {most}").format(most=tsav.MOST_SHEETS),
+                _("something after the closing line of sheet {most}").format(most=tsav.MOST_SHEETS),
                 _("the end of the file; the first {most} sheets are answered, without a summary").format(most=tsav.MOST_SHEETS),
             ),
         ),
-        advice=_("Explain the sheets behind it as another quarter; where nothing is meant there, take these lines out."),
+        advice=_("Explain the sheets after it as another quarter; where nothing is meant there, take these lines out."),
     )
 
 
@@ -151,7 +151,7 @@ def _closed(data: bytes) -> tuple:
 def _last_closed(before: bytes, rest: Part) -> tuple:
     """By the last line that has something."""
     if not rest.sheet.strip():
-        mark = Mark(1, "empty-line", _("an empty line"), _("nothing behind the last closing line"))
+        mark = Mark(1, "empty-line", _("an empty line"), _("nothing after the last closing line"))
         return _fault(rest.line, b"", mark, _("Take the line out.")), before
     kept = rest.sheet.rstrip()
     number = rest.line + kept.count(b"\n")
@@ -166,7 +166,7 @@ def _last_closed(before: bytes, rest: Part) -> tuple:
             mark = return_mark(last, _("a carriage return"))
         else:
             column = _("a line feed in column {column}").format(column=columns.LENGTH)
-            mark = Mark(columns.LENGTH, "no-line-feed", _("nothing behind the closing line"), column)
+            mark = Mark(columns.LENGTH, "no-line-feed", _("nothing after the closing line"), column)
         return _fault(number, last, mark), before + kept + b"\n"
     if _dashes(text):
         if set(text) == {"-"}:
@@ -176,9 +176,9 @@ def _last_closed(before: bytes, rest: Part) -> tuple:
         return _fault(number, last, Mark(1, "closing-line", found, wanted)), before + kept[:start] + CLOSING + b"\n"
     if last.endswith(CLOSING):
         sheet = kept[: -len(CLOSING)]
-        mark = Mark(len(text) - len(CLOSING) + 1, "no-line-feed", _("the closing line behind a line without its line feed"), wanted)
+        mark = Mark(len(text) - len(CLOSING) + 1, "no-line-feed", _("the closing line after a line without its line feed"), wanted)
         return _fault(number, last, mark), before + sheet + b"\n" + CLOSING + b"\n"
-    mark = Mark(len(text) + 1, "not-closed", _("nothing behind the last sheet"), wanted)
+    mark = Mark(len(text) + 1, "not-closed", _("nothing after the last sheet"), wanted)
     fault = _fault(number, last, mark)._replace(instead=layout.CLOSING)
     return fault, before + kept + b"\n" + CLOSING + b"\n"
 

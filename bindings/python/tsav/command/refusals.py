@@ -18,7 +18,7 @@ _WORDS = {
     ),
     2: (
         N_("The length isn't a multiple of 40 bytes, and all whole lines keep the layout."),
-        N_("Look behind the last whole line: for a last line that is too short or has no line feed, and for an empty line."),
+        N_("Look past the last whole line: for a last line that is too short or has no line feed, and for an empty line."),
     ),
     3: (
         N_("The line breaks the layout."),
@@ -86,7 +86,7 @@ _WORDS = {
     ),
     25: (
         N_("The last sheet isn't closed."),
-        N_("Type a line of 39 minus signs and a line feed behind each sheet; the sheets before are answered, and there is no summary."),
+        N_("Type a line of 39 minus signs and a line feed after each sheet; the sheets before are answered, and there is no summary."),
     ),
 }
 

@@ -12,7 +12,7 @@ def no_scalar(finder, refusal) -> None:
         return
     place = finder.rows.current.index(added)
     if place:
-        advice = _("Type it behind {line}.").format(line=line_words(finder.rows.current[place - 1]))
+        advice = _("Type it after {line}.").format(line=line_words(finder.rows.current[place - 1]))
     else:
         advice = _("Type it on top.")
     title = _("there is no scalar line") if finder.rows.all else _("the file is empty, and has no scalar line")
