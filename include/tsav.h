@@ -11,8 +11,8 @@
    what is lent to it, and nobody else reads what is lent to be written: no other thread, and no signal handler. Nothing is
    asked of the numbers and bytes themselves.
 
-   The thread that calls needs stack: beside what the caller takes itself, as much as stands here. That is measured on the
-   largest inputs (bench/stack) and rounded up; no proof speaks of it. With less, the system ends the program where a guard
+   The thread that calls needs stack: beside what the caller takes itself, as much as stands here. On the largest inputs no
+   more is taken, as measured (bench/stack), and by some calls less; no proof speaks of it. With less, the system ends the program where a guard
    page lies below the stack, as below a thread's own by default; where none does, what lies below is overwritten.
 
      tsav_version        1 KiB
@@ -20,11 +20,11 @@
      tsav_shares         2 KiB
      tsav_operational    1 KiB
      tsav_fluctuation    1 KiB
-     tsav_sheet         20 KiB
+     tsav_sheet         12 KiB
      tsav_convert        2 KiB
-     tsav_check         20 KiB
+     tsav_check         12 KiB
      tsav_movement       2 KiB
-     tsav_quarter       48 KiB
+     tsav_quarter       40 KiB
 
    Not counted: a signal handler on the same stack; what the C library keeps of a thread's stack, some 5 KiB of the size that
    pthread_attr_setstacksize is given with glibc; and 3 KiB or more of the dynamic linker, where it looks up a name at its first
@@ -46,7 +46,7 @@
 
    The refusals:
 
-      1  nowhere             the sheet is longer than TSAV_LONGEST_SHEET
+      1  nowhere             the sheet is longer than TSAV_LONGEST_SHEET bytes
       2  nowhere             its length isn't a multiple of 40, and no whole line breaks the layout; of the movement call's
                              numbers, it isn't TSAV_MOVEMENT_NUMBERS
       3  line                columns 4 to 40 of a whole line break the layout; tested before 2. Of the movement call's numbers, a

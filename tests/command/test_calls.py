@@ -34,7 +34,7 @@ NAMES = {
     + ("fond\u00e9 sur les d\u00e9ch\u00e9ances", "d\u00e9penses")
     + ("risque d'assurance multirisque", "risque de cr\u00e9dit", "risque de march\u00e9"),
 }
-DRAWN = 8 if INSTALLED else 40
+DRAWN = 40
 
 
 def dollars(units: int, language: str, places: int = 2) -> str:
@@ -399,6 +399,19 @@ class Fluctuation(Calls):
     def test_with_accents(self):
         for name in ("Invalidit\u00e9, niveau", "invalidit\u00e9-niveau", "disability level"):
             self.assertEqual(self.answered("fluctuation", name, "1")[0]["row"], 1)
+
+    def test_as_it_is_called(self):
+        """By all of the name that the answer has of it, in the language that is spoken."""
+        for row in range(1, 8):
+            face = ["1"] if row == 7 else []
+            for language in LANGUAGES:
+                name = json.loads(run("--lang", language, "fluctuation", str(row), "1", *face, "--json").out)["name"]
+                for typed_ in (name, name.upper()):
+                    ran = run("--lang", language, "fluctuation", typed_, "1", *face, "--json")
+                    self.assertEqual((ran.status, ran.err), (0, ""))
+                    self.assertEqual(json.loads(ran.out)["row"], row)
+        for name, row in (("Maladies graves", 7), ("soins de longue dur\u00e9e, niveau", 2)):
+            self.assertEqual(self.answered("fluctuation", name, "1", "1")[0]["row"], row)
 
     def test_a_face_amount_that_changes_nothing(self):
         answer, texts, rows = self.answered("fluctuation", "2", "100,000,000", "5")

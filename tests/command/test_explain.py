@@ -331,6 +331,62 @@ class Lines(Explain):
         self.assertEqual((fault["refusal"], fault["line"], fault["cause"]), (4, 1, "thousands-of-dollars"))
         self.explained(THOUSANDS, "--convert", status=0)
 
+    def test_thousands_with_signs_of_dollars(self):
+        """Nothing is proposed of an amount that may be dollars: what it is in thousands and in dollars is said, in cents both."""
+        small = THOUSANDS.decode().splitlines()
+        for text, cause, column, instead, said in (
+            ("rsk  1  1        1234.50              0", "decimal-sign", 22, None, ("1234.50 is $1,234,500.00, in a sheet in cents 123450000", "$1,234.50, in a sheet in cents 123450.")),
+            ("rsk  1  1        1234,00              0", "decimal-sign", 22, None, ("1234,00 is $1,234,000.00, in a sheet in cents 123400000", "$1,234.00, in a sheet in cents 123400.")),
+            ("rsk  1  1       1.234567              0", "decimal-sign", 18, None, ()),
+            ("rsk  1  1          $1234              0", "dollar-sign", 20, None, ("$1234 is $1,234,000.00, in a sheet in cents 123400000",)),
+            ("rsk  1  1  1,234,567,890              0", "thousands-separator", 13, "rsk  1  1     1234567890              0", ("1234567890 is $1,234,567,890,000.00, since",)),
+            ("rsk  1  1          1,234              0", "thousands-separator", 21, None, ("1234 is $1,234,000.00, since amounts are in thousands",)),
+            ("rsk  1  1      1 234 567              0", "thousands-separator", 17, "rsk  1  1        1234567              0", ("1234567 is $1,234,567,000.00, since",)),
+            ("rsk  1  1           0012              0", "leading-zero", 21, "rsk  1  1             12              0", ()),
+            ("rsk  1  1              ,              0", "decimal-sign", 24, None, ()),
+        ):
+            for arguments in ((), ("--convert",)):
+                with self.subTest(text, arguments=arguments):
+                    fault = self.explained(sheet(text, *small[1:]), *arguments)["faults"][0]
+                    self.assertEqual((fault["refusal"], fault["cause"], fault["marks"][0]["column"], fault["instead"]), (3, cause, column, instead))
+                    if cause != "leading-zero":
+                        self.assertIn(fault["marks"][0]["wanted"], ("whole thousands of dollars, digits alone", "digits alone"))
+                    for part in said:
+                        self.assertIn(part, fault["advice"])
+                    self.assertEqual("in small letters" in (fault["advice"] or ""), cause in ("decimal-sign", "dollar-sign"))
+        # The scalar is the same in both sorts, and a sheet with one code in capitals is none in thousands.
+        scalar = self.explained(sheet(*small[:-1], "gen  0  4           1.05              0"))["faults"]
+        self.assertEqual([fault["instead"] for fault in scalar if fault["cause"] == "decimal-sign"], [])
+        self.assertEqual([fault["cause"] for fault in scalar], ["thousands-of-dollars"])
+        converted = self.explained(sheet(*small[:-1], "gen  0  4           1.05              0"), "--convert")["faults"][0]
+        self.assertEqual(converted["instead"], "gen  0  4          10500              0")
+        beside = self.explained(sheet("rsk  1  1        1234.50              0", *small[1:-1], small[-1].upper()))["faults"][0]
+        self.assertEqual((beside["cause"], beside["instead"]), ("decimal-sign", "rsk  1  1         123450              0"))
+
+    def test_codes_in_letters_of_both_sorts(self):
+        """With one that isn't in small letters it is no sheet in thousands, and each line's letters are told."""
+        small, mixed = THOUSANDS.decode().splitlines(), LINES[12].replace("GEN", "Gen")
+        for lines, advised in (
+            ([*small[:12], mixed], 12),
+            ([small[0].replace("rsk", "rSk"), *small[1:]], 12),
+            ([text.replace("rsk", "Rsk").replace("oth", "Oth").replace("gen", "Gen").replace("vol", "Vol") for text in small], 0),
+        ):
+            with self.subTest(lines[0][:3]):
+                faults = self.explained(sheet(*lines))["faults"]
+                self.assertEqual([(fault["refusal"], fault["cause"]) for fault in faults], [(4, "letters")] * 13)
+                self.assertEqual([fault["instead"] for fault in faults], [text[:3].upper() + text[3:] for text in lines])
+                self.assertEqual(sum("throughout" in (fault["advice"] or "") for fault in faults), advised)
+                for language in LANGUAGES:
+                    self.assertNotIn("tsav-convert", run("explain", "--lang", language, given=sheet(*lines)).out)
+        # An unknown code among small ones is to be small too.
+        unknown = self.explained(sheet("rks" + small[0][3:], *small[1:]))["faults"]
+        self.assertEqual([fault["cause"] for fault in unknown], ["code", "thousands-of-dollars"])
+        self.assertEqual(unknown[0]["instead"], small[0])
+        # Further down than a file's first lines are looked at.
+        many = [line("rsk", block, klass, 5, 0) for block in range(1, 10) for klass in range(1, 7)]
+        faults = self.explained(sheet(*many, mixed))["faults"]
+        self.assertEqual({fault["cause"] for fault in faults}, {"letters"})
+
     def test_the_converter_is_named_once(self):
         """Above the faults with the file, otherwise in what is to be done: of a sheet of a quarter, in JSON, and beside another command."""
         closed = THOUSANDS + CLOSING
@@ -476,6 +532,62 @@ class Others(Explain):
         self.assertIn("15", run("explain", "--quarter", given=given).out.splitlines()[2])
         good = self.explained(EXAMPLE + CLOSING, "--quarter", status=0)
         self.assertEqual((good["refusal"], good["faults"]), (None, []))
+
+    def test_a_quarter_that_is_taken_for_a_sheet(self):
+        """It is told to be one, and nothing of what its sheets have in common; also with returns, and where it is too long for a sheet."""
+        given = (TOP / "examples" / "example.quarter").read_bytes()
+        command = "tsav report --quarter {} -o page.html", "tsav explain --quarter"
+        for name, given, faults in (
+            ("the example", given, [(3, "closing-line", 14)]),
+            ("returns", given.replace(b"\n", b"\r\n"), [(3, "carriage-return", 1), (3, "closing-line", 14)]),
+            ("the last not closed", EXAMPLE + CLOSING + EXAMPLE, [(3, "closing-line", 14)]),
+            ("a fault before", changed(2, SECOND[:-1]) + CLOSING + EXAMPLE, [(3, "too-short", 2), (3, "closing-line", 14)]),
+            ("long dashes", EXAMPLE + ("\u2014" * 39 + "\n").encode() + EXAMPLE, [(3, "closing-line", 14)]),
+            ("long", (EXAMPLE + CLOSING) * 46, [(1, "too-long-sheet", None)]),
+        ):
+            with self.subTest(name):
+                answer = self.explained(given)
+                self.assertEqual([(fault["refusal"], fault["cause"], fault["line"]) for fault in answer["faults"]], faults)
+                self.assertEqual(answer["not_tested"], [{"refusal": None, "lines": []}])
+                for language, file, said in zip(LANGUAGES, ("FILE", "FICHIER"), ("It is the file of a quarter, ", "C'est le fichier d'un trimestre, ")):
+                    out = run("explain", "--lang", language, given=given).out
+                    self.assertIn(command[0].format(file), out.splitlines()[2])
+                    self.assertIn(command[1], out)
+                    self.assertTrue(out.splitlines()[2].startswith(said), out)
+                    self.assertNotIn(("Take the line out", "Enlevez la ligne")[language == "fr"], out)
+        # A sheet with a closing line behind it, and one whose blocks have a rule between them, are mended.
+        for given, faults in ((EXAMPLE + CLOSING, 1), (sheet(*LINES[:7], "-" * 12, *LINES[7:]), 1)):
+            answer = self.explained(given)
+            self.assertEqual((len(answer["faults"]), answer["faults"][0]["cause"], answer["not_tested"]), (faults, "closing-line", []))
+
+    def test_a_quarter_in_each_subcommand(self):
+        """That takes one sheet."""
+        quarter = str(TOP / "examples" / "example.quarter")
+        with tempfile.TemporaryDirectory() as folder:
+            page, rows = str(Path(folder) / "page.html"), str(Path(folder) / "rows.csv")
+            for arguments in (
+                ("warn", quarter),
+                ("warn", "-", "--before", quarter),
+                ("compare", "-", quarter),
+                ("export", quarter, "-o", rows),
+                ("report", quarter, "-o", page),
+                ("report", "-", "--before", quarter, "-o", page),
+                ("operational", quarter),
+                ("block", quarter, "--block", "1"),
+                ("shares", quarter, "--block", "1"),
+                ("movement", quarter, "--block", "1", "--by", "1"),
+            ):
+                for language, said in zip(LANGUAGES, ("It is the file of a quarter, ", "C'est le fichier d'un trimestre, ")):
+                    with self.subTest(arguments[0], language=language):
+                        ran = run("--lang", language, *arguments, given=EXAMPLE)
+                        self.assertEqual((ran.status, ran.err), (1, ""))
+                        self.assertIn(said, ran.out)
+                        self.assertIn(f"tsav report --quarter {quarter} -o page.html", ran.out)
+            for language, said in zip(LANGUAGES, ("it is the file of a quarter", "c'est le fichier d'un trimestre")):
+                ran = run("--lang", language, "import", quarter, "-o", str(Path(folder) / "my.sheet"))
+                self.assertEqual((ran.status, ran.err), (1, ""))
+                self.assertIn(said, ran.out)
+            self.assertEqual(list(Path(folder).iterdir()), [])
 
     def test_quarter_not_closed(self):
         dashes = "-" * 39

@@ -121,6 +121,31 @@ class Frame(unittest.TestCase):
         self.assertEqual((ran.returncode, ran.stderr), (0, ""))
         self.assertTrue(ran.stdout.startswith("Refusal 10"))
 
+    def test_streams_that_fail(self):
+        """Of an answer, a help, the versions and an error: status 2 and a sentence, or the status alone where nothing can be said."""
+        full = ("the answer can't be written: the disk is full\n", "la r\u00e9ponse ne peut pas \u00eatre \u00e9crite\u00a0: le disque est plein\n")
+        closed = ("standard input can't be read: it is closed\n", "impossible de lire l'entr\u00e9e standard\u00a0: le flux est ferm\u00e9\n")
+        cases = [("explain <&-", *closed), ("import - -o my.sheet <&-", *closed)]
+        cases += [(f"{words} >/dev/full", *full) for words in ("--version", "--help", "block --help", "explain --refusal 10")]
+        cases += [(f"{words} 2>/dev/full", "", "") for words in ("explain /", "nothing", "", "--version >/dev/full")]
+        cases += [("explain </", *closed)] if INSTALLED else []
+        for words, *said in cases:
+            for language, text in zip(("en", "fr"), said):
+                with self.subTest(words, language=language):
+                    shell = ["sh", "-c", f'"$@" --lang {language} {words}', "sh", *COMMAND]
+                    ran = subprocess.run(shell, capture_output=True, timeout=120, check=False)
+                    self.assertEqual((ran.returncode, ran.stdout, ran.stderr.decode("utf-8")), (2, b"", text and f"tsav: {text}"))
+
+    def test_the_systems_words(self):
+        """A file's name that is none, in both languages."""
+        for name, said in (
+            (str(catalogue.TOP / "VERSION" / "x"), ("there is no such file or folder", "il n'y a pas de fichier ou de dossier de ce nom")),
+            ("x" * 300, ("its name is too long", "son nom est trop long")),
+        ):
+            for language, words in zip(("en", "fr"), said):
+                ran = tsav("--lang", language, "explain", name)
+                self.assertEqual((ran.status, ran.out, ran.err.endswith(f": {words}\n")), (2, "", True), ran.err)
+
     def test_language_behind_the_subcommand(self):
         self.assertEqual(tsav("explain", "--refusal", "10", "--lang", "fr"), tsav("--lang", "fr", "explain", "--refusal", "10"))
 

@@ -8,14 +8,13 @@ from fractions import Fraction
 
 import tsav as library
 from drawn import sheets as drawn_sheets
-from running import INSTALLED, TOP, names_of, tsav
+from running import TOP, names_of, tsav
 from sheets import EXAMPLE, SOUND, InFolder, altered, sheet, sound, total
 from tsav.command import columns, labels, messages
 
 SECTION = (TOP / "docs" / "PROGRAMMING.md").read_text(encoding="utf-8").partition("### Warn and compare\n")[2].partition("\n### ")[0]
 
-# A process each where an installed command is tried.
-DRAWN = 20 if INSTALLED else 200
+DRAWN = 200
 
 
 def warnings(data: bytes, *arguments) -> dict:

@@ -1,57 +1,34 @@
-"""For the tests: the command in this process, and files that are made for it."""
+"""For the tests: the command, and files that are made for it."""
 
 import io
 import os
-import shlex
-import subprocess
-import sys
 import tempfile
 import unittest
 import zipfile
 from pathlib import Path
 
-from tsav.command import main
+from running import TOP, tsav
 
 try:
     import openpyxl
 except ImportError:
     openpyxl = None
 
-TOP = Path(__file__).resolve().parents[2]
 EXAMPLE = TOP / "examples" / "example.sheet"
-
-# An installed command, which all is run by. The checkout's is run as a process for what is measured or limited, otherwise in this one.
-INSTALLED = shlex.split(os.environ.get("TSAV_COMMAND", ""))
-COMMAND = INSTALLED or [sys.executable, "-m", "tsav.command"]
 
 needs_openpyxl = unittest.skipUnless(openpyxl, "openpyxl is not installed")
 
 
-def run(*arguments, given: bytes = b""):
+def run(*arguments, given: bytes = b"", **more):
     """The status, and what is written to standard output and to standard error, in English where nothing else is asked for."""
     if "--lang" not in arguments:
         arguments = "--lang", "en", *arguments
-    if INSTALLED:
-        return run_process(*arguments, given=given)
-    streams = sys.stdin, sys.stdout, sys.stderr
-    sys.stdin = io.TextIOWrapper(io.BytesIO(given))
-    sys.stdout, sys.stderr = (io.TextIOWrapper(io.BytesIO(), encoding="utf-8", write_through=True) for _stream in range(2))
-    try:
-        status = main.main([str(argument) for argument in arguments])
-    except SystemExit as ended:
-        status = ended.code
-    finally:
-        written = [stream.buffer.getvalue().decode("utf-8") for stream in (sys.stdout, sys.stderr)]
-        sys.stdin, sys.stdout, sys.stderr = streams
-    return status, *written
+    return tsav(*map(str, arguments), given=given, **more)
 
 
-def run_process(*arguments, given: bytes = b"", **environment):
-    """The same as a process."""
-    around = {**os.environ, "PYTHONIOENCODING": "utf-8", **environment}
-    command = [*COMMAND, *(str(argument) for argument in arguments)]
-    found = subprocess.run(command, input=given, capture_output=True, env=around, check=False)
-    return found.returncode, found.stdout.decode("utf-8"), found.stderr.decode("utf-8")
+def run_process(*arguments, **more):
+    """The same as a process that is started for it."""
+    return run(*arguments, alone=True, **more)
 
 
 class InFolder(unittest.TestCase):

@@ -5,11 +5,10 @@ import random
 import unittest
 from pathlib import Path
 
-from command import INSTALLED, InFolder, needs_openpyxl, run
+from command import InFolder, needs_openpyxl, run
 from drawn import sheets
 
-# Each is two processes of an installed command.
-SHEETS = 50 if INSTALLED else 1000
+SHEETS = 1000
 SEED = 39
 
 
@@ -32,8 +31,7 @@ class RoundTrips(InFolder):
         # They are many, and of every code; of few lines, and of all.
         self.assertGreater(len(seen), SHEETS * 0.9)
         lengths = [sheet.count(b"\n") for sheet in seen]
-        if not INSTALLED:
-            self.assertEqual((min(lengths), max(lengths)), (1, 629))
+        self.assertEqual((min(lengths), max(lengths)), (1, 629))
         self.assertEqual(set(b"RSK OTH MOR VOL ACQ GEN CRD".split()) - {line[:3] for sheet in seen for line in sheet.splitlines()}, set())
 
     def test_how_csv_is_written(self):

@@ -8,7 +8,8 @@ import unittest
 from pathlib import Path
 
 import tsav
-from command import COMMAND, EXAMPLE, InFolder, run
+from command import EXAMPLE, InFolder, run
+from running import COMMAND
 from tsav.command import csvfile
 
 SHEET = b"RSK  1  1      100000050       70000000\nVOL  1  1          15000              0\nGEN  0  4          10500              0\n"

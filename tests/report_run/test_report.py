@@ -15,8 +15,9 @@ from pathlib import Path
 from unittest import mock
 
 import tsav
-from command import INSTALLED, InFolder, run, run_process
+from command import InFolder, run, run_process
 from of_reports import CLOSED, EXAMPLE, FULL, SHEETS, TOP
+from running import INSTALLED
 from tsav.command import compared
 
 try:

@@ -1,6 +1,7 @@
 //! The library's calls, through the Rust wrapper, beside those of the best u128 program of the same steps that we can write
 //! (peer.rs), on figures that change (figures.rs). Its root takes one binary digit a step without a jump, in three ways; each row's
-//! ratio is to the quickest of them. A root with a jump on each digit and Newton's are there for information.
+//! ratio is to the quickest of them. For information there are the papers' forms, the root shifted and all 49 products of two risks,
+//! a root with a jump on each digit, and Newton's.
 //!
 //! A conversion takes no root, so that there are two sides alone.
 //!
@@ -19,7 +20,7 @@ mod figures;
 mod peer;
 
 use figures::{lines_with_needs, lines_without_bought, small_lines, Draws, Line, Size};
-use peer::{Jumping, Newton, Odd, Picking, Shifting};
+use peer::{Forms, Jumping, Newton, Odd, Picking, Shifting};
 use reference::{all_lines, BLOCK_NUMBERS, BLOCK_VALUES};
 use std::hint::black_box;
 use std::time::Instant;
@@ -49,9 +50,10 @@ const fn number_of(digits: &[u8]) -> usize {
 /// Samples of each side, at each place.
 const SAMPLES: usize = 100;
 
-/// Ours, and the peer with each of its roots: the three that a ratio is to, and the two for information.
-const SIDES: usize = 6;
-const PEERS: [&str; SIDES - 1] = ["digits picked", "window shifted", "odd number held", "jumps", "Newton's"];
+/// Ours, and the peer with each of its roots: the three that a ratio is to, and the three for information.
+const SIDES: usize = 7;
+const PEERS: [&str; SIDES - 1] =
+    ["digits picked", "window shifted", "odd number held", "the papers' forms", "jumps", "Newton's"];
 const BESIDE: usize = 3;
 
 /// How many there are of each kind: blocks, shares calls, fluctuation calls, full sheets, small sheets, and sheets for each line
@@ -284,6 +286,10 @@ macro_rules! with_root {
                 $pass
             }
             4 => {
+                type $root = Forms;
+                $pass
+            }
+            5 => {
                 type $root = Jumping;
                 $pass
             }

@@ -5,10 +5,11 @@
 //! An amount is read as one number without a jump on its length, as ours is; a converted line moves its columns and formats nothing; a
 //! number of two words is divided by one machine instruction where the quotient fits a word.
 //!
-//! The root is the caller's, and there are five. Three take one binary digit a step without a jump, as the papers ask: one picks
+//! The root is the caller's, and there are six. Three take one binary digit a step without a jump, as the papers ask: one picks
 //! the digits of the radicand, the second shifts it through two words, as ours does, and the third holds an odd number in place
-//! of the root that #107 speaks of. The other two are there for information: a jump on each digit, as it is mostly written, and
-//! Newton's. The steps of #107 are those of the radicand's length, whichever root is taken.
+//! of the root that #107 speaks of. The others are there for information: the second with all 49 products of two risks, which
+//! shows what the papers' forms cost; a jump on each digit, as it is mostly written; and Newton's. The steps of #107 are those of
+//! the radicand's length, whichever root is taken.
 
 use reference::{
     Refusal, ADJUSTABLE_PRODUCTS, BLOCK_NUMBERS, BLOCK_VALUES, FIGURES, GENERAL_CLASSES, GENERAL_NUMBERS,
@@ -19,6 +20,9 @@ use reference::{
 
 /// The least whole number whose square is at least the radicand, below 2^124.
 pub trait Root {
+    /// Whether the correlation sum goes over all 49 products of two risks, as document 01 names it, and not over 28.
+    const ALL_PRODUCTS: bool = false;
+
     fn of(radicand: u128) -> u64;
 }
 
@@ -71,7 +75,19 @@ fn step(root: u64, rest: u64, digits: u64) -> (u64, u64) {
     (2 * root + digit, next - digit * odd)
 }
 
-/// The same, but that the odd number is held by which the next digit is tested, four times the root and one. The digit is the sign of
+/// The root that is shifted, and all 49 products of two risks: document 01's forms of both.
+pub struct Forms;
+
+impl Root for Forms {
+    const ALL_PRODUCTS: bool = true;
+
+    #[inline]
+    fn of(radicand: u128) -> u64 {
+        Shifting::of(radicand)
+    }
+}
+
+/// As the shifted one, but that the odd number is held by which the next digit is tested, four times the root and one. The digit is the sign of
 /// a difference, and nothing is multiplied by it.
 pub struct Odd;
 
@@ -227,6 +243,33 @@ pub fn shares<R: Root>(b: &[u64; BLOCK_NUMBERS]) -> Result<[u64; PARTS], Refusal
     Ok(shares)
 }
 
+/// The correlation sum, in quarters, of a product for each two risks.
+#[inline(always)]
+fn sum_of_28(y: &[u64; RISKS]) -> i128 {
+    let mut sum = 0;
+    for i in 0..RISKS {
+        for j in i..RISKS {
+            sum += FACTORS[i][j] * (i128::from(y[i]) * i128::from(y[j]));
+        }
+    }
+    sum
+}
+
+/// The same over all 49, row by row, as document 01 names it. The factors are written out, so that none is multiplied by.
+#[inline(always)]
+fn sum_of_49(y: &[u64; RISKS]) -> i128 {
+    let row = |sum: i128, i: usize, factors: [i128; RISKS]| {
+        factors.iter().zip(y).fold(sum, |sum, (factor, &yj)| sum + factor * (i128::from(y[i]) * i128::from(yj)))
+    };
+    let sum = row(0, 0, [4, -1, 2, -1, 1, 0, 2]);
+    let sum = row(sum, 1, [-1, 4, -1, 2, 1, -1, 1]);
+    let sum = row(sum, 2, [2, -1, 4, 1, 2, 0, 2]);
+    let sum = row(sum, 3, [-1, 2, 1, 4, 2, -1, 2]);
+    let sum = row(sum, 4, [1, 1, 2, 2, 4, -2, 2]);
+    let sum = row(sum, 5, [0, -1, 0, -1, -2, 4, -1]);
+    row(sum, 6, [2, 1, 2, 2, 2, -1, 4])
+}
+
 /// I, D, U, LT and K of a block that rules 7, 8 and 9 let pass, and the radicands of I and D.
 fn figures<R: Root>(b: &[u64; BLOCK_NUMBERS]) -> ([u64; FIGURES], [u128; 2]) {
     let [pc, credit, market] = [b[14], b[15], b[16]];
@@ -238,12 +281,7 @@ fn figures<R: Root>(b: &[u64; BLOCK_NUMBERS]) -> ([u64; FIGURES], [u128; 2]) {
         u += b[2 * i];
         lt += b[2 * i + 1];
     }
-    let mut sum = 0_i128;
-    for i in 0..RISKS {
-        for j in i..RISKS {
-            sum += FACTORS[i][j] * (i128::from(y[i]) * i128::from(y[j]));
-        }
-    }
+    let sum = if R::ALL_PRODUCTS { sum_of_49(&y) } else { sum_of_28(&y) };
     // 10,000 × Q, of the sum in quarters: I and D are in hundredths of the half cent.
     let radicand_of_i = 2_500 * sum as u128;
     let i = R::of(radicand_of_i).max(100 * largest) + 200 * pc;
@@ -780,6 +818,7 @@ mod tests {
             answers::<Picking>(&case);
             answers::<Shifting>(&case);
             answers::<Odd>(&case);
+            answers::<Forms>(&case);
             answers::<Jumping>(&case);
             answers::<Newton>(&case);
             let (given, lent) = generate::convert_case(1, index);

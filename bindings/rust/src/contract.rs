@@ -144,9 +144,9 @@ pub(crate) fn summary_length(length: u64, room: usize) -> Result<usize, Error> {
 
 /// A length of some whole lines, within the lent bytes.
 fn whole_lines(line: usize, lengths: RangeInclusive<usize>, length: u64, room: usize) -> Result<usize, Error> {
-    lengths
-        .step_by(line)
-        .find(|&text| text as u64 == length && text <= room)
+    usize::try_from(length)
+        .ok()
+        .filter(|text| lengths.contains(text) && (text - lengths.start()) % line == 0 && *text <= room)
         .ok_or(Error::Contract(Breach::Length { length, room }))
 }
 

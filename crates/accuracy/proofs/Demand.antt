@@ -1,7 +1,5 @@
 -- Demand 3 for every block and every sheet that is accepted, put together of what the other files prove of each figure. Assumes nothing.
-use mathlib.Core.List.{List}
-use Prim.Native.Nat.{ℕ}
-use native.Mathlib.Omega.{arith}
+use Rattle.basics.proofs.Common.{ℕ, List, arith}
 use Rattle.guideline.specs.Block.{U, LT, Vh, AcceptedBlock}
 use Rattle.guideline.specs.Buffer.{Sheet, buffer, AcceptedSheet}
 use Rattle.accuracy.specs.Demand.{BlockDemand, BufferDemand}

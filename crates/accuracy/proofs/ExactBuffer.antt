@@ -1,13 +1,7 @@
 -- The reported buffer against the exact one: block by block what is proved of K, summed, with less than a cent each for RO and the last
 -- rounding. Assumes nothing.
-use mathlib.Core.Path.{ap}
-use mathlib.Core.List.{List, [], ◌∷◌}
-use Prim.Native.Nat.{ℕ, ◌*◌}
-use native.Mathlib.Nat.{mul-le-mul_left, mul-le-mul_right, mul-pos, mul-lt-mul_of_pos_left}
-use native.Mathlib.Omega.{arith}
-use lib.ListN.{length}
-use Rattle.basics.proofs.LeastOf.{least_ceil}
-use Rattle.basics.specs.Each.{Each}
+use Rattle.basics.proofs.Common.{ℕ, ◌*◌, List, [], ◌∷◌, length, ap, mul-le-mul_right, mul-le-mul_left, mul-pos, arith, Each, least_ceil}
+use native.Mathlib.Nat.{mul-lt-mul_of_pos_left}
 use Rattle.guideline.specs.Block.{AcceptedBlock, K}
 use Rattle.sizes.specs.Sizes.{ten_thousandths, fineness, block_allowance}
 use Rattle.guideline.specs.Operational.{operational_denominator}

@@ -3,15 +3,8 @@
 -- Assumes nothing.
 -- In order: small laws; K's fraction; the finer I and D against the exact ones; and so for the reported ones, which are no lower; the reported K is
 -- not strictly below the exact K; K − 1.01 is strictly below it.
-use mathlib.Core.Path.{◌≡◌, ap, ◌∙◌}
-use mathlib.Core.List.{List}
-use Prim.Native.Nat.{ℕ, zero, suc, ◌+◌, ◌-◌, ◌*◌, max, ◌≤◌, ◌<◌}
-use native.Mathlib.Nat.{mul-le-mul_right, mul-sub, ne_of_gt}
+use Rattle.basics.proofs.Common.{◌≡◌, ℕ, zero, suc, ◌+◌, ◌-◌, ◌*◌, ◌<◌, ◌≤◌, max, List, pos, ap, ◌∙◌, mul-le-mul_right, ne_of_gt, arith, dec_le, dec_lt, mul-sub, if_eq, if_ne}
 use native.Mathlib.Bridge.{le_prop}
-use native.Mathlib.Decide.{dec_le, dec_lt}
-use native.Mathlib.Omega.{arith}
-use lib.IntN.{pos}
-use Rattle.basics.proofs.Picks.{if_eq, if_ne}
 use Rattle.basics.proofs.LeastOf.{least_short}
 use Rattle.sizes.specs.Sizes.{fineness, block_allowance}
 use Rattle.guideline.specs.Block.{PC, seven, radicand, U, LT, Vh, y, largest, root, fine_i, a, fine_d, I, D, K, AcceptedBlock}
@@ -25,8 +18,7 @@ use Rattle.guideline.proofs.Figures.{q, q_is, q_least, v_sum, u_high, root_law, 
 -- ---- small laws
 
 max_mul : (x y m z : ℕ) → x * m ≤ z → y * m ≤ z → max x y * m ≤ z
-max_mul x y m z p q =
-    elim (dec_le x y) [ yes h ↦ let e : max x y ≡ y = omega arith in rw e q | no h ↦ let e : max x y ≡ x = omega arith in rw e p ]
+max_mul x y m z p q = grind arith
 
 decided : {v : ℕ} (t : Dec (0 < v)) (h : 0 < v) → t ≡ yes h
 decided (yes k) h = ap yes (le_prop k h)

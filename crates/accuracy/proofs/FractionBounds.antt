@@ -1,11 +1,7 @@
 -- Inequalities between naturals, which the exact values rest on: the roots, M and K's fraction at n/s; no block is mentioned. Assumes nothing.
-use mathlib.Core.Path.{◌≡◌}
-use Prim.Native.Nat.{ℕ, suc, ◌+◌, ◌*◌, ◌≤◌, ◌<◌}
-use native.Mathlib.Nat.{mul-le-mul_right, mul-lt-mul_of_pos_right, mul-pos, mul-sub}
-use native.Mathlib.Omega.{arith}
-use Rattle.basics.proofs.Roots.{lt_of_squares}
+use Rattle.basics.proofs.Common.{◌≡◌, ℕ, suc, ◌+◌, ◌*◌, ◌<◌, ◌≤◌, mul-le-mul_right, mul-lt-mul_of_pos_right, mul-pos, arith, mul-sub, lt_of_squares}
 use Rattle.guideline.specs.Block.{radicand, M, k_numerator}
-use Rattle.guideline.proofs.Bounds.{cross, root_twice, m_rises}
+use Rattle.guideline.proofs.Bounds.{rearrangement, root_twice, m_rises}
 
 -- any n/s whose square is at least the radicand is above D − 2, in the unit of D: `c` is D − 1
 module _ (a n s c : ℕ) (pos : 0 < s) where
@@ -50,4 +46,4 @@ pub k_near :
     60 * v * (3 * 3) * k < numerator_at u l v n 3
 k_near u l v d k n du nl nd nu pos h =
     let b : 90 * d + 30 * n ≤ 180 * v = omega arith in
-    omega (arith, cross nu b, mul-le-mul_right v nd)
+    omega (arith, rearrangement nu b, mul-le-mul_right v nd)

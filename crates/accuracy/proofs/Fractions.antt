@@ -1,10 +1,6 @@
 -- Fractions that are 0 or more as a natural over their denominator, and document 01's comparisons of them as inequalities of naturals.
 -- Assumes nothing.
-use mathlib.Core.Path.{◌≡◌, ap}
-use Prim.Native.Nat.{ℕ, ◌+◌, ◌-◌, ◌*◌, ◌≤◌, ◌<◌}
-use native.Mathlib.Nat.{mul-le-mul, mul-pos}
-use native.Mathlib.Omega.{arith}
-use lib.IntN.{pos}
+use Rattle.basics.proofs.Common.{◌≡◌, ℕ, ◌+◌, ◌-◌, ◌*◌, ◌<◌, ◌≤◌, pos, ap, mul-le-mul, mul-pos, arith}
 use Rattle.guideline.specs.Block.{radicand, M}
 use Rattle.accuracy.specs.Fraction.{Fraction, ◌≤ᶠ◌, whole, ratio, quarters, square_less, radicand_at, ≤ᶠ_trans}
 use Rattle.accuracy.specs.Exact.{m_numerator}

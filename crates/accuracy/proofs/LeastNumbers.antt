@@ -1,12 +1,6 @@
 -- Each figure that the papers define by a least number is that number: the laws of guideline/proofs/Figures and Totals, where the search's
 -- bound is met, in the papers' terms. Assumes nothing.
-use mathlib.Core.List.{List}
-use Prim.Native.Nat.{ℕ, ◌-◌, ◌*◌, ◌≤◌}
-use native.Mathlib.Decide.{dec_le}
-use native.Mathlib.Omega.{arith}
-use lib.Dec.{leb→le, le→leb}
-use lib.IntN.{pos}
-use lib.Signed.{le_z_yes}
+use Rattle.basics.proofs.Common.{ℕ, ◌-◌, ◌*◌, ◌≤◌, List, pos, arith, le→leb, leb→le, dec_le, le_z_yes}
 use Rattle.sizes.specs.Sizes.{fineness}
 use Rattle.guideline.specs.Block.{PC, U, ys, largest_of, largest, fine_i, fine_d, I, K, AcceptedBlock}
 use Rattle.guideline.specs.Operational.{OperationalAmounts}

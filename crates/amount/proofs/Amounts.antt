@@ -1,18 +1,7 @@
 -- Rule 7 over a list, and over two lists one after the other. Assumes nothing.
-use mathlib.Core.Path.{◌≡◌, sym, ap, ◌∙◌}
-use mathlib.Core.List.{List, ◌++◌}
-use Prim.Native.Nat.{ℕ, ◌+◌, ◌-◌, ◌≤◌, ◌<◌}
-use native.Mathlib.Decide.{dec_le, dec_lt}
-use native.Mathlib.Omega.{arith}
-use lib.Dec.{ltb}
-use borrow.Author.Tests.{ltb-false, lt-ltb, le-ltb}
-use lib.ListN.{length, get_or, length-append, get_or-eq_default, get_or-append}
-use lib.Seq.{get_or-append-add}
-use Rattle.std.proofs.Common.{Option, Some, None}
-use Rattle.std.specs.Option.{MatchOption}
-use Rattle.std.specs.List.{AllWithin, HoldsAt}
-use Rattle.basics.proofs.Firsts.{found_from, found_unique, none_passes, sought_found, sought_none}
-use Rattle.basics.specs.First.{FoundAt}
+use Rattle.basics.proofs.Common.{◌≡◌, ℕ, ◌+◌, ◌-◌, ◌<◌, ◌≤◌, ltb, List, ◌++◌, length, get_or, Some, None, Option, MatchOption, HoldsAt, sym, ap, ◌∙◌, arith, length-append, get_or-append-add}
+use Rattle.basics.proofs.Common.{ltb-false, le-ltb, lt-ltb, AllWithin, dec_le, dec_lt, get_or-eq_default, get_or-append, FoundAt, none_passes, sought_found, sought_none}
+use Rattle.basics.proofs.Firsts.{first_from_passes, first_unique}
 use Rattle.amount.specs.Amount.{limit, above, first_above}
 
 -- where the search for an amount above the limit finds none, there is none
@@ -52,8 +41,8 @@ module _ (l m : List ℕ) where
   pub first_in : first_above l < length l → first_above (l ++ m) ≡ first_above l
   unfolding first_above
   first_in h =
-      let f = found_from (above l) 0 (length l) in
-      found_unique (above (l ++ m)) (length (l ++ m)) (first_above l)
+      let f = first_from_passes (above l) 0 (length l) in
+      first_unique (above (l ++ m)) (length (l ++ m)) (first_above l)
       (record {
         low = omega arith;
         high = omega (arith, length-append l m);
@@ -65,8 +54,8 @@ module _ (l m : List ℕ) where
   pub first_after : length l ≤ first_above l → first_above (l ++ m) ≡ length l + first_above m
   unfolding first_above
   first_after h =
-      let g = found_from (above m) 0 (length m) in
-      found_unique (above (l ++ m)) (length (l ++ m)) (length l + first_above m)
+      let g = first_from_passes (above m) 0 (length m) in
+      first_unique (above (l ++ m)) (length (l ++ m)) (length l + first_above m)
       (record {
         low = omega arith;
         high = omega (arith, length-append l m, g.high);

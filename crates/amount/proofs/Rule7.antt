@@ -1,15 +1,7 @@
 -- Rule 7: what it gives where the search for an amount above the limit finds one, and where it finds none. Assumes nothing.
-use mathlib.Core.Path.{◌≡◌}
-use mathlib.Core.List.{List}
-use Prim.Native.Nat.{ℕ, ◌≤◌, ◌<◌}
-use native.Mathlib.Omega.{arith}
-use lib.ListN.{length, get_or}
-use borrow.Author.Tests.{ltb-false}
-use Rattle.basics.proofs.Picks.{if_lt, if_ge, by_test}
-use Rattle.refusal.specs.Outcome.{Outcome}
-use Rattle.refusal.specs.Outcome.Outcome.{refused}
-use Rattle.refusal.specs.declared.Place.{Place}
-use Rattle.refusal.specs.declared.Place.TheVariants.{Position}
+use Rattle.basics.proofs.Common.{◌≡◌, ℕ, ◌<◌, ◌≤◌, List, length, get_or, arith, ltb-false, if_lt, if_ge, by_test}
+use Rattle.refusal.specs.Outcome.{Outcome, Outcome.refused}
+use Rattle.refusal.specs.declared.Place.{Place, TheVariants.Position}
 use Rattle.amount.specs.Amount.{limit, first_above}
 use Rattle.amount.specs.Rule7.{rule7}
 use Rattle.amount.proofs.Amounts.{none_above, all_within}

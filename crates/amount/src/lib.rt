@@ -9,6 +9,7 @@ ghost use Rattle.amount.specs.Amount.{first_above};
 pub const LARGEST_AMOUNT: u64 = 99999999999999;
 
 // The position of the first amount above the limit, where there is one.
+#[tactic(auto, using(crate::proofs::Amounts::first_at))]
 pub fn first_above(amounts: &[u64]) -> Option<usize>
     ensures { FoundAt (length amounts.now) (first_above amounts.now) result }
 {

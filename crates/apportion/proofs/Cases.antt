@@ -1,11 +1,6 @@
 -- Numbers divided by small margins, computed: the cents left over go to the largest remainders, and of equal ones to the lower number.
 -- Assumes nothing.
-use mathlib.Core.Path.{◌≡◌, refl}
-use mathlib.Core.List.{List, [], ◌∷◌}
-use Prim.Native.Nat.{ℕ}
-use Rattle.basics.specs.Pick.{pick}
-use Rattle.basics.specs.Total.{sum_to, one}
-use Rattle.basics.specs.Ascending.{ascending}
+use Rattle.basics.proofs.Common.{◌≡◌, ℕ, List, [], ◌∷◌, refl, ascending, pick, sum_to, one}
 use Rattle.apportion.specs.Shares.{value_of_part, base, remainder, left_over, before, rank, cent, share, shares}
 
 -- margins of three parts, and none of the others

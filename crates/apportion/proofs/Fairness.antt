@@ -1,17 +1,10 @@
 -- The shares total K, and each is within a cent of what it would be unrounded: as many cents are left over as the remainders together are times
 -- the sum of the margins, so at most one for each part that has a remainder, and the parts without one come last. Assumes nothing.
 -- In order: what is rounded down, and what remains; at most as many cents are left over as parts have a remainder; the cents; the shares.
-use mathlib.Core.Path.{◌≡◌, ap, ◌∙◌}
-use mathlib.Core.Bool.{true}
-use Prim.Native.Nat.{ℕ, zero, suc, ◌+◌, ◌*◌, ◌/◌, ◌%◌, ◌≤◌, ◌<◌}
-use native.Mathlib.Nat.{mod-lt, div-add-mod', le_of_mul-le-mul_left, mul-le-mul_left, mul-zero}
-use native.Mathlib.Decide.{dec_le}
-use native.Mathlib.Omega.{arith}
-use lib.Dec.{ltb}
-use borrow.Author.Tests.{lt-ltb, le-ltb}
-use Rattle.basics.specs.Total.{one, count_to}
-use Rattle.basics.specs.Ascending.{list_to}
-use Rattle.basics.proofs.Totals.{one_true, one_false, one_most, one_falls, sum_same, sum_le, sum_add, sum_times, count_most}
+use Rattle.basics.proofs.Common.{◌≡◌, ℕ, zero, suc, ◌+◌, ◌*◌, ◌/◌, ◌%◌, ◌<◌, ◌≤◌, true, ltb, ap, ◌∙◌, mod-lt, mul-le-mul_left, div-add-mod', arith, le-ltb, lt-ltb, dec_le, le_of_mul-le-mul_left}
+use Rattle.basics.proofs.Common.{list_to, count_to, one, sum_same, sum_le, one_true, one_false, one_most, count_most}
+use native.Mathlib.Nat.{mul-zero}
+use Rattle.basics.proofs.Totals.{one_falls, sum_add, sum_times}
 use Rattle.basics.proofs.Ascents.{list_at}
 use Rattle.sizes.specs.Sizes.{parts}
 use Rattle.apportion.specs.Shares.{value_of_part, total, base, remainder, left_over, before, rank, cent, share, shares}

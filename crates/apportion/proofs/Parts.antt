@@ -1,21 +1,13 @@
 -- What the code finds part by part is what the definitions say of the list of margins: a quotient with its rest, what they leave of K, and the
 -- cents by ranks among the rests. Assumes nothing.
 -- In order: a quotient and its rest; K × margin over the sum, part by part; the cents.
-use mathlib.Core.Path.{◌≡◌, refl, sym, ap, ◌∙◌}
-use mathlib.Core.Bool.{Bool, true, false}
-use mathlib.Core.List.{List}
-use Prim.Native.Nat.{ℕ, zero, suc, ◌+◌, ◌-◌, ◌*◌, ◌/◌, ◌%◌, ◌^◌, ◌≤◌, ◌<◌}
-use native.Mathlib.Nat.{div-eq_of_lt-le, div-add-mod', mul-le-mul}
-use native.Mathlib.Numerals.{add-one}
-use native.Mathlib.Omega.{arith}
-use lib.Dec.{ltb, eqb}
-use lib.ListN.{get_or, get_or-map}
+use Rattle.basics.proofs.Common.{◌≡◌, ℕ, zero, suc, ◌+◌, ◌-◌, ◌*◌, ◌/◌, ◌%◌, ◌^◌, ◌<◌, ◌≤◌, Bool, true, false, eqb, ltb, List, get_or, sym, refl, ap, ◌∙◌, mul-le-mul, div-add-mod', add-one, arith}
+use Rattle.basics.proofs.Common.{list_to, pick, sum_to, one, listed_start, listed_more, listed_all, sum_step, sum_same}
+use native.Mathlib.Nat.{div-eq_of_lt-le}
+use lib.ListN.{get_or-map}
 use mir.Val.{bool_byte}
 use Rattle.division.specs.declared.Division.{Division}
-use Rattle.basics.specs.Pick.{pick}
-use Rattle.basics.specs.Total.{sum_to, one}
-use Rattle.basics.specs.Ascending.{list_to}
-use Rattle.basics.proofs.Totals.{sum_step, sum_part, sum_same}
+use Rattle.basics.proofs.Totals.{sum_part}
 use Rattle.basics.proofs.Ascents.{list_same}
 use Rattle.sizes.specs.Sizes.{parts}
 use Rattle.apportion.specs.Shares.{value_of_part, total, base, remainder, left_over, before, rank, cent, share, shares}
@@ -136,3 +128,6 @@ module _ (k : ℕ) (l : List ℕ) (s : ℕ) (h : Shareable k (value_of_part l) s
       shared =
           list_same _ _ parts
           (λ p o w j. base_at p o w j + one (ltb (rank_alike (value_of_part rests) (remainder k (value_of_part l)) parts p o w rest_at j) (e j)))
+
+-- what the division into parts meets, part after part
+pub ruleset parts_divided = (listed_start, listed_more, listed_all, margin_within, base_is, remainder_is, takes, left_after, left_all)

@@ -1,17 +1,9 @@
 -- Ranks in a strict order: of n parts exactly m have a rank below m, where m is at most n. By induction on n: a new last part leaves the rank of
 -- each part before it and raises that of each after it by one. Assumes nothing.
 -- In order: the order; ranks; the counting law.
-use mathlib.Core.Path.{◌≡◌, refl, sym, ap, ◌∙◌}
-use mathlib.Core.Bool.{Bool, true, false, true≢false}
-use Prim.Native.Nat.{ℕ, zero, suc, ◌+◌, ◌-◌, ◌≤◌, ◌<◌}
-use native.Mathlib.Decide.{dec_le}
-use native.Mathlib.Omega.{arith}
-use lib.Dec.{ltb, eqb}
-use borrow.Author.Tests.{ltb-true, ltb-false, lt-ltb, le-ltb, eqb-true, eqb-false}
-use Rattle.basics.specs.Pick.{pick}
-use Rattle.basics.specs.Total.{sum_to, one, count_to}
-use Rattle.basics.proofs.Picks.{if_eq, if_ne, by_test}
-use Rattle.basics.proofs.Totals.{one_true, one_false, sum_same, sum_le, sum_lt, count_most}
+use Rattle.basics.proofs.Common.{◌≡◌, ℕ, zero, suc, ◌+◌, ◌-◌, ◌<◌, ◌≤◌, Bool, true, false, eqb, ltb, sym, refl, ap, ◌∙◌, true≢false, arith, ltb-false, ltb-true, le-ltb, lt-ltb, eqb-true, dec_le}
+use Rattle.basics.proofs.Common.{eqb-false, pick, count_to, sum_to, one, if_eq, if_ne, by_test, sum_same, sum_le, one_true, one_false, count_most}
+use Rattle.basics.proofs.Totals.{sum_lt}
 use Rattle.apportion.specs.Shares.{before, rank}
 
 module _ (r : ℕ → ℕ) where

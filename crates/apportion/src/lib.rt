@@ -22,6 +22,7 @@ struct RoundedDown {
 
 // The shares of k by margins that are not all zero, whose sum is handed with them.
 // Kept: k and the sum as two parameters, here and in two below; a struct of them would be filled by one caller and opened at once.
+#[tactic(auto, using(crate::proofs::Parts::base_fits, crate::proofs::Parts::shared))]
 pub fn shared_out(k: u64, margins: &[u64; PARTS], sum: u64) -> [u64; PARTS]
     requires { Shareable k (value_of_part margins.now) sum }
     ensures { result ≡ shares k (value_of_part margins.now) }
@@ -31,6 +32,7 @@ pub fn shared_out(k: u64, margins: &[u64; PARTS], sum: u64) -> [u64; PARTS]
 }
 
 // Each share rounded down; what is taken off k for them leaves the cents.
+#[tactic(auto, using(crate::proofs::Parts::parts_divided), unfolding(basics::specs::Total::sum_to))]
 fn divided(k: u64, margins: &[u64; PARTS], sum: u64) -> RoundedDown
     requires { Shareable k (value_of_part margins.now) sum }
     ensures quotients { (quotients result.shares ≡ list_to (base k (value_of_part margins.now)) parts) × (result.left ≡ left_over k (value_of_part margins.now)) }
@@ -74,6 +76,7 @@ fn with_cents(divided: &[Division<u64>; PARTS], left: u64) -> [u64; PARTS]
 }
 
 // One where fewer parts come before this one than cents are left.
+#[tactic(auto, using(crate::proofs::Parts::as_number))]
 fn cent(divided: &[Division<u64>; PARTS], part: usize, left: u64) -> u64
     requires { (1 ≤ part) × (part ≤ parts) }
     ensures { result ≡ one (ltb (rank (value_of_part (rests divided.now)) parts part) left) }
@@ -83,6 +86,7 @@ fn cent(divided: &[Division<u64>; PARTS], part: usize, left: u64) -> u64
 
 // How many parts come before this one in the order of the rests.
 // Kept: the range of a part's number as a clause, here and in shares; a type would be opened at each use, as an index and as a number.
+#[tactic(auto, using(basics::proofs::Totals::sum_step, basics::proofs::Totals::count_most, crate::proofs::Parts::counted), unfolding(basics::specs::Total::sum_to, crate::specs::Shares::rank))]
 fn rank_of(divided: &[Division<u64>; PARTS], part: usize) -> u64
     requires { (1 ≤ part) × (part ≤ parts) }
     ensures { result ≡ rank (value_of_part (rests divided.now)) parts part }
@@ -96,6 +100,7 @@ fn rank_of(divided: &[Division<u64>; PARTS], part: usize) -> u64
 }
 
 // One where a part with rest r and number q comes before one with rest s and number p: the larger rest first, and of equal ones the lower number.
+#[tactic(auto, using(basics::proofs::Picks::if_eq, basics::proofs::Picks::if_ne, crate::proofs::Parts::as_number))]
 fn one_if_before(r: u64, q: usize, s: u64, p: usize) -> u64
     ensures { result ≡ one (pick (eqb r s) (ltb q p) (ltb s r)) }
 {

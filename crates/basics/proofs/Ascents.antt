@@ -1,13 +1,8 @@
 -- What is gathered of the numbers that pass a test, ascending: one number more, how many there are, and what holds of each. The list of a
 -- function's values from 1 on: one value more, the value at a place, and a loop that writes them. Assumes nothing.
-use mathlib.Core.Path.{◌≡◌, refl, sym, ap, ◌∙◌}
-use mathlib.Core.Bool.{Bool, true, false}
-use mathlib.Core.List.{List, [], ◌∷◌, ◌++◌, append-nil}
-use Prim.Native.Nat.{ℕ, zero, suc, ◌+◌, ◌-◌, ◌*◌, ◌≤◌, ◌<◌}
+use Rattle.std.proofs.Common.{◌≡◌, ℕ, zero, suc, ◌+◌, ◌-◌, ◌*◌, ◌<◌, ◌≤◌, Bool, true, false, List, [], ◌∷◌, ◌++◌, length, get_or, set, sym, refl, ap, ◌∙◌, append-nil, add-one, arith, length-append}
 use native.Mathlib.Decide.{dec_le}
-use native.Mathlib.Numerals.{add-one}
-use native.Mathlib.Omega.{arith}
-use lib.ListN.{length, get_or, set, length-append, get_or-append}
+use lib.ListN.{get_or-append}
 use lib.Seq.{get_or_at}
 use Rattle.basics.specs.Pick.{pick}
 use Rattle.basics.specs.Each.{Each}
@@ -20,8 +15,7 @@ use Rattle.basics.proofs.Stretches.{Wrote, nothing, front, next, all_written, fr
 module _ {ℓ} {A : Type ℓ} (passes : ℕ → Bool) (f : ℕ → List A) where
   added : (n : ℕ) → 1 ≤ n → ascending passes f n ≡ ascending passes f (n - 1) ++ pick (passes n) (f n) []
   unfolding ascending
-  added zero h = absurd (omega arith)
-  added (suc n) h = let e : suc n - 1 ≡ n = omega arith in rw e
+  added n h = grind arith
 
   pub one_more : (n : ℕ) → 1 ≤ n → passes n ≡ true → ascending passes f n ≡ ascending passes f (n - 1) ++ f n
   one_more n h t = added n h ∙ ap (λ (l : List A). ascending passes f (n - 1) ++ l) (if_true _ t)
@@ -97,6 +91,4 @@ module _ (f : ℕ → ℕ) (n : ℕ) (l : List ℕ) where
       record { long = t; within = omega arith; wrote = rw add-one (from_front (rw add-one at (front w ∙ p)) (omega (arith, t))) }
 
   pub listed_all : (i : ℕ) → n ≤ i → Listed f n l i → l ≡ list_to f n
-  listed_all i h s =
-      let e : i ≡ n = omega (arith, s.within) in
-      rw e at (all_written s.wrote (omega (arith, s.long)))
+  listed_all i h s = grind (arith, all_written)

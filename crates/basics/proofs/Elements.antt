@@ -1,9 +1,5 @@
 -- A property of every element of a list: of two lists put together, of the element at a place, of what a test lets pass. Assumes nothing.
-use mathlib.Core.Path.{◌≡◌}
-use mathlib.Core.Bool.{Bool, true}
-use mathlib.Core.List.{List, [], ◌∷◌, ◌++◌}
-use Prim.Native.Nat.{ℕ, zero, suc}
-use lib.ListN.{get_or}
+use Rattle.std.proofs.Common.{◌≡◌, ℕ, zero, suc, Bool, true, List, [], ◌∷◌, ◌++◌, get_or}
 use Rattle.basics.specs.Pick.{pick}
 use Rattle.basics.specs.Each.{Each}
 use Rattle.basics.proofs.Picks.{by_test}

@@ -1,9 +1,6 @@
 -- Whether one of the numbers 1 to n passes a test: one number more, and what follows where none does. Assumes nothing.
-use mathlib.Core.Path.{◌≡◌, refl, sym, ◌∙◌}
-use mathlib.Core.Bool.{Bool, true, false, true≢false}
-use Prim.Native.Nat.{ℕ, zero, suc, ◌-◌, ◌≤◌}
+use Rattle.std.proofs.Common.{◌≡◌, ℕ, zero, suc, ◌-◌, ◌≤◌, Bool, true, false, sym, refl, ◌∙◌, true≢false, arith}
 use native.Mathlib.Decide.{ℕ_discrete}
-use native.Mathlib.Omega.{arith}
 use Rattle.basics.specs.First.{any_to}
 use Rattle.basics.specs.Pick.{pick}
 use Rattle.basics.proofs.Picks.{if_true, if_false, by_test}
@@ -59,8 +56,7 @@ module _ (P : ℕ → Bool) where
   -- one number more
   pub any_next : (n : ℕ) → 1 ≤ n → any_to P n ≡ pick (any_to P (n - 1)) true (P n)
   unfolding any_to
-  any_next zero h = absurd (omega arith)
-  any_next (suc n) h = let e : suc n - 1 ≡ n = omega arith in rw e
+  any_next n h = grind arith
 
 -- two tests that agree on 1 to n
 pub any_same : (P Q : ℕ → Bool) (n : ℕ) → ((c : ℕ) → 1 ≤ c → c ≤ n → P c ≡ Q c) → any_to P n ≡ any_to Q n

@@ -1,12 +1,6 @@
 -- The search by halving finds the least number that passes. Assumes nothing.
-use Rattle.std.specs.Prelude.{◌≡◌, Bool}
-use Rattle.std.proofs.Math.Path.{refl}
-use Rattle.std.proofs.Math.Bool.{true, false}
-use Prim.Native.Nat.{ℕ, zero, suc, ◌+◌, ◌-◌, ◌^◌, ◌≤◌, ◌<◌}
-use Rattle.std.proofs.Common.{arith}
+use Rattle.std.proofs.Common.{◌≡◌, ℕ, zero, suc, ◌+◌, ◌-◌, ◌^◌, ◌<◌, ◌≤◌, Bool, true, false, T, refl, arith, pow_pos}
 use Rattle.std.proofs.Math.Decide.{dec_le}
-use Rattle.std.proofs.Math.Dec.{T}
-use Rattle.std.proofs.Math.Pow.{pow_pos}
 use Rattle.basics.specs.Least.{least_from, least, Least, Upwards}
 
 module _ (P : ℕ → Bool) (up : Upwards P) where

@@ -1,11 +1,7 @@
 -- The least whole number whose value under a function that never falls reaches n: its law in inequalities, and how a
 -- number that code found is shown to be it. Assumes nothing.
-use mathlib.Core.Path.{◌≡◌, refl, ap}
-use Prim.Native.Nat.{ℕ, zero, suc, ◌+◌, ◌-◌, ◌*◌, ◌^◌, ◌≤◌, ◌<◌}
-use native.Mathlib.Nat.{mul-le-mul, mul-le-mul_left}
+use Rattle.std.proofs.Common.{◌≡◌, ℕ, zero, suc, ◌+◌, ◌-◌, ◌*◌, ◌^◌, ◌<◌, ◌≤◌, leb, refl, ap, mul-le-mul, mul-le-mul_left, arith, le→leb, leb→le}
 use native.Mathlib.Decide.{dec_le}
-use native.Mathlib.Omega.{arith}
-use lib.Dec.{leb, leb→le, le→leb}
 use Rattle.basics.specs.Least.{least_from, least}
 use Rattle.basics.proofs.Halving.{least_law}
 

@@ -1,10 +1,5 @@
 -- A choice by a test, by the fact that a branch of the code gives. Assumes nothing.
-use mathlib.Core.Path.{◌≡◌, refl}
-use mathlib.Core.Bool.{Bool, true, false}
-use Prim.Native.Nat.{ℕ, ◌≤◌, ◌<◌}
-use native.Mathlib.Omega.{arith}
-use lib.Dec.{ltb, eqb}
-use borrow.Author.Tests.{lt-ltb, le-ltb, eq-eqb, ne_eqb}
+use Rattle.std.proofs.Common.{◌≡◌, ℕ, ◌<◌, ◌≤◌, Bool, true, false, eqb, ltb, arith, le-ltb, lt-ltb, eq-eqb, ne_eqb}
 use Rattle.basics.specs.Pick.{pick}
 
 module _ {ℓ} {A : Type ℓ} where
@@ -31,8 +26,7 @@ module _ {ℓ} {A : Type ℓ} where
   -- what holds of each side where its test does holds of the choice
   pub by_test : (P : A → Type 0) (t : Bool) (a b : A) → (t ≡ true → P a) → (t ≡ false → P b) → P (pick t a b)
   unfolding pick
-  by_test P true a b h k = h refl
-  by_test P false a b h k = k refl
+  by_test P t a b h k = grind arith
 
 -- what follows where two constructors would be equal: `cc` makes the premise of that
 pub never {ℓ} : {A : Type ℓ} → ◌≡◌ {A = ℕ} 0 1 → A

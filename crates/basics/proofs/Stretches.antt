@@ -1,12 +1,9 @@
 -- A list that is written from its front, an element or a stretch at a time. Assumes nothing.
 use borrow.Rule.Slice.PartMut.{put_mid, same_len_mid}
-use mathlib.Core.Path.{◌≡◌, refl, sym, ap, ◌∙◌}
-use mathlib.Core.List.{List, [], ◌∷◌, ◌++◌, append_assoc, append-nil}
-use Prim.Native.Nat.{ℕ, suc, ◌+◌, ◌-◌, ◌≤◌, ◌<◌}
+use Rattle.std.proofs.Common.{◌≡◌, ℕ, suc, ◌+◌, ◌-◌, ◌<◌, ◌≤◌, List, [], ◌∷◌, ◌++◌, length, take, drop, set, sym, refl, ap, ◌∙◌, append_assoc, append-nil, arith, length-append, length-drop}
+use Rattle.std.proofs.Common.{length-set, take-append-drop, drop_of_length-le, length-take-le, drop-drop, take_at, drop_at}
 use native.Mathlib.Nat.{add-sub_cancel_left}
-use native.Mathlib.Omega.{arith}
-use lib.ListN.{length, set, take, drop, length-set, length-append, length-drop, drop_of_length-le, take-append-drop}
-use lib.Seq.{take_at, drop_at, drop-drop, length-take-le, set_split, append_snoc}
+use lib.Seq.{set_split, append_snoc}
 
 -- l₀ with P written over its first k elements
 pub record Wrote (l₀ : List ℕ) (k : ℕ) (P l : List ℕ) : Type 0 where
@@ -26,13 +23,7 @@ module _ {l₀ : List ℕ} {k : ℕ} {P l : List ℕ} (W : Wrote l₀ k P l) whe
 
   -- m elements more, put back after they were lent
   pub part : (m : ℕ) (ys : List ℕ) → k + m ≤ length l₀ → length ys ≡ m → Wrote l₀ (k + m) (P ++ ys) (put_mid k m l ys)
-  part m ys h e =
-      let n : m ≤ length (drop k l) = rw (length-drop, W.long) (omega arith) in
-      record {
-        text = rw (front, behind, drop-drop m k l₀) (sym (append_assoc P ys (drop (k + m) l₀)));
-        count = length-append P ys ∙ rw (W.count, e);
-        long = same_len_mid k m l ys (e ∙ sym (length-take-le m (drop k l) n)) ∙ W.long;
-      }
+  part m ys h e = grind (arith, length-drop, front, behind, drop-drop, append_assoc, length-append, same_len_mid, length-take-le)
 
   -- the same, its length written as the code lends it
   pub lent_part : (m : ℕ) (ys : List ℕ) → k + m ≤ length l₀ → length ys ≡ m → Wrote l₀ (k + m) (P ++ ys) (put_mid k (k + m - k) l ys)
@@ -56,8 +47,7 @@ module _ {l₀ : List ℕ} {k : ℕ} {P l : List ℕ} (W : Wrote l₀ k P l) whe
 
 -- what stands in front of a list was written there
 pub from_front : {k : ℕ} {P l : List ℕ} → take k l ≡ P → k ≤ length l → Wrote l k P l
-from_front {k} {P} {l} e h =
-    record { text = sym (take-append-drop k l) ∙ rw e; count = sym (ap length e) ∙ length-take-le k l h; long = refl }
+from_front {k} {P} {l} e h = grind (arith, take-append-drop, length-take-le)
 
 -- .. and m elements are put back behind it, as the code lends them
 pub put_behind : (k : ℕ) (l : List ℕ) {P : List ℕ} → take k l ≡ P → (m : ℕ) (ys : List ℕ) → k + m ≤ length l → length ys ≡ m

@@ -1,21 +1,14 @@
 -- A total over the numbers from 1 on: one number more, a total of numbers that none passes a bound, a total of zero, two totals compared. How many
 -- of the numbers pass a test is the total of a one for each. Assumes nothing.
-use mathlib.Core.Path.{◌≡◌, refl}
-use mathlib.Core.Bool.{Bool, true, false}
-use Prim.Native.Nat.{ℕ, zero, suc, ◌+◌, ◌-◌, ◌*◌, ◌≤◌, ◌<◌}
+use Rattle.std.proofs.Common.{◌≡◌, ℕ, zero, suc, ◌+◌, ◌-◌, ◌*◌, ◌<◌, ◌≤◌, Bool, true, false, ltb, refl, add-one, arith, le-ltb, lt-ltb}
 use native.Mathlib.Decide.{dec_le}
-use native.Mathlib.Numerals.{add-one}
-use native.Mathlib.Omega.{arith}
-use lib.Dec.{ltb}
-use borrow.Author.Tests.{lt-ltb, le-ltb}
 use Rattle.basics.specs.Total.{sum_to, one, count_to}
 use Rattle.basics.proofs.Picks.{if_true, if_false}
 
 module _ (f : ℕ → ℕ) where
   pub sum_next : (n : ℕ) → 1 ≤ n → sum_to f n ≡ sum_to f (n - 1) + f n
   unfolding sum_to
-  sum_next zero h = absurd (omega arith)
-  sum_next (suc n) h = let e : suc n - 1 ≡ n = omega arith in rw e
+  sum_next n h = grind arith
 
   pub sum_most : (m : ℕ) → ((b : ℕ) → f b ≤ m) → (n : ℕ) → sum_to f n ≤ m * n
   unfolding sum_to
@@ -91,16 +84,11 @@ unfolding one
 one_false e = if_false _ e
 
 pub one_most : (t : Bool) → one t ≤ 1
-one_most true = omega (arith, one_true {t = true} refl)
-one_most false = omega (arith, one_false {t = false} refl)
+one_most t = grind (arith, one_true, one_false)
 
 -- a smaller number passes a test that a larger one passes
 pub one_falls : (m : ℕ) {a b : ℕ} → a < b → one (ltb b m) ≤ one (ltb a m)
-one_falls m {a} {b} h =
-    elim (dec_le m a) [
-      | yes l ↦ omega (arith, one_false (le-ltb b m (omega arith)))
-      | no l ↦ omega (arith, one_true (lt-ltb a m (omega arith)), one_most (ltb b m))
-    ]
+one_falls m {a} {b} h = grind (arith, one_false, le-ltb, one_true, lt-ltb, one_most)
 
 -- of n numbers at most n pass
 pub count_most : (P : ℕ → Bool) (n : ℕ) → count_to P n ≤ n

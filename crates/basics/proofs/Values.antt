@@ -1,10 +1,6 @@
 -- The list of a function's values. A test of every place of a table at once: two functions whose values compute to the same list agree at
 -- each place. Assumes nothing.
-use mathlib.Core.Path.{◌≡◌, refl, sym, ap, ◌∙◌}
-use mathlib.Core.List.{List, [], ◌∷◌}
-use Prim.Native.Nat.{ℕ, zero, suc, ◌<◌}
-use native.Mathlib.Omega.{arith}
-use lib.ListN.{length, get_or}
+use Rattle.std.proofs.Common.{◌≡◌, ℕ, zero, suc, ◌<◌, List, [], ◌∷◌, length, get_or, sym, refl, ap, ◌∙◌, arith}
 
 module _ {ℓ} {A : Type ℓ} where
   -- f 0, .., f (n − 1)

@@ -2,7 +2,7 @@
 use Rattle.std.specs.Prelude.{Bool, ℕ, zero, suc, ◌+◌}
 use Rattle.basics.specs.Pick.{pick}
 
--- f 1 + .. + f n
+-- f 1 + .. + f n: of what the papers count from 1
 unfoldable pub sum_to : (ℕ → ℕ) → ℕ → ℕ
 sum_to f zero = 0
 sum_to f (suc n) = sum_to f n + f (suc n)

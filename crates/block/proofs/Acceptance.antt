@@ -1,20 +1,9 @@
 -- The block call accepts just what rules 7, 8 and 9 leave. What it gives is walked rule by rule; where all numbers are known to pass, no rule
 -- finds one. Assumes nothing.
-use mathlib.Core.Path.{◌≡◌, refl, sym, subst, ◌∙◌}
-use mathlib.Core.Bool.{false}
-use mathlib.Core.List.{List, [], ◌∷◌, ◌++◌}
-use Prim.Native.Nat.{ℕ, ◌≤◌}
-use native.Mathlib.Omega.{arith}
-use lib.ListN.{length, get_or}
-use borrow.Author.Tests.{le-ltb, ltb-false, eqb-true}
-use Rattle.basics.proofs.Picks.{by_test}
-use Rattle.basics.specs.Each.{Each}
-use Rattle.basics.proofs.Elements.{each_at}
-use Rattle.basics.proofs.Values.{values, values_same, is_values}
-use Rattle.basics.proofs.Firsts.{sought_none}
-use Rattle.refusal.specs.Outcome.{Outcome}
-use Rattle.refusal.specs.Outcome.Outcome.{accepted}
-use Rattle.refusal.proofs.Accepted.{RulesFollowed, accepts_just, if_accepted}
+use Rattle.basics.proofs.Common.{◌≡◌, ℕ, ◌≤◌, false, List, [], ◌∷◌, ◌++◌, length, get_or, sym, refl, ◌∙◌, subst, arith, ltb-false, le-ltb, eqb-true, Each, each_at, sought_none, by_test, values_same}
+use Rattle.basics.proofs.Common.{is_values, values}
+use Rattle.refusal.specs.Outcome.{Outcome, Outcome.accepted}
+use Rattle.refusal.proofs.Acceptance.{RulesFollowed, accepts_just, if_accepted}
 use Rattle.amount.specs.Amount.{limit}
 use Rattle.amount.proofs.Rule7.{within_passes, by_rule7}
 use Rattle.sizes.specs.Sizes.{risks, block_numbers}

@@ -1,10 +1,6 @@
 -- The block call at numbers that its rules turn away, most of them by two: 7 comes before 8 and 9, and 8 before 9, wherever they stand. Computed.
 -- Assumes nothing.
-use mathlib.Core.Path.{◌≡◌, refl}
-use mathlib.Core.List.{List, [], ◌∷◌, map}
-use Prim.Native.Nat.{ℕ}
-use Rattle.basics.specs.Pick.{pick}
-use Rattle.basics.specs.First.{first_from}
+use Rattle.basics.proofs.Common.{◌≡◌, ℕ, List, [], ◌∷◌, map, refl, first_from, pick}
 use Rattle.refusal.specs.Outcome.Outcome.{refused}
 use Rattle.refusal.specs.declared.Place.TheVariants.{Position}
 use Rattle.amount.specs.Amount.{first_above}

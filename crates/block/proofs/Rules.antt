@@ -1,20 +1,10 @@
 -- Rules 7, 8 and 9 of the block call: what each gives where its test finds something, and where it finds nothing. Assumes nothing.
-use mathlib.Core.Path.{◌≡◌, sym, ◌∙◌}
-use mathlib.Core.Bool.{true, false}
-use mathlib.Core.List.{List, ◌++◌}
-use Prim.Native.Nat.{ℕ, ◌+◌, ◌*◌, ◌≤◌, ◌<◌}
-use native.Mathlib.Omega.{arith}
-use lib.ListN.{length, get_or}
-use borrow.Author.Tests.{ltb-false}
-use Rattle.std.proofs.Common.{Option, Some, None}
-use Rattle.std.specs.Option.{MatchOption}
-use Rattle.std.specs.List.{AllWithin, HoldsAt, range_with_len}
+use Rattle.basics.proofs.Common.{◌≡◌, ℕ, ◌+◌, ◌*◌, ◌<◌, ◌≤◌, true, false, List, ◌++◌, length, get_or, Some, None, Option, MatchOption, HoldsAt, sym, ◌∙◌, arith, ltb-false, AllWithin, FoundAt}
+use Rattle.basics.proofs.Common.{none_passes, sought_found, sought_none, if_eq, if_ne, if_lt, if_ge}
+use Rattle.std.specs.List.{range_with_len}
 use Rattle.std.proofs.lemmas.List.FromFn.{get_or-range_with_len}
-use Rattle.basics.proofs.Picks.{if_lt, if_ge, if_eq, if_ne}
-use Rattle.basics.proofs.Firsts.{none_passes, sought_found, sought_none}
 use Rattle.refusal.specs.Outcome.Outcome.{accepted, refused}
 use Rattle.refusal.specs.declared.Place.TheVariants.{Position}
-use Rattle.basics.specs.First.{FoundAt}
 use Rattle.amount.specs.Amount.{limit, first_above}
 use Rattle.amount.proofs.Rule7.{refused_7, passed_7}
 use Rattle.sizes.specs.Sizes.{risks, last_lt_position}

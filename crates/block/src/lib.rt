@@ -20,7 +20,7 @@ pub fn block_call(b: &[u64; BLOCK_NUMBERS]) -> Result<FiguresAndSteps, Refusal>
     ensures demand3 { BlockDemand3 b.now (stated result) }
     ensures few_steps { FewSteps (stated result) }
 {
-    tested(b)?;
+    rules_7_to_9(b)?;
     Ok(figures::worked_out(&Block::new(*b)))
 }
 
@@ -29,12 +29,12 @@ pub fn accepted_block(b: &[u64; BLOCK_NUMBERS]) -> Result<Block, Refusal>
     ensures outcome { stated_block result ≡ block_call b.now }
     ensures numbers { IfOk result (λ block. block.numbers ≡ b.now) }
 {
-    tested(b)?;
+    rules_7_to_9(b)?;
     Ok(Block::new(*b))
 }
 
 // Rules 7, 8 and 9 of any 17 numbers. The answer holds no copy of the numbers: one in an enum is stored by bytes and copied by words, which waits.
-fn tested(b: &[u64; BLOCK_NUMBERS]) -> Result<(), Refusal>
+fn rules_7_to_9(b: &[u64; BLOCK_NUMBERS]) -> Result<(), Refusal>
     ensures outcome { stated_tested b.now result ≡ block_call b.now }
     ensures passed { IfOk result (λ nothing. AcceptedBlock b.now) }
 {

@@ -1,14 +1,6 @@
 -- All that is computed of the calibration, in one record: whether every row of document 01 holds, and at an input for each miscalibration the
 -- figure of the call and the one that the miscalibration gives. Assumes nothing.
-use mathlib.Core.Path.{◌≡◌, refl}
-use mathlib.Core.List.{List, [], ◌∷◌}
-use Prim.Native.Nat.{ℕ, suc, ◌*◌}
-use lib.Dec.{T, eqb}
-use Rattle.basics.specs.Pick.{pick}
-use Rattle.basics.specs.Least.{least_from}
-use Rattle.basics.specs.First.{first_from, first, any_to}
-use Rattle.basics.specs.Total.{sum_to, one}
-use Rattle.basics.specs.Ascending.{ascending}
+use Rattle.basics.proofs.Common.{◌≡◌, ℕ, suc, ◌*◌, T, eqb, List, [], ◌∷◌, refl, ascending, first, first_from, any_to, least_from, pick, sum_to, one}
 use Rattle.integer.specs.Sum.{sum}
 use Rattle.refusal.specs.Outcome.Outcome.{accepted}
 use Rattle.amount.specs.Amount.{first_above}
@@ -17,7 +9,7 @@ use Rattle.sizes.specs.Sizes.{risks, fineness}
 use Rattle.guideline.specs.Factors.{factors}
 use Rattle.guideline.specs.Block.{A, U, LT, Vh, y, ys, Q4, largest_of, largest, root, fine_i, a, fine_d, reported, I, D, requirement, K, figures_of}
 use Rattle.guideline.specs.Operational.{total, volume, growth, operational_numerator, RO}
-use Rattle.mortality.specs.Credit.{twice_radicand, aggregated, credit}
+use Rattle.mortality.specs.Credit.{twice_radicand, aggregated, diversification_credit}
 use Rattle.root.specs.Steps.{binary_length, steps}
 use Rattle.insurance.specs.Radicand.{radicand_i}
 use Rattle.figures.specs.RootSteps.{radicand_d, steps_of}
@@ -94,7 +86,7 @@ unfolding
     block_call rule7 operational_call rows row_of base_of reaches factored_requirement fluctuation_call
     any_to sum_to one ascending base remainder left_over before rank cent share shares without k_without margin after_block unless_zero rule23
     shares_call
-    has_key lookup pairs volumes_by twice_radicand aggregated credit gives all_given i_from pc_in_risk ys_halved k_lost each_rounded
+    has_key lookup pairs volumes_by twice_radicand aggregated diversification_credit gives all_given i_from pc_in_risk ys_halved k_lost each_rounded
 computed =
     record {
       rows = tt;

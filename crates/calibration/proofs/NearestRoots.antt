@@ -2,21 +2,11 @@
 -- nearest it is 679 half cents, in half cents and in all of their parts down to hundredths, and K is 348 there, where the exact K is above 348
 -- and K is 349.
 -- Assumes nothing.
-use mathlib.Core.Path.{◌≡◌, refl, ap, ◌∙◌}
-use mathlib.Core.List.{List, [], ◌∷◌}
-use Prim.Native.Nat.{ℕ, ◌+◌, ◌-◌, ◌*◌, ◌^◌, max, ◌≤◌, ◌<◌}
-use native.Mathlib.Nat.{mul-le-mul, mul-le-mul_left, mul-pos}
-use native.Mathlib.Omega.{arith}
+-- In order: a root to the nearest, and K with it; the exact buffer of the two blocks; the calls.
+use Rattle.basics.proofs.Common.{◌≡◌, ℕ, ◌+◌, ◌-◌, ◌*◌, ◌^◌, ◌<◌, ◌≤◌, max, leb, List, [], ◌∷◌, get_or, ℤ, pos, refl, ap, ◌∙◌, mul-le-mul, mul-le-mul_left, mul-pos, arith, least, pick, least_eq}
 use Rattle.std.proofs.lemmas.Nat.{mul-lt}
-use lib.IntN.{ℤ, pos}
-use lib.Dec.{leb}
-use lib.ListN.{get_or}
-use Rattle.basics.specs.Pick.{pick}
-use Rattle.basics.specs.Least.{least}
-use Rattle.basics.proofs.LeastOf.{least_eq}
 use Rattle.integer.specs.Sum.{sum}
-use Rattle.refusal.specs.Outcome.{Outcome}
-use Rattle.refusal.specs.Outcome.Outcome.{accepted}
+use Rattle.refusal.specs.Outcome.{Outcome, Outcome.accepted}
 use Rattle.sizes.specs.Sizes.{fineness, ten_thousandths}
 use Rattle.guideline.specs.Factors.{factors}
 use Rattle.guideline.specs.Block.{A, U, LT, Vh, y, ys, Q4, largest_of, largest, a, radicand, k_numerator}

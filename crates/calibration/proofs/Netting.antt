@@ -2,24 +2,10 @@
 -- does: where a pair has 50,000 now, 50,000 before of another pair lowers it, be they of one territory or of two, of one factor or of two.
 -- Assumes nothing.
 -- In order: RO of such volumes; programs that net; without groups; within groups.
-use mathlib.Core.Path.{◌≡◌, refl, sym, ap, ◌∙◌}
-use mathlib.Core.Bool.{true}
-use mathlib.Core.List.{List, [], ◌∷◌}
-use Prim.Native.Nat.{ℕ, zero, suc, ◌+◌, ◌-◌, ◌*◌, ◌/◌, ◌%◌, ◌^◌, ◌≤◌, ◌<◌}
-use native.Mathlib.Nat.{mul-le-mul, mul-le-mul_left}
-use native.Mathlib.Decide.{dec_le, ℕ_discrete}
-use native.Mathlib.Omega.{arith}
-use lib.Dec.{leb, eqb}
-use lib.ListN.{length, get_or, set, replicate, get_or-eq_default}
-use borrow.Author.Tests.{leb-true}
-use Rattle.std.proofs.lemmas.List.{length-set, length-replicate, get_or-replicate, get_or-set_same, get_or-set_other}
-use Rattle.basics.specs.Pick.{pick}
-use Rattle.basics.proofs.Picks.{if_eq, if_ne, by_test}
-use Rattle.basics.proofs.Values.{values, values_same}
-use Rattle.basics.specs.Least.{least}
-use Rattle.basics.proofs.LeastOf.{least_of}
-use Rattle.refusal.specs.Outcome.{Outcome}
-use Rattle.refusal.specs.Outcome.Outcome.{accepted}
+use Rattle.basics.proofs.Common.{◌≡◌, ℕ, zero, suc, ◌+◌, ◌-◌, ◌*◌, ◌/◌, ◌%◌, ◌^◌, ◌<◌, ◌≤◌, true, eqb, leb, List, [], ◌∷◌, length, get_or, set, replicate, sym, refl, ap, ◌∙◌, mul-le-mul}
+use Rattle.basics.proofs.Common.{mul-le-mul_left, arith, length-set, get_or-set_other, get_or-set_same, leb-true, ℕ_discrete, dec_le, length-replicate, get_or-replicate, get_or-eq_default, least}
+use Rattle.basics.proofs.Common.{pick, least_of, if_eq, if_ne, by_test, values_same, values}
+use Rattle.refusal.specs.Outcome.{Outcome, Outcome.accepted}
 use Rattle.amount.specs.Amount.{limit}
 use Rattle.sizes.specs.Sizes.{volume_classes, volume_numbers, volume_pairs, general_figures}
 use Rattle.guideline.proofs.Charges.{factor_most}

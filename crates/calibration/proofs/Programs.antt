@@ -1,21 +1,9 @@
 -- The plainest program with each miscalibration, which has one figure that is miscalibrated, all others of the paper, and refuses all that the
 -- call refuses, meets its premise: the theorems in Refutations and NearestRoots are about programs that there are. Assumes nothing.
-use mathlib.Core.Path.{◌≡◌, refl, sym, ap, ◌∙◌}
-use mathlib.Core.List.{List}
-use Prim.Native.Nat.{ℕ, ◌+◌, ◌-◌, ◌*◌, ◌/◌, ◌≤◌, ◌<◌}
-use native.Mathlib.Nat.{mul-le-mul}
-use native.Mathlib.Omega.{arith}
-use lib.Dec.{ltb}
-use lib.IntN.{ℤ, pos}
-use lib.ListN.{length, get_or, set}
-use Rattle.std.specs.Int.Signed.{le_z}
-use Rattle.std.proofs.lemmas.List.{get_or-set_same}
-use Rattle.basics.specs.Pick.{pick}
-use Rattle.basics.specs.Least.{least}
-use Rattle.basics.proofs.Picks.{never, if_lt}
-use Rattle.basics.proofs.LeastOf.{least_eq, ceil_eq}
-use Rattle.refusal.specs.Outcome.{Outcome}
-use Rattle.refusal.specs.Outcome.Outcome.{accepted, refused}
+-- In order: the block call, figure by figure: PC, the floor, LT halved, the lost half cent, the two roots; the operational call.
+use Rattle.basics.proofs.Common.{◌≡◌, ℕ, ◌+◌, ◌-◌, ◌*◌, ◌/◌, ◌<◌, ◌≤◌, ltb, List, length, get_or, set, ℤ, pos, sym, refl, ap, ◌∙◌, mul-le-mul, arith, get_or-set_same, le_z, least, pick, least_eq}
+use Rattle.basics.proofs.Common.{ceil_eq, if_lt, never}
+use Rattle.refusal.specs.Outcome.{Outcome, Outcome.accepted, Outcome.refused}
 use Rattle.sizes.specs.Sizes.{risks, block_figures, fineness}
 use Rattle.guideline.specs.Block.{seven, PC, U, LT, largest, root, fine_d, reported, I, D, requirement, figures_of}
 use Rattle.figures.specs.RootSteps.{steps_of}
@@ -23,8 +11,8 @@ use Rattle.block.specs.Call.{block_call}
 use Rattle.block.specs.Accepted.{BlockDemand3}
 use Rattle.block.proofs.Acceptance.{block_demanded}
 use Rattle.operational.specs.Call.{operational_call}
-use Rattle.calibration.specs.Miscalibrations.{put_in_place, put_at, GivesFigure, GivesRO, pc_in_risk, PcInOneRisk, PcLeftOut, i_from, ys_halved, LTHalvedInY}
-use Rattle.calibration.specs.Miscalibrations.{v_halved, WholeHalf, KeepsWholeD, LTHalvedInV, k_lost, nearest, KeepsWhole, k_by_roots, IToNearest, DToNearest}
+use Rattle.calibration.specs.Miscalibrations.{put_in_place, put_at, GivesFigure, GivesRO, pc_in_risk, PcInOneRisk, PcLeftOut, i_from, ys_halved, LTHalvedInY, v_halved, WholeHalf, KeepsWholeD}
+use Rattle.calibration.specs.Miscalibrations.{LTHalvedInV, k_lost, nearest, KeepsWhole, k_by_roots, IToNearest, DToNearest}
 use Rattle.calibration.proofs.NearestRoots.{nearest_is}
 
 -- where it accepts, the figure is x

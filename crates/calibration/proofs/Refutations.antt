@@ -3,27 +3,16 @@
 -- computed figures differ, or at two: V with LT's half too low at one and with it too high at another; and of 120 % in whole cents, where three cents
 -- of prior volume are 3.6, three classes show a rounding down to 3 and one class shows a rounding up to 4.
 -- Assumes nothing.
-use mathlib.Core.Path.{◌≡◌, refl, ◌∙◌}
-use mathlib.Core.List.{List, [], ◌∷◌}
-use Prim.Native.Nat.{ℕ, suc, ◌-◌, ◌*◌, ◌<◌, ◌≤◌}
-use native.Mathlib.Nat.{mul-le-mul_left}
-use native.Mathlib.Decide.{dec_le}
-use native.Mathlib.Omega.{arith}
-use lib.Dec.{eqb}
-use lib.ListN.{length, get_or}
-use borrow.Author.Tests.{eqb-false}
-use Rattle.basics.proofs.Firsts.{none_passes}
-use Rattle.basics.proofs.LeastOf.{LeastOf, least_of}
-use Rattle.refusal.specs.Outcome.{Outcome}
-use Rattle.refusal.specs.Outcome.Outcome.{accepted}
+use Rattle.basics.proofs.Common.{◌≡◌, ℕ, suc, ◌-◌, ◌*◌, ◌<◌, ◌≤◌, eqb, List, [], ◌∷◌, length, get_or, refl, ◌∙◌, mul-le-mul_left, arith, dec_le, eqb-false, none_passes, LeastOf, least_of}
+use Rattle.refusal.specs.Outcome.{Outcome, Outcome.accepted}
 use Rattle.sizes.specs.Sizes.{risks, block_numbers, territory_numbers, ten_thousandths}
 use Rattle.guideline.specs.Block.{A, U, LT, y, ys, largest_of, largest}
 use Rattle.guideline.specs.Operational.{total, volume}
 use Rattle.block.specs.Call.{block_call}
 use Rattle.operational.specs.Call.{operational_call}
 use Rattle.calibration.specs.Points.{nothing}
-use Rattle.calibration.specs.Miscalibrations.{MeetsBlock, GivesFigure, PcInOneRisk, pc_in_risk, PcLeftOut, LTHalvedInY, y_halved, ys_halved, lts, LTHalvedInV}
-use Rattle.calibration.specs.Miscalibrations.{k_lost, MeetsOperational, GivesRO, EachRounded, PriorInWholeCents, over_ten_thousand, whole_cents}
+use Rattle.calibration.specs.Miscalibrations.{MeetsBlock, GivesFigure, PcInOneRisk, pc_in_risk, PcLeftOut, LTHalvedInY, y_halved, ys_halved, lts, LTHalvedInV, k_lost, MeetsOperational, GivesRO}
+use Rattle.calibration.specs.Miscalibrations.{EachRounded, PriorInWholeCents, over_ten_thousand, whole_cents}
 use Rattle.calibration.proofs.Computation.{pc_block, floor_block, odd_block, two_cents, three_classes, class_one, computed}
 
 -- I is 445, and another number with PC in a risk

@@ -5,7 +5,7 @@
 use Rattle.std.specs.Prelude.{Bool, true, false, ◌&&◌, List, [], ◌∷◌, ℕ, suc, ◌-◌, eqb, get_or}
 use Rattle.refusal.specs.Outcome.{Outcome, place_of}
 use Rattle.refusal.specs.Outcome.Outcome.{accepted, refused}
-use Rattle.mortality.specs.Credit.{aggregated, credit}
+use Rattle.mortality.specs.Credit.{aggregated, diversification_credit}
 use Rattle.block.specs.Call.{block_call}
 use Rattle.operational.specs.Call.{operational_call}
 use Rattle.fluctuation.specs.Call.{fluctuation_call}
@@ -143,7 +143,7 @@ points =
     -- VOL class 7: 1, 1
     ∷ record { outcome = operational_call (seventh 1 1) nothing; figures = RO 1 ∷ [] }
     -- document 02, #101: S and T both 100
-    ∷ record { outcome = accepted (aggregated 100 100 ∷ credit 100 100 ∷ []); figures = aggregate 71 ∷ mortality_credit 129 ∷ [] }
+    ∷ record { outcome = accepted (aggregated 100 100 ∷ diversification_credit 100 100 ∷ []); figures = aggregate 71 ∷ mortality_credit 129 ∷ [] }
     -- document 02, #104, in dollars: long-term care level 100,000,000
     ∷ record { outcome = fluctuation_call 2 10000000000 0; figures = result 9330000000 ∷ [] }
     -- and critical illness 1,000,000 on a face of 400,000,000

@@ -1,18 +1,10 @@
 -- The call's text is what judging finds: the refusal, or the listing, which is gathered of the tables that hold a sound sheet's lines. What is promised of
 -- it, and that it is never longer than the longest listing. Assumes nothing.
-use mathlib.Core.Path.{◌≡◌, refl, sym, subst⁻¹, ◌∙◌}
-use mathlib.Core.List.{List}
-use Prim.Native.Nat.{ℕ, suc, ◌≤◌}
-use native.Mathlib.Omega.{arith}
-use lib.ListN.{length, drop}
-use lib.Seq.{take_at}
+use Rattle.basics.proofs.Common.{◌≡◌, ℕ, suc, ◌≤◌, List, length, drop, sym, refl, ◌∙◌, arith, take_at, subst⁻¹}
 use Rattle.refusal.specs.Outcome.Outcome.{refused}
-use Rattle.refusal.specs.declared.Place.{Place}
-use Rattle.refusal.specs.declared.Place.TheVariants.{Nowhere}
+use Rattle.refusal.specs.declared.Place.{Place, TheVariants.Nowhere}
 use Rattle.sheet_line.specs.declared.Entry.{Entry}
-use Rattle.judgement.specs.Judgement.{judgement, findings}
-use Rattle.judgement.specs.Judgement.Judgement.{turned_away, sound}
-use Rattle.judgement.specs.Judgement.Findings.{figures}
+use Rattle.judgement.specs.Judgement.{judgement, findings, Judgement.turned_away, Judgement.sound, Findings.figures}
 use Rattle.ledger.specs.declared.Ledger.{Ledger}
 use Rattle.judgement.specs.Steps.{LinesOf}
 use Rattle.judgement.proofs.Acceptance.{sound_passed}

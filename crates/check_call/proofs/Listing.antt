@@ -1,18 +1,7 @@
 -- The listing as it is counted and written, a line that can need another at a time. Assumes nothing.
-use borrow.Rule.Slice.PartMut.{put_mid}
-use Rattle.std.specs.Prelude.{Some}
-use mathlib.Core.Path.{◌≡◌, refl, sym, ap, ◌∙◌}
-use mathlib.Core.Bool.{Bool, true, false}
-use mathlib.Core.List.{List, [], ◌∷◌, ◌++◌}
-use Prim.Native.Nat.{ℕ, zero, suc, ◌+◌, ◌-◌, ◌*◌, ◌≤◌}
-use native.Mathlib.Decide.{ℕ_discrete}
-use native.Mathlib.Omega.{arith}
-use lib.ListN.{length, length-append, take-append-drop}
-use Rattle.basics.specs.Pick.{pick}
-use Rattle.basics.specs.Ascending.{ascending}
-use Rattle.basics.proofs.Picks.{if_true, if_false}
+use Rattle.basics.proofs.Common.{◌≡◌, ℕ, zero, suc, ◌+◌, ◌-◌, ◌*◌, ◌≤◌, Bool, true, false, List, [], ◌∷◌, ◌++◌, length, Some, sym, refl, ap, ◌∙◌, arith, length-append, take-append-drop, ℕ_discrete}
+use Rattle.basics.proofs.Common.{put_mid, ascending, pick, if_true, if_false, Wrote, part}
 use Rattle.basics.proofs.Ascents as ascents
-use Rattle.basics.proofs.Stretches.{Wrote, part}
 use Rattle.places.specs.Places.{tabled}
 use Rattle.needs.specs.Needs.{need_of}
 use Rattle.needs.specs.Listing.{listed_bytes, listed_line, listed_for}

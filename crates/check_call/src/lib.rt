@@ -76,12 +76,12 @@ fn write_listing(ledger: &Ledger, room: &mut [u8])
 {
     let mut at = 0;
     for n in 1..=MOST_LISTED {
-        at = write_one(ledger, n, room, at);
+        at = write_unmet(ledger, n, room, at);
     }
 }
 
 // One line more, into its own stretch, where its need is unmet. It gives where the next one stands.
-fn write_one(ledger: &Ledger, n: usize, room: &mut [u8], at: usize) -> usize
+fn write_unmet(ledger: &Ledger, n: usize, room: &mut [u8], at: usize) -> usize
     requires { (1 ≤ n) × (n ≤ most_listed) × (at + length (one_at ledger.now.firsts ledger.now.seconds n) ≤ length room.old) }
     ensures { PutAt (one_at ledger.now.firsts ledger.now.seconds n) at room.old result room.new }
 {

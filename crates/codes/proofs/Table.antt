@@ -1,16 +1,10 @@
 -- Laws of the table of codes. What is shown of each code in the list holds of every code, and what is shown of the codes' rows holds of every row, so
 -- that a code more is a clause more in `each_code` alone. Assumes nothing.
-use mathlib.Core.Path.{◌≡◌, refl, sym, ap, ◌∙◌, subst}
-use mathlib.Core.List.{List, [], ◌∷◌, map}
-use Prim.Native.Nat.{ℕ, zero, suc, ◌≤◌}
-use native.Mathlib.Omega.{arith}
-use lib.ListN.{length, get_or}
-use Rattle.basics.specs.Each.{Each}
+use Rattle.basics.proofs.Common.{◌≡◌, ℕ, zero, suc, ◌≤◌, List, [], ◌∷◌, map, length, get_or, sym, refl, ap, ◌∙◌, subst, arith, Each}
 use Rattle.sizes.specs.Sizes.{blocks}
 use Rattle.codes.specs.Codes.{codes, letters_of, row_of, rank}
-use Rattle.codes.specs.declared.Code.{Code}
-use Rattle.codes.specs.declared.Code.TheVariants.{Rsk, Oth, Mor, Vol, Acq, Gen, Crd}
-use Rattle.codes.specs.declared.Row.{Row}
+use Rattle.codes.specs.declared.Code.{Code, TheVariants.Rsk, TheVariants.Oth, TheVariants.Mor, TheVariants.Vol, TheVariants.Acq, TheVariants.Gen, TheVariants.Crd}
+use Rattle.codes.specs.declared.CodeRow.{CodeRow}
 
 -- ---- every code
 
@@ -34,31 +28,31 @@ codes_same f g e = each_code (λ k. f k ≡ g k) (same_each f g codes e)
 -- ---- every row
 
 -- the rows of some codes, for each that of block 0 and that of block 1, which is that of every other block
-abbrev rows_of : List Code → List Row
+abbrev rows_of : List Code → List CodeRow
 rows_of [] = []
 rows_of (k ∷ ks) = row_of k 0 ∷ row_of k 1 ∷ rows_of ks
 
 -- all rows, each at least once
-abbrev pub rows : List Row
+abbrev pub rows : List CodeRow
 rows = rows_of codes
 
 later_row : (k : Code) (b : ℕ) → row_of k (suc b) ≡ row_of k 1
-later_row k b = ap (λ (f : ℕ → Row). f b) (codes_same (λ k b. row_of k (suc b)) (λ k b. row_of k 1) refl k)
+later_row k b = ap (λ (f : ℕ → CodeRow). f b) (codes_same (λ k b. row_of k (suc b)) (λ k b. row_of k 1) refl k)
 
 -- what holds of both rows of a code
-abbrev Both : (Row → Type 0) → Code → Type 0
+abbrev Both : (CodeRow → Type 0) → Code → Type 0
 Both P k = P (row_of k 0) × P (row_of k 1)
 
-both_rows : (P : Row → Type 0) (ks : List Code) → Each P (rows_of ks) → Each (Both P) ks
+both_rows : (P : CodeRow → Type 0) (ks : List Code) → Each P (rows_of ks) → Each (Both P) ks
 both_rows P [] h = tt
 both_rows P (k ∷ ks) h = ((h.0, h.1.0), both_rows P ks h.1.1)
 
-pub each_row : (P : Row → Type 0) → Each P rows → (k : Code) (b : ℕ) → P (row_of k b)
+pub each_row : (P : CodeRow → Type 0) → Each P rows → (k : Code) (b : ℕ) → P (row_of k b)
 each_row P h k zero = (each_code (Both P) (both_rows P codes h) k).0
 each_row P h k (suc b) = subst P (sym (later_row k b)) (each_code (Both P) (both_rows P codes h) k).1
 
 -- two functions whose values for the rows are one list are equal at every row
-pub rows_same : {A : Type 0} (f g : Row → A) → map f rows ≡ map g rows → (k : Code) (b : ℕ) → f (row_of k b) ≡ g (row_of k b)
+pub rows_same : {A : Type 0} (f g : CodeRow → A) → map f rows ≡ map g rows → (k : Code) (b : ℕ) → f (row_of k b) ≡ g (row_of k b)
 rows_same f g e = each_row (λ r. f r ≡ g r) (same_each f g rows e)
 
 -- no row has a block above the last
@@ -72,7 +66,7 @@ three_letters = codes_same (λ k. length (letters_of k)) (λ k. 3) refl
 
 pub rank_of_row : (k : Code) (b : ℕ) → (row_of k b).rank ≡ rank k
 rank_of_row k zero = refl
-rank_of_row k (suc b) = ap (λ (r : Row). r.rank) (later_row k b) ∙ codes_same (λ k. (row_of k 1).rank) rank refl k
+rank_of_row k (suc b) = ap (λ (r : CodeRow). r.rank) (later_row k b) ∙ codes_same (λ k. (row_of k 1).rank) rank refl k
 
 -- the code of a rank
 ranked : ℕ → Code

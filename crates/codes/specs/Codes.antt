@@ -5,7 +5,7 @@ use Rattle.basics.specs.Pick.{pick}
 use Rattle.sizes.specs.Sizes.{non_participating, participating, blocks, risks, other_amounts, territories, volume_classes, volume_pairs, adjustable_products}
 use Rattle.codes.specs.declared.Code.{Code}
 use Rattle.codes.specs.declared.Code.TheVariants.{Rsk, Oth, Mor, Vol, Acq, Gen, Crd}
-use Rattle.codes.specs.declared.Row.{Row}
+use Rattle.codes.specs.declared.CodeRow.{CodeRow}
 
 -- the codes, in the table's order, with document 02's MOR after OTH, ACQ after VOL and CRD last
 abbrev pub codes : List Code
@@ -39,6 +39,34 @@ general_classes = 5
 abbrev pub dividend_classes : ℕ
 dividend_classes = 1
 
+-- the class of RSK that holds mortality
+abbrev pub mortality_risk_class : ℕ
+mortality_risk_class = 1
+
+-- the class of OTH that holds property and casualty risk
+abbrev pub pc_class : ℕ
+pc_class = 1
+
+-- the class of OTH that holds credit risk
+abbrev pub credit_class : ℕ
+credit_class = 2
+
+-- the class of OTH that holds market risk
+abbrev pub market_class : ℕ
+market_class = 3
+
+-- the class of MOR that holds the sums S and T
+abbrev pub sums_class : ℕ
+sums_class = 1
+
+-- the class of VOL that holds segregated funds with guarantees
+abbrev pub segregated_class : ℕ
+segregated_class = 5
+
+-- the class of CRD that holds a participating block's dividend credit
+abbrev pub dividend_class : ℕ
+dividend_class = 1
+
 -- the class of GEN that holds the gross components
 abbrev pub gross_class : ℕ
 gross_class = 1
@@ -52,8 +80,8 @@ abbrev pub ceded_class : ℕ
 ceded_class = 3
 
 -- the class of GEN that holds the group and deposit credits
-abbrev pub credits_class : ℕ
-credits_class = 5
+abbrev pub group_credits_class : ℕ
+group_credits_class = 5
 
 -- the class of GEN that holds the scalar g
 abbrev pub scalar_class : ℕ
@@ -67,17 +95,33 @@ risk_lines = blocks * risk_classes
 abbrev pub mortality_lines : ℕ
 mortality_lines = non_participating * mortality_classes
 
--- the lines that can have a second amount, those of RSK, MOR and VOL: 368, RSK's expenses with them, whose second amount is 0
+-- where VOL's lines begin in the tables, by how many places stand before: RSK's begin at 0, MOR's behind them, VOL's behind those
+abbrev pub first_volume_place : ℕ
+first_volume_place = risk_lines + mortality_lines
+
+-- the lines that can have a second amount, those of RSK, MOR and VOL: 368, RSK's expenses with them, whose second amount is 0. OTH's begin behind them
 abbrev pub paired_lines : ℕ
-paired_lines = risk_lines + mortality_lines + volume_pairs
+paired_lines = first_volume_place + volume_pairs
 
 -- the OTH lines: 96
 abbrev pub other_lines : ℕ
 other_lines = blocks * other_classes
 
+-- where ACQ's lines begin, behind OTH's
+abbrev pub first_acquired_place : ℕ
+first_acquired_place = paired_lines + other_lines
+
 -- the ACQ lines: 128
 abbrev pub acquired_lines : ℕ
 acquired_lines = territories * acquired_classes
+
+-- where GEN's lines begin, behind ACQ's
+abbrev pub first_general_place : ℕ
+first_general_place = first_acquired_place + acquired_lines
+
+-- where CRD's lines begin, behind GEN's
+abbrev pub first_credit_place : ℕ
+first_credit_place = first_general_place + general_classes
 
 -- the CRD lines, of block 0 and of the participating blocks: 32
 abbrev pub credit_lines : ℕ
@@ -85,47 +129,45 @@ credit_lines = adjustable_products + participating * dividend_classes
 
 -- the lines that a sheet can have, one for each code, block and class: 629
 abbrev pub most_lines : ℕ
-most_lines = paired_lines + other_lines + acquired_lines + general_classes + credit_lines
+most_lines = first_credit_place + credit_lines
 
--- a row of the table, column by column
-abbrev row : List ℕ → ℕ → ℕ → ℕ → ℕ → ℕ → Bool → ℕ → Bool → ℕ → ℕ → Row
-row l r low high c p t s m f n =
+-- a row of the table by the columns that differ from code to code; the others are given by name where they are not 0 or false
+abbrev code_row : List ℕ → ℕ → ℕ → ℕ → ℕ → ℕ → ℕ → CodeRow
+code_row letters rank lowest highest classes first_place block_places =
     record {
-      letters = l;
-      rank = r;
-      lowest = low;
-      highest = high;
-      classes = c;
-      paired = p;
-      trend = t;
-      scalar = s;
-      makes_block = m;
-      first_place = f;
-      block_places = n;
+      letters = letters;
+      rank = rank;
+      lowest = lowest;
+      highest = highest;
+      classes = classes;
+      paired = 0;
+      trend = false;
+      scalar = 0;
+      makes_block = false;
+      first_place = first_place;
+      block_places = block_places;
     }
 
--- The table: a row for each code, and two for CRD, that of block 0 and that of the others. Its columns:
+-- The table: a row for each code, and two for CRD, that of block 0 and that of the others. Its columns, in this order:
 -- letters: RSK, OTH, MOR, VOL, ACQ, GEN, CRD
 -- rank: the place in the order of codes, 'RSK, OTH, MOR, VOL, GEN, CRD' (document 02, #105), with ACQ, which 'stands after VOL' (#106)
 -- lowest, highest: the first block and the last
 -- classes: the last class, from 1 on
+-- first_place, block_places: where the code's lines begin in the tables, and how many of them a block has, of those from 1 on: no word of the papers
+-- and by name:
 -- paired: the last class with a second amount, 0 for none; of RSK all have one but expenses, as LT(7) is zero
 -- trend: whether the second amount is a part of the first, as of RSK, level and trend
 -- scalar: the class of the scalar g, 0 for none
 -- makes_block: whether a line makes its block exist: 'A block exists when it has an RSK or OTH line'
--- first_place, block_places: where the code's lines begin in the tables, and how many of them a block has, of those from 1 on: no word of the papers
-abbrev pub row_of : Code → ℕ → Row
-row_of Rsk b = row (82 ∷ 83 ∷ 75 ∷ []) 0 1 blocks risk_classes trend_classes true 0 true 0 risk_classes
-row_of Oth b = row (79 ∷ 84 ∷ 72 ∷ []) 1 1 blocks other_classes 0 false 0 true paired_lines other_classes
-row_of Mor b = row (77 ∷ 79 ∷ 82 ∷ []) 2 1 non_participating mortality_classes mortality_classes false 0 false risk_lines mortality_classes
-row_of Vol b = row (86 ∷ 79 ∷ 76 ∷ []) 3 1 territories volume_classes volume_classes false 0 false (risk_lines + mortality_lines) volume_classes
-row_of Acq b = row (65 ∷ 67 ∷ 81 ∷ []) 4 1 territories acquired_classes 0 false 0 false (paired_lines + other_lines) acquired_classes
-row_of Gen b = row (71 ∷ 69 ∷ 78 ∷ []) 5 0 0 general_classes 0 false scalar_class false (paired_lines + other_lines + acquired_lines) 0
-row_of Crd zero =
-    row (67 ∷ 82 ∷ 68 ∷ []) 6 0 0 adjustable_products 0 false 0 false (paired_lines + other_lines + acquired_lines + general_classes) dividend_classes
-row_of Crd (suc b) =
-    row (67 ∷ 82 ∷ 68 ∷ []) 6 (non_participating + 1) blocks dividend_classes 0 false 0 false
-    (paired_lines + other_lines + acquired_lines + general_classes) dividend_classes
+abbrev pub row_of : Code → ℕ → CodeRow
+row_of Rsk b = record (code_row (82 ∷ 83 ∷ 75 ∷ []) 0 1 blocks risk_classes 0 risk_classes) { paired = trend_classes; trend = true; makes_block = true }
+row_of Oth b = record (code_row (79 ∷ 84 ∷ 72 ∷ []) 1 1 blocks other_classes paired_lines other_classes) { makes_block = true }
+row_of Mor b = record (code_row (77 ∷ 79 ∷ 82 ∷ []) 2 1 non_participating mortality_classes risk_lines mortality_classes) { paired = mortality_classes }
+row_of Vol b = record (code_row (86 ∷ 79 ∷ 76 ∷ []) 3 1 territories volume_classes first_volume_place volume_classes) { paired = volume_classes }
+row_of Acq b = code_row (65 ∷ 67 ∷ 81 ∷ []) 4 1 territories acquired_classes first_acquired_place acquired_classes
+row_of Gen b = record (code_row (71 ∷ 69 ∷ 78 ∷ []) 5 0 0 general_classes first_general_place 0) { scalar = scalar_class }
+row_of Crd zero = code_row (67 ∷ 82 ∷ 68 ∷ []) 6 0 0 adjustable_products first_credit_place dividend_classes
+row_of Crd (suc b) = code_row (67 ∷ 82 ∷ 68 ∷ []) 6 (non_participating + 1) blocks dividend_classes first_credit_place dividend_classes
 
 -- the letters of a code, which all its rows have
 abbrev pub letters_of : Code → List ℕ

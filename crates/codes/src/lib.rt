@@ -23,7 +23,7 @@ pub enum Code {
 
 // A row of the table of codes: what is said of a code, and of CRD in block 0 or in the others.
 #[derive(Clone, Copy)]
-pub struct Row {
+pub struct CodeRow {
     // The code's letters, as in columns 1 to 3.
     pub letters: [u8; 3],
     // Its place in the order of codes.
@@ -55,6 +55,25 @@ pub const TREND_CLASSES: usize = RISK_CLASSES - 1;
 // OTH's classes: property and casualty, credit, market.
 pub const OTHER_CLASSES: usize = OTHER_AMOUNTS;
 
+// The class of RSK that holds mortality.
+pub const MORTALITY_RISK_CLASS: usize = 1;
+
+// The classes of OTH that hold property and casualty, credit and market risk.
+pub const PC_CLASS: usize = 1;
+
+pub const CREDIT_CLASS: usize = 2;
+
+pub const MARKET_CLASS: usize = 3;
+
+// The class of MOR that holds the sums S and T.
+pub const SUMS_CLASS: usize = 1;
+
+// The class of VOL that holds segregated funds with guarantees.
+pub const SEGREGATED_CLASS: usize = 5;
+
+// The class of CRD that holds a participating block's dividend credit.
+pub const DIVIDEND_CLASS: usize = 1;
+
 // MOR's classes: one, that of S and T.
 pub const MORTALITY_CLASSES: usize = 1;
 
@@ -74,7 +93,7 @@ pub const GUARANTEE_CLASS: usize = 2;
 pub const CEDED_CLASS: usize = 3;
 
 // The class of GEN that holds the group and deposit credits.
-pub const CREDITS_CLASS: usize = 5;
+pub const GROUP_CREDITS_CLASS: usize = 5;
 
 // The class of GEN that holds the scalar g.
 pub const SCALAR_CLASS: usize = 4;
@@ -88,24 +107,32 @@ const RISK_LINES: usize = BLOCKS * RISK_CLASSES;
 // The MOR lines.
 const MORTALITY_LINES: usize = NON_PARTICIPATING * MORTALITY_CLASSES;
 
-// The lines that can have a second amount, those of RSK, MOR and VOL, which come first in the tables.
-pub const PAIRED_LINES: usize = RISK_LINES + MORTALITY_LINES + VOLUME_PAIRS;
+// Where VOL's lines begin in the tables: RSK's begin at 0, MOR's behind them, VOL's behind those.
+const FIRST_VOLUME_PLACE: usize = RISK_LINES + MORTALITY_LINES;
+
+// The lines that can have a second amount, those of RSK, MOR and VOL, which come first in the tables. OTH's begin behind them.
+pub const PAIRED_LINES: usize = FIRST_VOLUME_PLACE + VOLUME_PAIRS;
 
 // The OTH lines.
 const OTHER_LINES: usize = BLOCKS * OTHER_CLASSES;
 
+// Where ACQ's lines begin, behind OTH's.
+const FIRST_ACQUIRED_PLACE: usize = PAIRED_LINES + OTHER_LINES;
+
 // The ACQ lines.
 const ACQUIRED_LINES: usize = TERRITORIES * ACQUIRED_CLASSES;
+
+// Where GEN's lines begin, behind ACQ's.
+const FIRST_GENERAL_PLACE: usize = FIRST_ACQUIRED_PLACE + ACQUIRED_LINES;
+
+// Where CRD's lines begin, behind GEN's.
+const FIRST_CREDIT_PLACE: usize = FIRST_GENERAL_PLACE + GENERAL_CLASSES;
 
 // The CRD lines, of block 0 and of the participating blocks.
 const CREDIT_LINES: usize = ADJUSTABLE_PRODUCTS + PARTICIPATING * DIVIDEND_CLASSES;
 
 // The lines that a sheet can have, one for each code, block and class.
-pub const MOST_LINES: usize = PAIRED_LINES
-    + OTHER_LINES
-    + ACQUIRED_LINES
-    + GENERAL_CLASSES
-    + CREDIT_LINES;
+pub const MOST_LINES: usize = FIRST_CREDIT_PLACE + CREDIT_LINES;
 
 // The code whose letters columns 1 to 3 are.
 #[tactic(auto, unfolding(crate::specs::Codes::code_among, crate::specs::Codes::is_code, basics::specs::Pick::pick))]
@@ -135,9 +162,9 @@ impl From<Code> for [u8; 3] {
 }
 
 // The rows, in the order of codes, and behind them all the second one of CRD, that of block 0.
-static ROWS: [Row; 8] = [
+static ROWS: [CodeRow; 8] = [
     // RSK
-    Row {
+    CodeRow {
         letters: *b"RSK",
         rank: 0,
         lowest: 1,
@@ -151,7 +178,7 @@ static ROWS: [Row; 8] = [
         block_places: RISK_CLASSES,
     },
     // OTH
-    Row {
+    CodeRow {
         letters: *b"OTH",
         rank: 1,
         lowest: 1,
@@ -165,7 +192,7 @@ static ROWS: [Row; 8] = [
         block_places: OTHER_CLASSES,
     },
     // MOR
-    Row {
+    CodeRow {
         letters: *b"MOR",
         rank: 2,
         lowest: 1,
@@ -179,7 +206,7 @@ static ROWS: [Row; 8] = [
         block_places: MORTALITY_CLASSES,
     },
     // VOL
-    Row {
+    CodeRow {
         letters: *b"VOL",
         rank: 3,
         lowest: 1,
@@ -189,11 +216,11 @@ static ROWS: [Row; 8] = [
         trend: false,
         scalar: 0,
         makes_block: false,
-        first_place: RISK_LINES + MORTALITY_LINES,
+        first_place: FIRST_VOLUME_PLACE,
         block_places: VOLUME_CLASSES,
     },
     // ACQ
-    Row {
+    CodeRow {
         letters: *b"ACQ",
         rank: 4,
         lowest: 1,
@@ -203,11 +230,11 @@ static ROWS: [Row; 8] = [
         trend: false,
         scalar: 0,
         makes_block: false,
-        first_place: PAIRED_LINES + OTHER_LINES,
+        first_place: FIRST_ACQUIRED_PLACE,
         block_places: ACQUIRED_CLASSES,
     },
     // GEN
-    Row {
+    CodeRow {
         letters: *b"GEN",
         rank: 5,
         lowest: 0,
@@ -217,11 +244,11 @@ static ROWS: [Row; 8] = [
         trend: false,
         scalar: SCALAR_CLASS as u64,
         makes_block: false,
-        first_place: PAIRED_LINES + OTHER_LINES + ACQUIRED_LINES,
+        first_place: FIRST_GENERAL_PLACE,
         block_places: 0,
     },
     // CRD, the dividend credit of a participating block
-    Row {
+    CodeRow {
         letters: *b"CRD",
         rank: 6,
         lowest: NON_PARTICIPATING as u64 + 1,
@@ -231,11 +258,11 @@ static ROWS: [Row; 8] = [
         trend: false,
         scalar: 0,
         makes_block: false,
-        first_place: PAIRED_LINES + OTHER_LINES + ACQUIRED_LINES + GENERAL_CLASSES,
+        first_place: FIRST_CREDIT_PLACE,
         block_places: DIVIDEND_CLASSES,
     },
     // CRD of block 0, adjustable products
-    Row {
+    CodeRow {
         letters: *b"CRD",
         rank: 6,
         lowest: 0,
@@ -245,7 +272,7 @@ static ROWS: [Row; 8] = [
         trend: false,
         scalar: 0,
         makes_block: false,
-        first_place: PAIRED_LINES + OTHER_LINES + ACQUIRED_LINES + GENERAL_CLASSES,
+        first_place: FIRST_CREDIT_PLACE,
         block_places: DIVIDEND_CLASSES,
     },
 ];
@@ -253,7 +280,7 @@ static ROWS: [Row; 8] = [
 // The row of a code that a block falls under.
 //
 // Kept: a sum and no `if` for CRD, so that the row is read at its place and not jumped to (docs/DECISIONS.md).
-pub fn row_of(code: Code, block: u64) -> Row
+pub fn row_of(code: Code, block: u64) -> CodeRow
     ensures { result ≡ row_of code block }
 {
     ROWS[code as usize + usize::from(matches!(code, Code::Crd) & (block == 0))]

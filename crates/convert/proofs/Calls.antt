@@ -1,29 +1,18 @@
 -- What the call gives: by the sheet's length, then by what was read, then rule 14. What an accepted call has written is as long as the sheet and
 -- converts back, and with room for every sheet what is printed is the conversion's own. Assumes nothing.
 -- In order: after the lines; by the length; its length, and the numbers of its refusals: a rule's, with a line of the sheet.
-use mathlib.Core.Path.{◌≡◌, refl, ap, ◌∙◌, subst, subst⁻¹}
-use mathlib.Core.List.{List, [], ◌∷◌}
-use Prim.Native.Nat.{ℕ, ◌%◌, ◌≤◌, ◌<◌}
-use native.Mathlib.Omega.{arith}
-use lib.ListN.{length, drop}
-use lib.Seq.{take_at}
-use Rattle.basics.proofs.Picks.{never}
-use Rattle.refusal.specs.Outcome.{Judging, printed, rule_number, stated_number}
-use Rattle.refusal.specs.Outcome.Outcome.{accepted, refused}
-use Rattle.refusal.specs.declared.Place.{Place}
-use Rattle.refusal.specs.declared.Place.TheVariants.{Line, Nowhere}
+use Rattle.basics.proofs.Common.{◌≡◌, ℕ, ◌%◌, ◌<◌, ◌≤◌, List, [], ◌∷◌, length, drop, Ok, Err, Result, refl, ap, ◌∙◌, subst, arith, take_at, subst⁻¹, never}
+use Rattle.refusal.specs.Outcome.{Never0, Judging, printed, rule_number, stated_number, Outcome.accepted, Outcome.refused}
+use Rattle.refusal.specs.declared.Place.{Place, TheVariants.Line, TheVariants.Nowhere}
 use Rattle.sizes.specs.Sizes.{FitsColumns}
 use Rattle.layout.specs.Columns.{sheet_line_bytes}
 use Rattle.sheet_length.specs.Measured.{longest_sheet, measured, after_length}
-use Rattle.std.specs.Prelude.{Result, Ok, Err}
 use Rattle.refusal.specs.declared.Refusal.{Refusal}
 use Rattle.sheet_length.proofs.Measures.{by_length}
 use Rattle.sheet_line.specs.declared.Entry.{Entry}
-use Rattle.order.specs.Reading.{Reading, outcome_of}
-use Rattle.order.specs.Reading.Reading.{complete, stopped}
+use Rattle.order.specs.Reading.{Reading, Reading.complete, Reading.stopped, outcome_of}
 use Rattle.order.proofs.Lines.{stopped_by}
-use Rattle.text_answer.specs.Lent.{Done, untouched}
-use Rattle.text_answer.specs.Lent.Text.{no_text}
+use Rattle.text_answer.specs.Lent.{Done, untouched, Text.no_text}
 use Rattle.text_answer.specs.Printing.{printout, Printed, Shown}
 use Rattle.text_answer.proofs.LentRoom as lent
 use Rattle.text_answer.proofs.LentRoom.{RoomFor, Numbered}
@@ -116,11 +105,11 @@ unfolding convert_call
 printed_sheet s r room = lent.printed_answer _ r (room_for s r room)
 
 -- a refusal has a number, and with such room it is never 14
-module _ (s r : List ℕ) (p : Place) where
-  pub never_0 : (convert_call s r).outcome ≡ refused 0 p → ⊥
+module _ (s r : List ℕ) where
+  pub never_0 : Never0 (convert_call s r).outcome
   unfolding convert_call
-  never_0 = lent.never_0 _ r (right_numbers s) p
+  never_0 = lent.never_0 _ r (right_numbers s)
 
-  pub never_14 : longest_sheet ≤ length r → (convert_call s r).outcome ≡ refused 14 p → ⊥
+  pub never_14 : longest_sheet ≤ length r → (p : Place) → (convert_call s r).outcome ≡ refused 14 p → ⊥
   unfolding convert_call
-  never_14 room = lent.never_14 _ r (right_numbers s) (room_for s r room) p
+  never_14 room = lent.never_14 _ r (right_numbers s) (room_for s r room)

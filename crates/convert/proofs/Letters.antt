@@ -2,23 +2,17 @@
 -- rule 4 at the first line that differs from line 1'. The first letter tells as much as all three: where they are a code it is of the sort that the
 -- first tells, and where they are none of either sort, both sorts turn line 1 away alike. Assumes nothing.
 -- In order: what the letters of a code tell; a line in a sheet of either sort; the lines of a sheet up to one that is refused; the sheet.
-use Rattle.std.specs.Prelude.{Option, Some, None, Result, Ok, Err}
-use mathlib.Core.Path.{◌≡◌, refl, sym, ap, ◌∙◌}
-use mathlib.Core.List.{List, [], ◌∷◌, ◌++◌, map}
-use Prim.Native.Nat.{ℕ, zero, suc, ◌+◌, ◌-◌, ◌*◌, ◌%◌, ◌≤◌, ◌<◌}
-use native.Mathlib.Decide.{dec_le}
-use native.Mathlib.Omega.{arith}
-use lib.ListN.{length, take, drop, take-append-drop, length-drop, get_or-append}
-use lib.Seq.{drop-drop, length-take-le, take-add, take_at, drop_at}
-use Rattle.basics.specs.Pick.{pick}
-use Rattle.basics.proofs.Picks.{never}
+use Rattle.basics.proofs.Common.{◌≡◌, ℕ, zero, suc, ◌+◌, ◌-◌, ◌*◌, ◌%◌, ◌<◌, ◌≤◌, List, [], ◌∷◌, ◌++◌, map, length, take, drop, Some, None, Ok, Err, Option, Result, sym, refl, ap, ◌∙◌, arith}
+use Rattle.basics.proofs.Common.{length-drop, take-append-drop, length-take-le, drop-drop, take_at, drop_at, dec_le, get_or-append, pick, never}
+use Rattle.std.proofs.lemmas.List.{take-take}
+use lib.Seq.{take-add}
 use Rattle.refusal.specs.Outcome.{rule_number}
 use Rattle.refusal.specs.declared.Place.TheVariants.{Line}
 use Rattle.refusal.specs.declared.Rule.{Rule}
 use Rattle.refusal.specs.declared.Rule.TheVariants as rule
 use Rattle.codes.specs.Codes.{codes, is_code, code_among, code_of}
 use Rattle.codes.specs.declared.Code.{Code}
-use Rattle.codes.specs.declared.Code.TheVariants.{Rsk, Oth, Mor, Vol, Acq, Gen, Crd}
+use Rattle.codes.proofs.Table.{codes_same}
 use Rattle.layout.specs.Columns.{sheet_line_bytes, layout_of}
 use Rattle.layout.specs.Whole.{whole_lines, line_at}
 use Rattle.layout.specs.declared.Numbers.{Numbers}
@@ -29,15 +23,12 @@ use Rattle.sheet_line.specs.Line.{numbers_of}
 use Rattle.sheet_line.specs.Rules.{rule3, parse_line}
 use Rattle.sheet_line.specs.declared.Entry.{Entry}
 use Rattle.sheet_line.proofs.PrintedLines.{code_letters}
-use Rattle.order.specs.Reading.{Reading, line_after, on_line, read_from, print_by}
-use Rattle.order.specs.Reading.Reading.{complete, stopped}
+use Rattle.order.specs.Reading.{Reading, Reading.complete, Reading.stopped, line_after, on_line, read_from, print_by}
 use Rattle.order.proofs.Lines.{read_more, on_good, by_line, next_line}
-use Rattle.text_answer.specs.Lent.{Text}
-use Rattle.text_answer.specs.Lent.Text.{no_text}
+use Rattle.text_answer.specs.Lent.{Text, Text.no_text}
 use Rattle.scaled_line.specs.Scale.{other, to_capital, to_small, letters_in, scale_of, with_capitals, parse_in}
 use Rattle.scaled_line.specs.Amounts.{convertible}
-use Rattle.scaled_line.specs.declared.Scale.{Scale}
-use Rattle.scaled_line.specs.declared.Scale.TheVariants.{Cents, Thousands}
+use Rattle.scaled_line.specs.declared.Scale.{Scale, TheVariants.Cents, TheVariants.Thousands}
 use Rattle.scaled_line.proofs.SmallLetters.{letters_first, three_in, capitals, capitals_are, long_letters, length_with_capitals, layout_with_capitals}
 use Rattle.convert.specs.Call.{reading_in, after_reading, conversion}
 use Rattle.convert.proofs.Reading.{reads, inverse}
@@ -45,22 +36,10 @@ use Rattle.convert.proofs.Reading.{reads, inverse}
 -- ---- what the letters of a code tell
 
 -- letters of this sort tell it
-letters_tell : (d : Scale) (k : Code) → scale_of (letters_in d k) ≡ d
+scale_of_code : (d : Scale) (k : Code) → scale_of (letters_in d k) ≡ d
 unfolding scale_of to_capital to_small pick
-letters_tell Cents Rsk = refl
-letters_tell Cents Oth = refl
-letters_tell Cents Mor = refl
-letters_tell Cents Vol = refl
-letters_tell Cents Acq = refl
-letters_tell Cents Gen = refl
-letters_tell Cents Crd = refl
-letters_tell Thousands Rsk = refl
-letters_tell Thousands Oth = refl
-letters_tell Thousands Mor = refl
-letters_tell Thousands Vol = refl
-letters_tell Thousands Acq = refl
-letters_tell Thousands Gen = refl
-letters_tell Thousands Crd = refl
+scale_of_code Cents = codes_same (λ k. scale_of (letters_in Cents k)) (λ k. Cents) refl
+scale_of_code Thousands = codes_same (λ k. scale_of (letters_in Thousands k)) (λ k. Thousands) refl
 
 -- what stands first tells the sort, whatever follows
 pub scale_first : (s t : List ℕ) → 0 < length s → scale_of (s ++ t) ≡ scale_of s
@@ -72,10 +51,10 @@ in_front : (w s : List ℕ) → take 3 s ≡ w → s ≡ w ++ drop 3 s
 in_front w s q = sym (take-append-drop 3 s) ∙ ap (λ (v : List ℕ). v ++ drop 3 s) q
 
 -- so a code of a sort in front tells that sort
-pub first_tells : (d : Scale) (k : Code) (s : List ℕ) → take 3 s ≡ letters_in d k → scale_of s ≡ d
-first_tells d k s q =
+pub scale_of_letters : (d : Scale) (k : Code) (s : List ℕ) → take 3 s ≡ letters_in d k → scale_of s ≡ d
+scale_of_letters d k s q =
     let w = letters_in d k in
-    ap scale_of (in_front w s q) ∙ scale_first w (drop 3 s) (omega (arith, three_in d k)) ∙ letters_tell d k
+    ap scale_of (in_front w s q) ∙ scale_first w (drop 3 s) (omega (arith, three_in d k)) ∙ scale_of_code d k
 
 -- ---- a line in a sheet of either sort
 
@@ -97,20 +76,8 @@ letters_read Thousands s k h q =
 -- letters of the other sort are no code
 none_in : (d : Scale) (k : Code) (t : List ℕ) → code_in d (letters_in (other d) k ++ t) ≡ None
 unfolding code_among is_code with_capitals to_capital to_small pick
-none_in Cents Rsk t = refl
-none_in Cents Oth t = refl
-none_in Cents Mor t = refl
-none_in Cents Vol t = refl
-none_in Cents Acq t = refl
-none_in Cents Gen t = refl
-none_in Cents Crd t = refl
-none_in Thousands Rsk t = refl
-none_in Thousands Oth t = refl
-none_in Thousands Mor t = refl
-none_in Thousands Vol t = refl
-none_in Thousands Acq t = refl
-none_in Thousands Gen t = refl
-none_in Thousands Crd t = refl
+none_in Cents k t = codes_same (λ j. code_in Cents (letters_in Thousands j ++ t)) (λ j. None) refl k
+none_in Thousands k t = codes_same (λ j. code_in Thousands (letters_in Cents j ++ t)) (λ j. None) refl k
 
 -- a line without a code of a sort is refused in its sheet by 3 or 4, in either sort alike
 uncoded : (d : Scale) (s : List ℕ) → code_in d s ≡ None → parse_in d s ≡ rule3 (layout_of s) None
@@ -212,12 +179,6 @@ module _ (d : Scale) where
 
 -- ---- the sheet
 
-first_three : (s : List ℕ) → take 3 (take sheet_line_bytes s) ≡ take 3 s
-first_three [] = refl
-first_three (a ∷ []) = refl
-first_three (a ∷ b ∷ []) = refl
-first_three (a ∷ b ∷ c ∷ s) = refl
-
 -- the number that a line 1 without a code is refused by
 abbrev number : Option Numbers → ℕ
 number None = 3
@@ -238,12 +199,12 @@ module _ (s : List ℕ) where
   converted_as d = after_length (measured s) no_text (after_reading d (reading_in d s))
 
   -- what all three letters of line 1 tell: a sort that has their code, and either where there is none
-  abbrev pub Told : Scale → Type 0
-  Told d = (e : Scale) (k : Code) → take 3 s ≡ letters_in e k → d ≡ e
+  abbrev pub OnlyScale : Scale → Type 0
+  OnlyScale d = (e : Scale) (k : Code) → take 3 s ≡ letters_in e k → d ≡ e
 
   -- the letters of line 1 where they are a code of a sort
   read_first : (d : Scale) (k : Code) → 0 < whole_lines s → code_in d (line_at s 0) ≡ Some k → take 3 s ≡ letters_in d k
-  read_first d k h q = sym (first_three s) ∙ letters_read d (line_at s 0) k (length_line s 0 h) q
+  read_first d k h q = sym (take-take 3 sheet_line_bytes s (omega arith)) ∙ letters_read d (line_at s 0) k (length_line s 0 h) q
 
   no_code : (d : Scale) → 0 < whole_lines s → code_in d (line_at s 0) ≡ None → (l : Option Numbers) → layout_of (line_at s 0) ≡ l
       → reading_in d s ≡ stopped [] (number l) 1
@@ -254,10 +215,10 @@ module _ (s : List ℕ) where
   abbrev Same : Scale → Scale → Type 0
   Same d e = after_reading d (reading_in d s) ≡ after_reading e (reading_in e s)
 
-  module _ (d : Scale) (told : Told d) where
+  module _ (d : Scale) (only : OnlyScale d) where
     same : (a b : Option Code) → 0 < whole_lines s → code_in d (line_at s 0) ≡ a → code_in (scale_of s) (line_at s 0) ≡ b → Same d (scale_of s)
-    same (Some k) b h p q = let e : scale_of s ≡ d = first_tells d k s (read_first d k h p) in rw e refl
-    same None (Some k) h p q = let e : d ≡ scale_of s = told (scale_of s) k (read_first (scale_of s) k h q) in rw e refl
+    same (Some k) b h p q = let e : scale_of s ≡ d = scale_of_letters d k s (read_first d k h p) in rw e refl
+    same None (Some k) h p q = let e : d ≡ scale_of s = only (scale_of s) k (read_first (scale_of s) k h q) in rw e refl
     same None None h p q =
         let l = layout_of (line_at s 0) in
         ap (after_reading d) (no_code d h p l refl) ∙ sym (ap (after_reading (scale_of s)) (no_code (scale_of s) h q l refl))

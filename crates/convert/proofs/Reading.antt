@@ -1,11 +1,8 @@
 -- A sheet of either sort is read as its lines and printed as them: what the reading of a sheet asks of how a line is parsed, printed and tested
 -- last. Assumes nothing.
-use mathlib.Core.Path.{◌≡◌}
-use mathlib.Core.List.{List}
-use Prim.Native.Nat.{ℕ}
+use Rattle.basics.proofs.Common.{◌≡◌, ℕ, List, Err}
 use Rattle.refusal.specs.Outcome.{Judging, rule_number}
 use Rattle.sheet_line.specs.declared.Entry.{Entry}
-use Rattle.std.specs.Prelude.{Err}
 use Rattle.refusal.specs.declared.Rule.{Rule}
 use Rattle.scaled_line.specs.Scale.{parse_in, print_in}
 use Rattle.scaled_line.specs.Amounts.{convertible}

@@ -1,12 +1,9 @@
 -- The converter's refusals: the number and the place of each are read back off its line, and 14 comes only where the room is shorter than the
 -- sheet, of which the converted one has the length. Assumes nothing.
-use Rattle.std.specs.Prelude.{◌≡◌, List, ℕ, ◌<◌, length}
-use native.Mathlib.Omega.{arith}
+use Rattle.basics.proofs.Common.{◌≡◌, ℕ, ◌<◌, List, length, arith}
 use Rattle.refusal.specs.Outcome.Outcome.{refused}
-use Rattle.refusal.specs.declared.Place.{Place}
-use Rattle.refusal.specs.declared.Place.TheVariants.{Nowhere}
-use Rattle.text_answer.specs.Lent.{TooLong}
-use Rattle.text_answer.specs.Lent.Text.{no_text}
+use Rattle.refusal.specs.declared.Place.{Place, TheVariants.Nowhere}
+use Rattle.text_answer.specs.Lent.{TooLong, Text.no_text}
 use Rattle.text_answer.specs.Printing.{ReadsRefusal, printout}
 use Rattle.text_answer.proofs.LentRoom as lent
 use Rattle.convert.specs.Call.{conversion, convert_call}

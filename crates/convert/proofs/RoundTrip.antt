@@ -2,13 +2,7 @@
 -- there and come back as they were, so the converted sheet is accepted and converts back to the first one; and its lines have letters of one sort.
 -- Assumes nothing.
 -- In order: the sort of a printed sheet; the lines in the other sort; a sheet that is accepted.
-use mathlib.Core.Path.{◌≡◌, refl, sym, ap, ◌∙◌}
-use mathlib.Core.List.{List, [], ◌∷◌, ◌++◌, map}
-use Prim.Native.Nat.{ℕ, ◌*◌, ◌%◌, ◌≤◌, ◌<◌}
-use native.Mathlib.Omega.{arith}
-use lib.ListN.{length, length-map}
-use Rattle.basics.specs.Each.{Each}
-use Rattle.basics.proofs.Picks.{never}
+use Rattle.basics.proofs.Common.{◌≡◌, ℕ, ◌*◌, ◌%◌, ◌<◌, ◌≤◌, List, [], ◌∷◌, ◌++◌, map, length, sym, refl, ap, ◌∙◌, arith, length-map, Each, never}
 use Rattle.codes.specs.declared.Code.{Code}
 use Rattle.key_columns.specs.Key.{code_columns}
 use Rattle.layout.specs.Columns.{sheet_line_bytes, lettered}
@@ -20,8 +14,7 @@ use Rattle.sheet_line.specs.Line.{numbers_of}
 use Rattle.sheet_line.specs.Rules.{AcceptedLine}
 use Rattle.sheet_line.specs.declared.Entry.{Entry}
 use Rattle.order.specs.Order.{Ascending}
-use Rattle.order.specs.Reading.{Reading, print_by}
-use Rattle.order.specs.Reading.Reading.{complete, stopped}
+use Rattle.order.specs.Reading.{Reading, Reading.complete, Reading.stopped, print_by}
 use Rattle.order.proofs.Lines.{Passes, accepted_by, passes_by, ascending_by}
 use Rattle.order.proofs.PrintedSheets.{printed_by, read_by, length_by}
 use Rattle.scaled_line.specs.Scale.{other, letters_in, scale_of, print_in}
@@ -29,17 +22,16 @@ use Rattle.scaled_line.specs.Amounts.{convertible, rescaled}
 use Rattle.convert.specs.Call.{reading_in, after_reading, conversion}
 use Rattle.text_answer.specs.Lent.Text.{no_text, bytes}
 use Rattle.scaled_line.specs.Other.{other_line}
-use Rattle.scaled_line.specs.declared.Scale.{Scale}
-use Rattle.scaled_line.specs.declared.Scale.TheVariants.{Cents, Thousands}
+use Rattle.scaled_line.specs.declared.Scale.{Scale, TheVariants.Cents, TheVariants.Thousands}
 use Rattle.scaled_line.proofs.SmallLetters.{letters_first, three_in}
 use Rattle.scaled_line.proofs.ScaledAmounts.{passes_convertible, rescaled_accepted, rescaled_passes, rescaled_back}
-use Rattle.convert.proofs.Letters.{scale_first, first_tells, lines_lettered}
+use Rattle.convert.proofs.Letters.{scale_first, scale_of_letters, lines_lettered}
 use Rattle.convert.proofs.Reading.{reads, inverse}
 
 -- ---- the sort of a printed sheet
 
 first_letter : (d : Scale) (k : Code) (n : Numbers) → scale_of (lettered (letters_in d k) n) ≡ d
-first_letter d k n = first_tells d k _ (letters_first (letters_in d k) (three_in d k) n)
+first_letter d k n = scale_of_letters d k _ (letters_first (letters_in d k) (three_in d k) n)
 
 scale_printed : (d : Scale) (e : Entry) (es : List Entry) → scale_of (print_by (print_in d) (e ∷ es)) ≡ d
 unfolding print_by

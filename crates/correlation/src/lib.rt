@@ -26,6 +26,7 @@ pub fn correlated(y: &[u64; RISKS]) -> Wide
 // The sum over i and j from 1 to 7, row by row over all 49 products, those with factor 0 too. f(k) is the factor of the product that
 // comes after k others: read at places that are written out, the compiler works with the factors as with numbers.
 // Kept: written out, and no loops over the rows and columns, in which the compiler read each factor and multiplied by it (docs/DECISIONS.md).
+#[tactic(auto, unfolding(wide::specs::Value::value, integer::specs::Sum::sum))]
 fn row_by_row(y: &[u64; RISKS]) -> i128
     requires { SmallYs y.now }
     ensures { result ≡ quarter_sum y.now }

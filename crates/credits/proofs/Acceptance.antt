@@ -1,21 +1,12 @@
 -- What the rules of a line leave of a block's numbers, and rule 16 of its credit: before and after the credit the block is accepted. Assumes nothing.
-use mathlib.Core.Path.{◌≡◌}
-use mathlib.Core.Bool.{false}
-use mathlib.Core.List.{List}
-use Prim.Native.Nat.{ℕ, ◌+◌, ◌≤◌}
-use native.Mathlib.Decide.{dec_le}
-use native.Mathlib.Omega.{arith}
-use borrow.Author.Tests.{ltb-false}
-use Rattle.basics.specs.Each.{Each}
-use Rattle.basics.specs.First.{any_to}
-use Rattle.basics.proofs.Existence.{none_to}
+use Rattle.basics.proofs.Common.{◌≡◌, ℕ, ◌+◌, ◌≤◌, false, List, arith, ltb-false, dec_le, Each, any_to, none_to}
 use Rattle.sizes.specs.Sizes.{non_participating}
 use Rattle.guideline.specs.Block.{lt, U, LT, AcceptedBlock}
 use Rattle.guideline.proofs.Figures.{accepted_of_lem}
 use Rattle.mortality.specs.Credit.{CreditDemand}
 use Rattle.mortality.proofs.Credits.{credit_demand, none_with_0}
 use Rattle.mortality.proofs.Acceptance.{lowered_accepted, lowered_sums}
-use Rattle.codes.specs.Codes.{Key}
+use Rattle.codes.specs.Codes.{sums_class, Key}
 use Rattle.sheet_line.specs.Rules.{AcceptedLine}
 use Rattle.codes.specs.declared.Code.TheVariants.{Mor}
 use Rattle.sheet_line.specs.declared.Entry.{Entry}
@@ -30,15 +21,15 @@ module _ (es : List Entry) (all : Each AcceptedLine es) where
 
   pub credit_accurate : (b : ℕ) → CreditDemand (survival_sum es b) (death_sum es b) (credit_of es b)
   unfolding credit_of
-  credit_accurate b = credit_demand _ _ (first_most es all Mor b 1) (second_most es all Mor b 1)
+  credit_accurate b = credit_demand _ _ (first_most es all Mor b sums_class) (second_most es all Mor b sums_class)
 
   -- what rule 16 tests is all: other blocks have no MOR line and no credit
   pub all_covered : any_to (credit_above es) non_participating ≡ false → Covered es
   unfolding credit_above credit_of
   all_covered e b = go (dec_le 1 b) (dec_le b non_participating)
     where
-      none : (Key Mor b 1 → ⊥) → credit_of es b ≤ lt (block_of es b) 1
-      none n = let z = none_outside es all Mor b 1 n in rw (z.0, z.1, none_with_0 0 (omega arith)) (omega arith)
+      none : (Key Mor b sums_class → ⊥) → credit_of es b ≤ lt (block_of es b) 1
+      none n = let z = none_outside es all Mor b sums_class n in rw (z.0, z.1, none_with_0 0 (omega arith)) (omega arith)
 
       go : Dec (1 ≤ b) → Dec (b ≤ non_participating) → credit_of es b ≤ lt (block_of es b) 1
       go (yes l) (yes h) = ltb-false _ _ (none_to (credit_above es) non_participating e b l h)

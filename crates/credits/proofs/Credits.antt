@@ -1,22 +1,12 @@
 -- The credits of blocks 1 to 16 found one after the other, off the places of the blocks' MOR lines; and the test for one above its block's
 -- LT(1). Assumes nothing.
-use mathlib.Core.Path.{◌≡◌, sym, ap, ◌∙◌}
-use mathlib.Core.Bool.{Bool, false}
-use mathlib.Core.List.{List}
-use Prim.Native.Nat.{ℕ, zero, suc, ◌+◌, ◌-◌, ◌≤◌, ◌<◌}
-use native.Mathlib.Decide.{ℕ_discrete}
-use native.Mathlib.Omega.{arith}
-use lib.Dec.{ltb}
-use lib.ListN.{length, get_or, set, length-set}
-use lib.Seq.{get_or-set_same, get_or-set_other}
+use Rattle.basics.proofs.Common.{◌≡◌, ℕ, zero, suc, ◌+◌, ◌-◌, ◌<◌, ◌≤◌, Bool, false, ltb, List, length, get_or, set, sym, ap, ◌∙◌, arith, length-set, get_or-set_other, get_or-set_same, ℕ_discrete}
+use Rattle.basics.proofs.Common.{Each, sum_to, sum_next}
 use Rattle.amount.specs.Amount.{limit}
 use Rattle.sizes.specs.Sizes.{non_participating, adjustable_products}
-use Rattle.basics.specs.Each.{Each}
-use Rattle.basics.specs.Total.{sum_to}
-use Rattle.basics.proofs.Totals.{sum_next}
-use Rattle.mortality.specs.Credit.{credit}
+use Rattle.mortality.specs.Credit.{diversification_credit}
 use Rattle.mortality.proofs.Credits.{none_with_0}
-use Rattle.codes.specs.Codes.{Key}
+use Rattle.codes.specs.Codes.{mortality_risk_class, sums_class, dividend_class, Key}
 use Rattle.codes.specs.declared.Code.TheVariants.{Rsk, Mor, Crd}
 use Rattle.sheet_line.specs.declared.Entry.{Entry}
 use Rattle.sheet_line.specs.Rules.{AcceptedLine}
@@ -34,13 +24,13 @@ pub record CreditsTo (es : List Entry) (i : ℕ) (credits : List ℕ) : Type 0 w
   pub long : length credits ≡ non_participating
 
 -- a place of blocks 1 to 16
-pub mortality_key : (i : ℕ) → i < non_participating → Key Mor (i + 1) 1
+pub mortality_key : (i : ℕ) → i < non_participating → Key Mor (i + 1) sums_class
 mortality_key i h = record { low = omega arith; high = omega arith; one = omega arith; most = omega arith }
 
-pub trend_key : (i : ℕ) → i < non_participating → Key Rsk (i + 1) 1
+pub trend_key : (i : ℕ) → i < non_participating → Key Rsk (i + 1) mortality_risk_class
 trend_key i h = record { low = omega arith; high = omega arith; one = omega arith; most = omega arith }
 
-dividend_low : (b : ℕ) → 1 ≤ b → Key Crd b 1 → non_participating < b
+dividend_low : (b : ℕ) → 1 ≤ b → Key Crd b dividend_class → non_participating < b
 dividend_low zero h v = absurd (omega arith)
 dividend_low (suc b) h v = v.low
 
@@ -49,16 +39,16 @@ adjustable_key c h l = record { low = omega arith; high = omega arith; one = h; 
 
 module _ {es : List Entry} {f s : List ℕ} {m : List Bool} (H : TablesHold es f s m) {i : ℕ} (h : i < non_participating) where
   -- S and T are amounts
-  pub sums_most : (tabled f Mor (i + 1) 1 ≤ limit) × (tabled s Mor (i + 1) 1 ≤ limit)
+  pub sums_most : (tabled f Mor (i + 1) sums_class ≤ limit) × (tabled s Mor (i + 1) sums_class ≤ limit)
   sums_most =
-      let e = amount_is H Mor (i + 1) 1 (mortality_key i h) in
-      rw (e.0, e.1) (first_most es H.lines Mor (i + 1) 1, second_most es H.lines Mor (i + 1) 1)
+      let e = amount_is H Mor (i + 1) sums_class (mortality_key i h) in
+      rw (e.0, e.1) (first_most es H.lines Mor (i + 1) sums_class, second_most es H.lines Mor (i + 1) sums_class)
 
-  pub next_credit : {credits : List ℕ} → CreditsTo es i credits → (c : ℕ) → c ≡ credit (tabled f Mor (i + 1) 1) (tabled s Mor (i + 1) 1)
+  pub next_credit : {credits : List ℕ} → CreditsTo es i credits → (c : ℕ) → c ≡ diversification_credit (tabled f Mor (i + 1) sums_class) (tabled s Mor (i + 1) sums_class)
       → CreditsTo es (i + 1) (set credits i c)
   unfolding credit_of
   next_credit {credits} w c e =
-      let t = amount_is H Mor (i + 1) 1 (mortality_key i h) in
+      let t = amount_is H Mor (i + 1) sums_class (mortality_key i h) in
       let o : i < length credits = omega (arith, w.long) in
       record {
         found =
@@ -71,10 +61,10 @@ module _ {es : List Entry} {f s : List ℕ} {m : List Bool} (H : TablesHold es f
       }
 
   -- the test of rule 16 as code makes it
-  pub above_is : (l c : ℕ) → l ≡ tabled s Rsk (i + 1) 1 → c ≡ credit_of es (i + 1) → credit_above es (i + 1) ≡ ltb l c
+  pub above_is : (l c : ℕ) → l ≡ tabled s Rsk (i + 1) mortality_risk_class → c ≡ credit_of es (i + 1) → credit_above es (i + 1) ≡ ltb l c
   unfolding credit_above
   above_is l c p q =
-      let t = p ∙ (amount_is H Rsk (i + 1) 1 (trend_key i h)).1 ∙ sym (risk_at es H.lines (i + 1) 0 (omega arith)).1 in
+      let t = p ∙ (amount_is H Rsk (i + 1) mortality_risk_class (trend_key i h)).1 ∙ sym (risk_at es H.lines (i + 1) 0 (omega arith)).1 in
       rw (t, q)
 
 -- the credits of adjustable products, one more
@@ -89,11 +79,11 @@ next_adjustable {es} H {i} h p q =
 pub participating_none : (es : List Entry) → Each AcceptedLine es → (b : ℕ) → non_participating < b → credit_of es b ≡ 0
 unfolding credit_of
 participating_none es all b h =
-    let z = none_outside es all Mor b 1 (λ v. omega (arith, v.high)) in
+    let z = none_outside es all Mor b sums_class (λ v. omega (arith, v.high)) in
     rw (z.0, z.1) (none_with_0 0 (omega arith))
 
 -- a block without participation has no dividend credit
-pub no_dividend : (es : List Entry) → Each AcceptedLine es → (b : ℕ) → b ≤ non_participating → 1 ≤ b → (dividend_credit es b ≡ 0) × (has_line es Crd b 1 ≡ false)
+pub no_dividend : (es : List Entry) → Each AcceptedLine es → (b : ℕ) → b ≤ non_participating → 1 ≤ b → (dividend_credit es b ≡ 0) × (has_line es Crd b dividend_class ≡ false)
 no_dividend es all b h l =
-    let z = none_outside es all Crd b 1 (λ v. omega (arith, dividend_low b l v)) in
+    let z = none_outside es all Crd b dividend_class (λ v. omega (arith, dividend_low b l v)) in
     (z.0, ap (λ (m : ℕ). ltb 0 m) z.2)

@@ -3,13 +3,13 @@
 use Rattle.std.specs.Prelude.{◌≡◌, Bool, List, ℕ, ◌+◌, ◌≤◌, ◌<◌, ltb, get_or}
 use Rattle.sizes.specs.Sizes.{non_participating}
 use Rattle.guideline.specs.Block.{lt}
-use Rattle.mortality.specs.Credit.{credit, lowered}
+use Rattle.mortality.specs.Credit.{diversification_credit, lowered}
 use Rattle.sheet_line.specs.declared.Entry.{Entry}
 use Rattle.ledger.specs.Numbers.{block_of, survival_sum, death_sum}
 
 -- the reported credit of a block, section 11.1.1; a block without a MOR line has S and T zero, and no credit
 unfoldable pub credit_of : List Entry → ℕ → ℕ
-credit_of es b = credit (survival_sum es b) (death_sum es b)
+credit_of es b = diversification_credit (survival_sum es b) (death_sum es b)
 
 -- the 17 numbers of a block, IR(1) and LT(1) lowered by the credit
 unfoldable pub after_credit : List Entry → ℕ → List ℕ

@@ -7,12 +7,13 @@ ghost use Rattle.std.specs.Prelude.{◌≡◌, ◌≤◌, IfSome, is_none};
 ghost use Rattle.basics.specs.First.{any_to};
 ghost use Rattle.basics.specs.Total.{sum_to};
 ghost use Rattle.sizes.specs.Sizes.{non_participating, blocks, adjustable_products};
+ghost use Rattle.codes.specs.Codes.{dividend_class};
 ghost use Rattle.places.specs.Entries.{has_line};
 ghost use Rattle.ledger.specs.Numbers.{dividend_credit, adjustable_credit};
 ghost use Rattle.ledger.specs.Lines.{OfLines};
 ghost use Rattle.credits.specs.Credits.{credit_of, after_credit, credit_above, Credits, Covered};
 
-use codes::Code;
+use codes::{Code, DIVIDEND_CLASS, MORTALITY_RISK_CLASS, SUMS_CLASS};
 use guideline::Block;
 use ledger::Ledger;
 use sizes::{ADJUSTABLE_PRODUCTS, NON_PARTICIPATING};
@@ -44,7 +45,7 @@ pub fn credits_of(ledger: &Ledger) -> [u64; NON_PARTICIPATING]
 {
     let mut credits = [0u64; NON_PARTICIPATING];
     for i in 0..NON_PARTICIPATING {
-        let sums = ledger.amounts(Code::Mor, i + 1, 1);
+        let sums = ledger.amounts(Code::Mor, i + 1, SUMS_CLASS);
         credits[i] = mortality::credit(sums.first, sums.second);
     }
     credits
@@ -55,7 +56,10 @@ pub fn any_credit_above(ledger: &Ledger, credits: &[u64; NON_PARTICIPATING]) -> 
     requires credited { OfLines ledger.now (λ es. Credits es credits.now) }
     ensures { OfLines ledger.now (λ es. result ≡ any_to (credit_above es) non_participating) }
 {
-    (0..NON_PARTICIPATING).any(|i| ledger.amounts(Code::Rsk, i + 1, 1).second < credits[i])
+    (0..NON_PARTICIPATING).any(|i| ledger
+        .amounts(Code::Rsk, i + 1, MORTALITY_RISK_CLASS)
+        .second
+        < credits[i])
 }
 
 impl<'a> CreditedLedger<'a> {
@@ -89,18 +93,18 @@ pub fn dividend_credit(ledger: &Ledger, block: usize) -> u64
     if block <= NON_PARTICIPATING {
         return 0;
     }
-    ledger.amounts(Code::Crd, block, 1).first
+    ledger.amounts(Code::Crd, block, DIVIDEND_CLASS).first
 }
 
 // Whether a block has the line of a dividend credit, of whatever amount.
 pub fn has_dividend(ledger: &Ledger, block: usize) -> bool
     requires block_number { (1 ≤ block) × (block ≤ blocks) }
-    ensures { OfLines ledger.now (λ es. result ≡ has_line es Code.Crd block 1) }
+    ensures { OfLines ledger.now (λ es. result ≡ has_line es Code.Crd block dividend_class) }
 {
     if block <= NON_PARTICIPATING {
         return false;
     }
-    ledger.has_line(Code::Crd, block, 1)
+    ledger.has_line(Code::Crd, block, DIVIDEND_CLASS)
 }
 
 // The sum of the credits of adjustable products.

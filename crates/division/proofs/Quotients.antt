@@ -1,14 +1,8 @@
 -- Long division: how many binary digits fit a step, one step, what holds between two, and the quotient rounded up. Assumes nothing.
-use mathlib.Core.Path.{◌≡◌, sym, ap, ◌∙◌}
-use Prim.Native.Nat.{ℕ, ◌+◌, ◌-◌, ◌*◌, ◌/◌, ◌%◌, ◌^◌, ◌≤◌, ◌<◌}
-use native.Mathlib.Nat.{mul-le-mul_left, mul-le-mul_right, lt_of_mul-lt-mul_right}
-use native.Mathlib.Decide.{dec_le}
-use native.Mathlib.Omega.{arith}
-use lib.Count.{count_leading_zeros, leading_length}
-use lib.Dec.{leb}
-use lib.Pow.{pow-add, pow_mono, mod-pow-add}
-use Rattle.basics.specs.Least.{least}
-use Rattle.basics.proofs.LeastOf.{ceil_eq}
+use Rattle.basics.proofs.Common.{◌≡◌, ℕ, ◌+◌, ◌-◌, ◌*◌, ◌/◌, ◌%◌, ◌^◌, ◌<◌, ◌≤◌, leb, sym, ap, ◌∙◌, mul-le-mul_right, lt_of_mul-lt-mul_right, mul-le-mul_left, arith, pow_mono, pow-add, dec_le}
+use Rattle.basics.proofs.Common.{count_leading_zeros, least, ceil_eq}
+use lib.Count.{leading_length}
+use lib.Pow.{mod-pow-add}
 
 -- ---- how many binary digits a step can bring down
 

@@ -16,6 +16,7 @@ pub struct Division<Q> {
 
 // n over d, rounded up, where that fits a word: then the upper word is below d.
 // Kept: a struct of a divisor within these bounds would be made for each call and taken apart in it, for two callers.
+#[tactic(auto, using(crate::proofs::Quotients::up_room), unfolding(wide::specs::Value::value))]
 pub fn divide_up(n: Wide, d: u64) -> u64
     requires { (0 < d) × (d < 2 ^ 63) × (value n ≤ d * (2 ^ 64 - 1)) }
     ensures { result ≡ least (λ q. leb (value n) (d * q)) }
@@ -27,6 +28,7 @@ pub fn divide_up(n: Wide, d: u64) -> u64
 }
 
 // n over any d of at most 63 binary digits, with its rest: the upper word by the machine's division where it isn't below d, then the lower one.
+#[tactic(auto, using(crate::proofs::Quotients::two_words), unfolding(wide::specs::Value::value))]
 pub fn divide(n: Wide, d: u64) -> Division<Wide>
     requires { (0 < d) × (d < 2 ^ 63) }
     ensures { (result.rest < d) × (value result.quotient * d + result.rest ≡ value n) }
@@ -63,6 +65,7 @@ fn divide_word(n: u64, d: u64) -> Division<u64>
 }
 
 // A word below a rest, over d: each step brings down as many binary digits as the rest so far leaves free. Below no rest one division is enough.
+#[tactic(auto, using(crate::proofs::Quotients::narrower))]
 fn divide_lower(above: u64, low: u64, d: u64) -> Division<u64>
     requires { (above < d) × (d < 2 ^ 63) }
     ensures { (result.rest < d) × (result.quotient * d + result.rest ≡ above * 2 ^ 64 + low) }

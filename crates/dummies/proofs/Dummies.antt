@@ -2,35 +2,25 @@
 -- meet demand 3, whatever else they do. Each call is refuted at a sheet of the computed table. Demand 3 leaves a buffer less than the allowance
 -- from the one that is due, either way: of two buffers that meet it, one less the allowance is below the exact buffer, and the other isn't.
 -- Assumes nothing.
-use mathlib.Core.Path.{◌≡◌, refl, sym, ap, subst, ◌∙◌}
-use mathlib.Core.Bool.{true}
-use mathlib.Core.List.{List}
-use Prim.Native.Nat.{ℕ, ◌+◌, ◌*◌, ◌≤◌}
-use native.Mathlib.Nat.{mul-le-mul_right}
-use native.Mathlib.Decide.{dec_le}
-use native.Mathlib.Omega.{arith}
-use lib.ListN.{get_or}
-use Rattle.basics.proofs.Picks.{never}
-use Rattle.refusal.specs.Outcome.{Outcome}
-use Rattle.refusal.specs.Outcome.Outcome.{accepted}
+-- In order: the sheets of the table; demand 2; two buffers that meet demand 3; what a call would have to give for the first block's K in place of
+-- each; for the others' amounts left out.
+use Rattle.basics.proofs.Common.{◌≡◌, ℕ, ◌+◌, ◌*◌, ◌≤◌, true, List, get_or, Some, sym, refl, ap, ◌∙◌, subst, mul-le-mul_right, arith, dec_le, pick, never}
+use Rattle.refusal.specs.Outcome.{Outcome, Outcome.accepted}
 use Rattle.guideline.specs.Buffer.{Sheet, buffer, free, CreditsWithin, AcceptedSheet}
 use Rattle.accuracy.specs.ExactBuffer.{buffer_at, millionths, allowance}
 use Rattle.accuracy.specs.Demand.{BufferDemand}
 use Rattle.accuracy.proofs.Demand.{buffer_demand}
-use Rattle.std.specs.Prelude.{Some}
-use Rattle.basics.specs.Pick.{pick}
 use Rattle.report_line.specs.Line.{number_at}
 use Rattle.report.specs.Rows.{TOT}
 use Rattle.places.specs.Entries.{exists}
 use Rattle.sheet_line.specs.declared.Entry.{Entry}
 use Rattle.judgement.specs.Sheet.{sheet_of}
-use Rattle.judgement.specs.Judgement.{Judgement, judgement}
-use Rattle.judgement.specs.Judgement.Judgement.{turned_away, sound}
+use Rattle.judgement.specs.Judgement.{Judgement, Judgement.turned_away, Judgement.sound, judgement}
 use Rattle.judgement.proofs.Acceptance.{sound_accepted}
 use Rattle.sheet_call.specs.Call.{sheet_call}
 use Rattle.sheet_call.specs.Demand.{ReportDemand, Demand3}
-use Rattle.dummies.specs.Dummies.{Lent, Call, MeetsContract, MeetsDemand3, TurnsAllAway, ConstantReport, WritesNothing, TooShortAtOnce, FirstFilledIn}
-use Rattle.dummies.specs.Dummies.{filled_in, BufferOfFirst, blanked, AlikeButOthers, OthersFilledIn, BufferWithoutOthers, FarAbove, FarBelow}
+use Rattle.dummies.specs.Dummies.{Lent, Call, MeetsContract, MeetsDemand3, TurnsAllAway, ConstantReport, WritesNothing, TooShortAtOnce, FirstFilledIn, filled_in, BufferOfFirst, blanked}
+use Rattle.dummies.specs.Dummies.{AlikeButOthers, OthersFilledIn, BufferWithoutOthers, FarAbove, FarBelow}
 use Rattle.dummies.specs.Answers.{Amounts, amounts_of, lines_of, Facts, facts_of, Case, Answered, empty, guaranteed, two_blocks, another_second}
 use Rattle.dummies.proofs.SmallSheets.{computed}
 

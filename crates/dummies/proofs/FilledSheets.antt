@@ -2,22 +2,12 @@
 -- totals have their columns; it is as long as the program says; every line of a K has the first block's, so that no other K is read of it.
 -- Assumes nothing.
 -- In order: the sheet with its first block in place of each; its lines; what is read of its report.
-use mathlib.Core.Path.{◌≡◌, refl, sym, ap, ◌∙◌}
-use mathlib.Core.Bool.{true, false, false≢true}
-use mathlib.Core.List.{List, [], ◌∷◌, map, append-nil}
-use Prim.Native.Nat.{ℕ, suc, ◌<◌}
-use native.Mathlib.Omega.{arith}
-use lib.ListN.{length, get_or, drop, length-map}
+use Rattle.basics.proofs.Common.{◌≡◌, ℕ, suc, ◌<◌, true, false, List, [], ◌∷◌, map, length, get_or, drop, Some, None, sym, refl, ap, ◌∙◌, append-nil, arith, length-map, ascending, Each, pick}
+use Rattle.basics.proofs.Common.{each_ascending, each_append, each_at, by_test, never}
+use mathlib.Core.Bool.{false≢true}
 use lib.Seq.{take-append_seam}
-use Rattle.basics.specs.Pick.{pick}
-use Rattle.basics.specs.Each.{Each}
-use Rattle.basics.specs.Ascending.{ascending}
-use Rattle.basics.proofs.Picks.{never, by_test}
-use Rattle.basics.proofs.Elements.{each_append, each_at}
-use Rattle.basics.proofs.Ascents.{each_ascending}
 use Rattle.refusal.specs.Outcome.Outcome.{accepted}
 use Rattle.refusal.specs.declared.Place.{Place}
-use Rattle.std.specs.Prelude.{Some, None}
 use Rattle.sizes.specs.Sizes.{blocks, block_figures, FitsColumns}
 use Rattle.guideline.specs.Block.{AcceptedBlock, K, figures_of}
 use Rattle.guideline.specs.Buffer.{Sheet, count, buffer, CreditsWithin, AcceptedSheet}

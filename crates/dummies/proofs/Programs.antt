@@ -1,34 +1,26 @@
 -- The plainest program of each kind of dummy meets the premise of its kind: four by what they give. The one that fills in the first block
 -- refuses by rules 17 and 13 of its own sum of K and else as the sheet call does, and what is read of its report is in FilledSheets.
 -- Assumes nothing.
-use mathlib.Core.Path.{◌≡◌, refl, sym, ap, ◌∙◌}
-use mathlib.Core.Bool.{Bool, true, false}
-use mathlib.Core.List.{List, [], ◌∷◌, map}
-use Prim.Native.Nat.{ℕ, zero, suc, ◌+◌}
-use native.Mathlib.Omega.{arith}
-use lib.ListN.{length, length-append, length-drop}
-use borrow.Author.Tests.{ltb-false}
-use Rattle.basics.specs.Pick.{pick}
-use Rattle.basics.specs.Ascending.{ascending}
+-- In order: the four that are met by what they give; the one that fills in the first block; the one that doesn't see the others' lines.
+use Rattle.basics.proofs.Common.{◌≡◌, ℕ, zero, suc, ◌+◌, Bool, true, false, List, [], ◌∷◌, map, length, sym, refl, ap, ◌∙◌, arith, length-append, length-drop, ltb-false, ascending, pick, if_ge}
+use Rattle.basics.proofs.Common.{by_test}
 use Rattle.sizes.specs.Sizes.{blocks}
 use Rattle.places.specs.Entries.{exists}
 use Rattle.report.specs.Rows.{BLK, TOT, report_length}
 use Rattle.report_line.specs.Line.{number_at}
 use Rattle.sheet_blocks.specs.Blocks.{blocks_to}
-use Rattle.basics.proofs.Picks.{by_test, if_ge}
 use Rattle.refusal.specs.declared.Place.TheVariants.{Nowhere}
 use Rattle.guideline.specs.Buffer.{buffer, CreditsWithin}
 use Rattle.sheet_line.specs.declared.Entry.{Entry}
 use Rattle.judgement.specs.Sheet.{sheet_of}
-use Rattle.judgement.specs.Judgement.{Judgement, judgement}
-use Rattle.judgement.specs.Judgement.Judgement.{turned_away, sound}
+use Rattle.judgement.specs.Judgement.{Judgement, Judgement.turned_away, Judgement.sound, judgement}
 use Rattle.judgement.proofs.Acceptance.{sound_accepted}
 use Rattle.text_answer.specs.Lent.{Done, rule14, lent}
 use Rattle.sheet_answer.specs.Judged.{text_of, judged_call}
 use Rattle.sheet_call.specs.Call.{report_of, sheet_call}
 use Rattle.sheet_call.proofs.Rows as sheet_call
-use Rattle.dummies.specs.Dummies.{TurnsAllAway, ConstantReport, WritesNothing, TooShortAtOnce, claimed_report, FirstFilledIn}
-use Rattle.dummies.specs.Dummies.{filled_in, BufferOfFirst, blanked, AlikeButOthers, OthersFilledIn, BufferWithoutOthers}
+use Rattle.dummies.specs.Dummies.{TurnsAllAway, ConstantReport, WritesNothing, TooShortAtOnce, claimed_report, FirstFilledIn, filled_in, BufferOfFirst, blanked, AlikeButOthers, OthersFilledIn}
+use Rattle.dummies.specs.Dummies.{BufferWithoutOthers}
 use Rattle.dummies.specs.Programs.{turns_away, writes_constant, claims_success, says_too_short, filled_report, filled17, filled13, after_filling, fills_in, sees_first}
 use Rattle.dummies.proofs.FilledSheets.{SameK, Reads, none_read, none_accepted, report_long, k_same, reads_filled}
 

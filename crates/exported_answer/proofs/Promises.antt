@@ -1,9 +1,6 @@
 -- What an export promises beside what it leaves; and what one leaves that hands lent room on. Assumes nothing.
-use mathlib.Core.Path.{◌≡◌, sym, ap, subst, ◌∙◌}
-use mathlib.Core.List.{List}
-use Prim.Native.Nat.{ℕ}
-use Rattle.refusal.specs.Outcome.{Outcome}
-use Rattle.refusal.specs.Outcome.Outcome.{accepted}
+use Rattle.std.proofs.Common.{◌≡◌, ℕ, List, sym, ap, ◌∙◌, subst}
+use Rattle.refusal.specs.Outcome.{Outcome, Outcome.accepted}
 use Rattle.text_answer.specs.Lent.{Done}
 use Rattle.exported_answer.specs.Caller.{values_after, CallerHas}
 
@@ -21,8 +18,8 @@ with_promise P {values₀ = v₀} q h l =
 -- ---- a call that was lent room: what is equal to what it gives
 
 module _ {d e : Done} (q : d ≡ e) where
-  pub told : (P : Outcome → Type 0) {given : ℕ} {values₀ place₀ values place : List ℕ} → P d.outcome → CallerHas d.outcome given values₀ place₀ values place
+  pub leaves_promised : (P : Outcome → Type 0) {given : ℕ} {values₀ place₀ values place : List ℕ} → P d.outcome → CallerHas d.outcome given values₀ place₀ values place
       → record { room_after : d.room ≡ e.room; leaves : CallerHas e.outcome given values₀ place₀ values place; at_0 : given ≡ 0 → P (accepted values) }
-  told P {given} {values₀ = v₀} {place₀ = p₀} {values = v} {place = p} h l =
+  leaves_promised P {given} {values₀ = v₀} {place₀ = p₀} {values = v} {place = p} h l =
       let w = with_promise P (ap (λ (x : Done). x.outcome) q) h (subst (λ (x : Done). CallerHas x.outcome given v₀ p₀ v p) q l) in
       record { room_after = ap (λ (x : Done). x.room) q; leaves = w.leaves; at_0 = w.at_0 }

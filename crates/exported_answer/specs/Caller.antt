@@ -4,7 +4,6 @@
 use Rattle.std.specs.Prelude.{◌≡◌, List, ℕ}
 use Rattle.refusal.specs.Outcome.{Outcome, place_of}
 use Rattle.refusal.specs.Outcome.Outcome.{accepted, refused}
-use Rattle.refusal.specs.declared.Place.{Place}
 
 -- the number given: 0, or the refusal's
 abbrev pub number_of : Outcome → ℕ
@@ -20,10 +19,6 @@ place_after (refused n p) before = place_of p
 abbrev pub values_after : Outcome → List ℕ → List ℕ
 values_after (accepted vs) before = vs
 values_after (refused n p) before = before
-
--- no refusal has the number that an accepted call gives
-abbrev pub Never0 : Outcome → Type 0
-Never0 o = (p : Place) → o ≡ refused 0 p → ⊥
 
 -- all that a call leaves, by its outcome and what the values and the place held before
 pub record CallerHas (o : Outcome) (given : ℕ) (values₀ place₀ values place : List ℕ) : Type 0 where

@@ -2,8 +2,8 @@
 #![tactic(auto)]
 
 ghost use Rattle.std.specs.Prelude.{◌≡◌, [], ◌∷◌};
-ghost use Rattle.refusal.specs.Outcome.{place_of, rule_number, stated_number, stated_numbers};
-ghost use Rattle.exported_answer.specs.Caller.{Never0, CallerHas};
+ghost use Rattle.refusal.specs.Outcome.{Never0, place_of, rule_number, stated_number, stated_numbers};
+ghost use Rattle.exported_answer.specs.Caller.{CallerHas};
 
 use refusal::Refusal;
 

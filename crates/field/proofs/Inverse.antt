@@ -2,18 +2,9 @@
 -- columns. Assumes nothing.
 -- In order: a digit, and what no digit is; a field's number has no more digits than the field has columns; what is written is read back; what is read
 -- is written back.
-use Rattle.std.specs.Prelude.{Option, Some}
-use mathlib.Core.Path.{◌≡◌, refl, sym, ap, ◌∙◌}
-use mathlib.Core.List.{List, [], ◌∷◌, ◌++◌, append-nil}
-use Prim.Native.Nat.{ℕ, zero, suc, ◌+◌, ◌-◌, ◌*◌, ◌/◌, ◌%◌, ◌^◌, ◌≤◌, ◌<◌}
-use native.Mathlib.Nat.{pow-le-pow_right, add-zero, zero-add, lt_of_lt_of_le, one-le-pow}
-use native.Mathlib.Numerals.{add-one}
-use native.Mathlib.Decide.{ℕ_discrete}
-use native.Mathlib.Omega.{arith}
-use lib.ListN.{length}
-use lib.Seq.{append_snoc}
-use borrow.Author.Tests.{ltb-false, eqb-true, eqb-false}
-use Rattle.basics.proofs.Picks.{if_true, if_false, if_eq, if_ne, if_ge, by_test, never}
+use Rattle.basics.proofs.Common.{◌≡◌, ℕ, zero, suc, ◌+◌, ◌-◌, ◌*◌, ◌/◌, ◌%◌, ◌^◌, ◌<◌, ◌≤◌, List, [], ◌∷◌, ◌++◌, length, Some, Option, sym, refl, ap, ◌∙◌, append-nil, lt_of_lt_of_le, add-zero}
+use Rattle.basics.proofs.Common.{zero-add, add-one, arith, ltb-false, eqb-true, ℕ_discrete, one-le-pow, pow-le-pow_right, append_snoc, eqb-false, if_true, if_false, if_eq, if_ne, if_ge, by_test}
+use Rattle.basics.proofs.Common.{never}
 use Rattle.field.specs.Field.{field, digits, zero_only, digit_or_space, leading_digits, decimal}
 
 -- ---- a digit, and what no digit is

@@ -1,17 +1,9 @@
 -- A minus right before a field's digits: how the place before them is found, and what then stands in the columns: spaces, the minus and the number.
 -- Assumes nothing.
 -- In order: the place of the minus; the difference of two numbers; the columns are as many; what then stands in the columns.
-use mathlib.Core.Path.{◌≡◌, refl, sym, ap, ◌∙◌}
-use mathlib.Core.List.{List, [], ◌∷◌, ◌++◌}
-use Prim.Native.Nat.{ℕ, zero, suc, ◌+◌, ◌-◌, ◌/◌, ◌%◌, ◌^◌, ◌≤◌, ◌<◌}
-use native.Mathlib.Numerals.{add-one}
-use native.Mathlib.Decide.{dec_lt}
-use native.Mathlib.Omega.{arith}
-use lib.Dec.{eqb}
-use lib.IntN.{ℤ, pos, negsuc, sub_ℕ}
-use lib.ListN.{length, get_or, set, take, drop, get_or-append, get_or-eq_default}
-use lib.Seq.{take-suc, drop-cons, set_split, append_snoc, get_or-drop}
-use Rattle.basics.proofs.Picks.{if_eq, if_ne, by_test}
+use Rattle.basics.proofs.Common.{◌≡◌, ℕ, zero, suc, ◌+◌, ◌-◌, ◌/◌, ◌%◌, ◌^◌, ◌<◌, ◌≤◌, eqb, List, [], ◌∷◌, ◌++◌, length, get_or, take, drop, set, ℤ, pos, negsuc, sym, refl, ap, ◌∙◌, add-one, arith}
+use Rattle.basics.proofs.Common.{get_or-drop, drop-cons, take-suc, dec_lt, sub_ℕ, get_or-eq_default, get_or-append, append_snoc, if_eq, if_ne, by_test}
+use lib.Seq.{set_split}
 use Rattle.integer.proofs.Integer.{above, below}
 use Rattle.field.specs.Field.{digit_or_space, leading_digits, decimal}
 use Rattle.field.specs.Signed.{with_minus, signed, MinusBefore}

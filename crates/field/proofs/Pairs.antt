@@ -1,11 +1,6 @@
 -- Two columns of a field at a time: the table has the last two columns of each number below 200, and each number has those of one below 200.
 -- Assumes nothing.
-use mathlib.Core.Path.{◌≡◌, refl, sym, ap, ◌∙◌}
-use Prim.Native.Nat.{ℕ, ◌+◌, ◌*◌, ◌/◌, ◌%◌, ◌≤◌, ◌<◌}
-use native.Mathlib.Omega.{arith}
-use lib.ListN.{get_or}
-use Rattle.basics.specs.Pick.{pick}
-use Rattle.basics.proofs.Values.{values, values_same}
+use Rattle.basics.proofs.Common.{◌≡◌, ℕ, ◌+◌, ◌*◌, ◌/◌, ◌%◌, ◌<◌, ◌≤◌, get_or, sym, refl, ap, ◌∙◌, arith, pick, values_same, values}
 use Rattle.field.specs.Field.{digit_or_space}
 use Rattle.field.specs.declared.TheConstants.{LAST_TWO}
 use Rattle.field.proofs.Inverse.{digit_shown}

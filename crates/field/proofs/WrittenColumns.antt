@@ -1,11 +1,7 @@
 -- A field written from its last column on, two columns at a time. Assumes nothing.
-use mathlib.Core.Path.{◌≡◌, refl, sym, ap, ◌∙◌}
-use mathlib.Core.List.{List, ◌∷◌, ◌++◌}
-use Prim.Native.Nat.{ℕ, zero, suc, ◌+◌, ◌-◌, ◌/◌, ◌%◌, ◌≤◌, ◌<◌}
-use native.Mathlib.Numerals.{add-one}
-use native.Mathlib.Omega.{arith}
-use lib.ListN.{length, set, drop, length-set, length-append, drop_of_length-le}
-use lib.Seq.{drop-cons, drop-set-lt, get_or-set_same, append_snoc, lt-length-set}
+use Rattle.basics.proofs.Common.{◌≡◌, ℕ, zero, suc, ◌+◌, ◌-◌, ◌/◌, ◌%◌, ◌<◌, ◌≤◌, List, ◌∷◌, ◌++◌, length, drop, set, sym, refl, ap, ◌∙◌, add-one, arith, length-append, length-set, drop_of_length-le}
+use Rattle.basics.proofs.Common.{drop-cons, get_or-set_same, drop-set-lt, append_snoc}
+use lib.Seq.{lt-length-set}
 use Rattle.field.specs.Field.{digit_or_space, leading_digits, decimal}
 
 -- the list from the place of a store on

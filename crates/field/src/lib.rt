@@ -28,6 +28,7 @@ static LAST_TWO: [u8; 400] = *b"   1 2 3 4 5 6 7 8 91011121314151617181920212223
     75767778798081828384858687888990919293949596979899";
 
 // The number v, right-justified in the columns of out.
+#[tactic(auto, using(crate::proofs::WrittenColumns::last_written, crate::proofs::WrittenColumns::two_written, crate::proofs::WrittenColumns::one_written, crate::proofs::WrittenColumns::all_written))]
 pub fn write_field(out: &mut [u8], v: u64)
     requires { 0 < length out.old }
     ensures { out.new ≡ decimal (length out.old) v }
@@ -50,6 +51,7 @@ pub fn write_field(out: &mut [u8], v: u64)
 }
 
 // A number's last two columns, which a number that has ended leaves to spaces.
+#[tactic(auto, using(crate::proofs::Pairs::tens_at, crate::proofs::Pairs::ones_at))]
 fn last_two(v: u64) -> (u8, u8)
     ensures { (result.0 ≡ digit_or_space (v / 10)) × (result.1 ≡ digit_or_space v) }
 {
@@ -58,6 +60,7 @@ fn last_two(v: u64) -> (u8, u8)
 }
 
 // The number below 200 that has a number's last two columns.
+#[tactic(auto, using(crate::proofs::Pairs::ones_alike, crate::proofs::Pairs::tens_alike))]
 fn below_200(v: u64) -> usize
     ensures within { result < 200 }
     ensures tens { digit_or_space (result / 10) ≡ digit_or_space (v / 10) }
@@ -78,6 +81,7 @@ pub fn two_columns(v: u64) -> [u8; 2]
 }
 
 // The last digit of a number, or a space before a number that has ended.
+#[tactic(auto, using(basics::proofs::Branches::tests), unfolding(crate::specs::Field::digit_or_space))]
 fn digit_or_space(v: u64) -> u8
     ensures { result ≡ digit_or_space v }
 {

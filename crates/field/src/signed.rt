@@ -6,6 +6,7 @@ ghost use Rattle.field.specs.Signed.{with_minus, signed};
 use super::write_field;
 
 // How far `to` is above `from`, right-justified in the columns of out; where it is below, with a minus right before its digits.
+#[tactic(auto, using(crate::proofs::Minus::risen, crate::proofs::Minus::fallen))]
 pub fn write_difference(out: &mut [u8], to: u64, from: u64)
     requires { 0 < length out.old }
     ensures { out.new ≡ signed (length out.old) (sub_ℕ to from) }
@@ -20,6 +21,7 @@ pub fn write_difference(out: &mut [u8], to: u64, from: u64)
 }
 
 // The last of the spaces that stand before a field's digits.
+#[tactic(auto, using(crate::proofs::Minus::spaced_start, crate::proofs::Minus::spaced_more, crate::proofs::Minus::spaced_last, crate::proofs::Minus::spaced_end))]
 fn minus_place(s: &[u8]) -> usize
     requires { 0 < length s.now }
     ensures { (result < length s.now) × (set s.now result 45 ≡ with_minus s.now) }

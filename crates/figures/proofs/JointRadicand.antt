@@ -1,12 +1,6 @@
 -- The radicand of D as the code makes it, and the room that it leaves: with a beside it I is at most V. I and D as they are reported. Assumes
 -- nothing.
-use mathlib.Core.Path.{◌≡◌, sym, ap, ◌∙◌}
-use mathlib.Core.List.{List}
-use Prim.Native.Nat.{ℕ, ◌+◌, ◌-◌, ◌*◌, ◌/◌, ◌^◌, ◌≤◌, ◌<◌}
-use native.Mathlib.Omega.{arith}
-use lib.Dec.{leb}
-use Rattle.basics.specs.Least.{least}
-use Rattle.basics.proofs.LeastOf.{ceil_eq}
+use Rattle.basics.proofs.Common.{◌≡◌, ℕ, ◌+◌, ◌-◌, ◌*◌, ◌/◌, ◌^◌, ◌<◌, ◌≤◌, leb, List, sym, ap, ◌∙◌, arith, least, ceil_eq}
 use Rattle.sizes.specs.Sizes.{fineness, most_steps}
 use Rattle.guideline.specs.Block.{AcceptedBlock, A, fine_i, a, radicand, fine_d, reported, I, D}
 use Rattle.guideline.proofs.Bounds.{radicand_most}

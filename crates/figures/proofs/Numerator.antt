@@ -1,13 +1,6 @@
 -- K in tenths of a cent, as the code makes it: 8U + LT, and a tenth of M over V and then over 6,000, each time rounded up. Assumes nothing.
-use mathlib.Core.Path.{◌≡◌, sym, ap, ◌∙◌}
-use mathlib.Core.List.{List}
-use Prim.Native.Nat.{ℕ, ◌+◌, ◌-◌, ◌*◌, ◌/◌, ◌^◌, ◌≤◌, ◌<◌}
-use native.Mathlib.Nat.{mul-le-mul, mul-le-mul_left, le_of_mul-le-mul_left}
-use native.Mathlib.Omega.{arith}
-use lib.Dec.{leb}
-use Rattle.basics.specs.Least.{least}
-use Rattle.basics.proofs.LeastOf.{LeastOf, least_of, ceil_eq}
-use Rattle.basics.proofs.Tests.{leb_same}
+use Rattle.basics.proofs.Common.{◌≡◌, ℕ, ◌+◌, ◌-◌, ◌*◌, ◌/◌, ◌^◌, ◌<◌, ◌≤◌, leb, List, sym, ap, ◌∙◌, mul-le-mul, mul-le-mul_left, arith, le_of_mul-le-mul_left, least, LeastOf, least_of, ceil_eq}
+use Rattle.basics.proofs.Common.{leb_same}
 use Rattle.sizes.specs.Sizes.{fineness}
 use Rattle.guideline.specs.Block.{AcceptedBlock, U, LT, Vh, fine_d, K, M, fine_numerator, requirement}
 use Rattle.guideline.proofs.Bounds.{factored}

@@ -72,7 +72,7 @@ pub fn worked_out(b: &Block) -> FiguresAndSteps
     let u = undiversified(b);
     // 11.2.4: LT = Σ LT_i, and K
     let lt = level_and_trend(b);
-    let k = adjusted(u, lt, fine_d);
+    let k = adjusted_requirement(u, lt, fine_d);
     FiguresAndSteps {
         figures: Figures {
             i: in_half_cents(fine_i),
@@ -138,7 +138,7 @@ fn level_and_trend(b: &Block) -> u64
 // K, in cents, with V = 2U − LT and d, the finer D; V is taken in hundredths beside it. M is (3d − V) × (10d − 7V), the second factor cut at 0:
 // with V at most 3d no sign is needed. In tenths of a cent K is 8U + LT, in cents, and a tenth of M over 60 × V: a number of two words by v, a
 // quotient of one word by a constant and a sum by 10, each time rounded up.
-fn adjusted(u: u64, lt: u64, d: u64) -> u64
+fn adjusted_requirement(u: u64, lt: u64, d: u64) -> u64
     requires { FigureBounds u lt d }
     ensures { result ≡ requirement u lt (2 * u - lt) d }
 {

@@ -1,15 +1,8 @@
 -- The fluctuation call accepts just what rules 18 and 7 leave. What it gives is walked rule by rule; where the amounts are known to pass, rule
 -- 7 finds none. The accuracy rule holds of what is accepted. Assumes nothing.
-use mathlib.Core.Path.{◌≡◌, refl, ◌∙◌}
-use mathlib.Core.List.{[], ◌∷◌}
-use Prim.Native.Nat.{ℕ, zero, suc, ◌≤◌}
-use native.Mathlib.Omega.{arith}
-use lib.ListN.{get_or}
-use borrow.Author.Tests.{ltb-false}
-use Rattle.basics.proofs.Picks.{by_test}
-use Rattle.refusal.specs.Outcome.{Outcome}
-use Rattle.refusal.specs.Outcome.Outcome.{accepted}
-use Rattle.refusal.proofs.Accepted.{RulesFollowed, accepts_just, if_accepted}
+use Rattle.basics.proofs.Common.{◌≡◌, ℕ, zero, suc, ◌≤◌, [], ◌∷◌, get_or, refl, ◌∙◌, arith, ltb-false, by_test}
+use Rattle.refusal.specs.Outcome.{Outcome, Outcome.accepted}
+use Rattle.refusal.proofs.Acceptance.{RulesFollowed, accepts_just, if_accepted}
 use Rattle.amount.specs.Amount.{limit}
 use Rattle.amount.proofs.Rule7.{within_passes, by_rule7}
 use Rattle.fluctuation.specs.Rows.{row_of}

@@ -1,13 +1,7 @@
 -- The fluctuation call at inputs of which one rule or two turn each away, and each row up to its threshold, a cent above it and at the largest
 -- amount, computed: the results were worked out apart from the definitions, off document 02's printed numbers. Assumes nothing.
-use mathlib.Core.Path.{◌≡◌, refl}
-use mathlib.Core.List.{List, [], ◌∷◌}
-use Prim.Native.Nat.{ℕ, ◌+◌}
-use Rattle.basics.specs.Pick.{pick}
-use Rattle.basics.specs.Least.{least_from}
-use Rattle.basics.specs.First.{first_from}
-use Rattle.refusal.specs.Outcome.{Outcome}
-use Rattle.refusal.specs.Outcome.Outcome.{accepted, refused}
+use Rattle.basics.proofs.Common.{◌≡◌, ℕ, ◌+◌, List, [], ◌∷◌, refl, first_from, least_from, pick}
+use Rattle.refusal.specs.Outcome.{Outcome, Outcome.accepted, Outcome.refused}
 use Rattle.refusal.specs.declared.Place.TheVariants.{Position, Nowhere}
 use Rattle.amount.specs.Amount.{limit, first_above}
 use Rattle.amount.specs.Rule7.{rule7}

@@ -1,10 +1,5 @@
 -- The accuracy of every result, for all rows together. Assumes nothing.
-use mathlib.Core.Path.{◌≡◌, ap}
-use Prim.Native.Nat.{ℕ, ◌+◌, ◌-◌, ◌*◌, ◌≤◌, ◌<◌}
-use native.Mathlib.Decide.{dec_le}
-use native.Mathlib.Omega.{arith}
-use lib.Dec.{T}
-use Rattle.basics.specs.Least.{Least}
+use Rattle.basics.proofs.Common.{◌≡◌, ℕ, ◌+◌, ◌-◌, ◌*◌, ◌<◌, ◌≤◌, T, ap, arith, dec_le, Least}
 use Rattle.amount.specs.Amount.{limit}
 use Rattle.accuracy.specs.Fraction.{◌≤ᶠ◌, whole, square_less}
 use Rattle.accuracy.proofs.Fractions.{square_is}

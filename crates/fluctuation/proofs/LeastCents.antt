@@ -1,14 +1,8 @@
 -- The least whole number of cents at or above a requirement times a factor: the requirement reaches, and the code's number is the least.
 -- Assumes nothing.
-use mathlib.Core.Path.{◌≡◌, ap}
-use Prim.Native.Nat.{ℕ, ◌+◌, ◌-◌, ◌*◌, ◌^◌, ◌≤◌, ◌<◌}
-use native.Mathlib.Nat.{mul-le-mul, mul-le-mul_right}
-use native.Mathlib.Omega.{arith}
-use lib.Dec.{T, leb, leb→le, le→leb}
+use Rattle.basics.proofs.Common.{◌≡◌, ℕ, ◌+◌, ◌-◌, ◌*◌, ◌^◌, ◌<◌, ◌≤◌, T, leb, ap, mul-le-mul_right, mul-le-mul, arith, le→leb, leb→le, least, Least, LeastOf, least_of}
 use lib.Ieee.Fits.{and_i, and_l, and_r}
-use Rattle.basics.specs.Least.{Least, least}
 use Rattle.basics.proofs.Halving.{least_law}
-use Rattle.basics.proofs.LeastOf.{LeastOf, least_of}
 use Rattle.fluctuation.specs.Result.{scale, reaches}
 use Rattle.fluctuation.specs.Parts.{Falls, most_twentieths}
 

@@ -1,12 +1,6 @@
 -- The radicand as the code makes it: 40,000 × c² over the base, rounded up, from the quotient and the rest of c². Assumes nothing.
-use mathlib.Core.Path.{◌≡◌}
-use Prim.Native.Nat.{ℕ, suc, ◌+◌, ◌*◌, ◌^◌, ◌≤◌, ◌<◌}
-use native.Mathlib.Nat.{mul-le-mul_left, mul-le-mul_right, lt_of_mul-lt-mul_right, lt_of_le_of_lt}
-use native.Mathlib.Omega.{arith}
-use lib.Dec.{leb, lit<}
-use Rattle.basics.specs.Least.{least}
-use Rattle.basics.proofs.LeastOf.{LeastOf, least_of, least_ceil}
-use Rattle.basics.proofs.Tests.{leb_same}
+use Rattle.basics.proofs.Common.{◌≡◌, ℕ, suc, ◌+◌, ◌*◌, ◌^◌, ◌<◌, ◌≤◌, leb, lt_of_le_of_lt, mul-le-mul_right, lt_of_mul-lt-mul_right, mul-le-mul_left, arith, lit<, least, LeastOf, least_of}
+use Rattle.basics.proofs.Common.{least_ceil, leb_same}
 use Rattle.fluctuation.specs.Result.{scale}
 use Rattle.fluctuation.specs.Parts.{most_twentieths}
 

@@ -1,20 +1,11 @@
 -- The rows: what is tested of the list, once, and what a row picks. Assumes nothing.
-use mathlib.Core.Path.{◌≡◌, refl, sym, ap}
-use mathlib.Core.Bool.{Bool, true, false}
-use Prim.Native.Nat.{ℕ, suc, ◌-◌, ◌*◌, ◌≤◌, ◌<◌}
-use native.Mathlib.Nat.{mul-le-mul_left}
-use native.Mathlib.Omega.{arith}
-use lib.Dec.{leb, ltb}
-use Rattle.basics.specs.Pick.{pick}
-use Rattle.basics.specs.Least.{least}
-use Rattle.basics.proofs.Picks.{if_lt, if_ge, by_test}
-use Rattle.basics.proofs.Values.{values, values_same}
+-- In order: what is tested of the list; what a row picks, up to its threshold and above; a factor that is at most 1.
+use Rattle.basics.proofs.Common.{◌≡◌, ℕ, zero, suc, ◌-◌, ◌*◌, ◌<◌, ◌≤◌, Bool, true, false, ltb, Some, None, Option, sym, refl, mul-le-mul_left, arith, ltb-true, least, pick, each_at, if_lt, if_ge}
+use Rattle.basics.proofs.Common.{by_test}
 use Rattle.amount.specs.Amount.{limit}
-use borrow.Author.Tests.{leb-true, ltb-true}
 use Rattle.fluctuation.specs.Rows.{Base, Row, rows, row_count, row_of, amount_of, base_of}
 use Rattle.fluctuation.specs.Result.{scale, reaches, factored_requirement}
 use Rattle.fluctuation.specs.Parts.{factor_for, Falls}
-use Rattle.std.proofs.Common.{Option, Some, None}
 use Rattle.fluctuation.specs.declared.Falling.{Falling}
 
 -- ---- what is tested of the list
@@ -27,42 +18,11 @@ pub record Sound (w : Row) : Type 0 where
   pub nearly_one : (500 * (20 - w.first) - 4) * (500 * (20 - w.first) - 4) * w.threshold ≤ 10000 * w.second * (10000 * w.second)
   pub at_threshold : scale * (w.second * w.second) ≤ (20 - w.first) * (20 - w.first) * (100 * w.threshold)
 
-record Tested : Type 0 where
-  first_small : Bool
-  second_small : Bool
-  nearly_one : Bool
-  at_threshold : Bool
-
-abbrev found : Row → Tested
-found w =
-    record {
-      first_small = leb w.first 20;
-      second_small = leb w.second 14722;
-      nearly_one = leb ((500 * (20 - w.first) - 4) * (500 * (20 - w.first) - 4) * w.threshold) (10000 * w.second * (10000 * w.second));
-      at_threshold = leb (scale * (w.second * w.second)) ((20 - w.first) * (20 - w.first) * (100 * w.threshold));
-    }
-
-abbrev wanted : Tested
-wanted = record { first_small = true; second_small = true; nearly_one = true; at_threshold = true }
-
-sound_of : (w : Row) → found w ≡ wanted → Sound w
-sound_of w e =
-    record {
-      first_small = leb-true _ _ (ap (λ (t : Tested). t.first_small) e);
-      second_small = leb-true _ _ (ap (λ (t : Tested). t.second_small) e);
-      nearly_one = leb-true _ _ (ap (λ (t : Tested). t.nearly_one) e);
-      at_threshold = leb-true _ _ (ap (λ (t : Tested). t.at_threshold) e);
-    }
-
--- the one computed test
-tested : values (λ k. found (row_of (suc k))) row_count ≡ values (λ k. wanted) row_count
-unfolding values row_of rows
-tested = refl
-
+-- of every row of the list, and of what stands for any other number
 pub sound : (n : ℕ) → 1 ≤ n → n ≤ row_count → Sound (row_of n)
-sound n h k =
-    let e : n ≡ suc (n - 1) = omega arith in
-    rw e (sound_of _ (values_same (λ k. found (row_of (suc k))) (λ k. wanted) row_count tested (n - 1) (omega arith)))
+unfolding row_of rows
+sound zero h k = absurd (omega arith)
+sound (suc n) h k = each_at Sound _ (omega arith) rows (omega arith) n
 
 -- ---- what a row picks
 

@@ -1,8 +1,5 @@
 -- Rule 18 of the fluctuation call, by what its tests find, and what rule 7 leaves. Assumes nothing.
-use mathlib.Core.Path.{◌≡◌, ◌∙◌}
-use mathlib.Core.List.{[], ◌∷◌}
-use Prim.Native.Nat.{ℕ, ◌≤◌, ◌<◌}
-use Rattle.basics.proofs.Picks.{if_lt, if_ge}
+use Rattle.basics.proofs.Common.{◌≡◌, ℕ, ◌<◌, ◌≤◌, [], ◌∷◌, ◌∙◌, if_lt, if_ge}
 use Rattle.refusal.specs.Outcome.Outcome.{accepted, refused}
 use Rattle.refusal.specs.declared.Place.TheVariants.{Nowhere}
 use Rattle.amount.specs.Amount.{limit, first_above}

@@ -27,6 +27,7 @@ struct Falling(u64, u64, u64);
 // A requirement times its factor, of any row, requirement and face amount in cents. Where they are accepted, the result meets the accuracy
 // rule with one cent.
 // Kept: row, requirement and face amount as three parameters, which the C interface has; a struct of them would be filled here for two functions.
+#[tactic(auto, using(amount::proofs::Rule7::refused_7, crate::proofs::Rules::no_row_below, crate::proofs::Rules::no_row_above, crate::proofs::Rules::passed_18, crate::proofs::Rules::within_limit))]
 pub fn fluctuation_call(row: u64, requirement: u64, face: u64) -> Result<u64, Refusal>
     ensures outcome { stated_number result ≡ fluctuation_call row requirement face }
     ensures accuracy { FluctuationDemand row requirement face (stated_number result) }
@@ -51,7 +52,7 @@ fn fluctuation(row: u64, requirement: u64, face: u64) -> u64
 {
     match factor_of(row, requirement, face) {
         None => requirement,
-        Some(factor) => reduced(factor, requirement),
+        Some(factor) => times_factor(factor, requirement),
     }
 }
 
@@ -59,6 +60,7 @@ fn fluctuation(row: u64, requirement: u64, face: u64) -> u64
 // illness the face amount.
 // Kept: the rows stay a match on their number and on the range of the threshold, a form that the project names (docs/DECISIONS.md); an enum of
 // the rows would say each of them once more.
+#[tactic(auto, using(crate::proofs::Rows::picks_one, crate::proofs::Rows::picks_falling), unfolding(crate::specs::Rows::rows, crate::specs::Rows::row_of, crate::specs::Rows::base_of))]
 fn factor_of(row: u64, requirement: u64, face: u64) -> Option<Falling>
     requires { (1 ≤ row) × (row ≤ row_count) }
     ensures { result ≡ factor_for (row_of row) requirement face }
@@ -105,7 +107,8 @@ fn factor_of(row: u64, requirement: u64, face: u64) -> Option<Falling>
 }
 
 // The requirement times a factor below 1. In twentieths of a cent it is first × requirement and what the second number adds.
-fn reduced(factor: Falling, requirement: u64) -> u64
+#[tactic(auto, using(crate::proofs::LeastCents::square_small, crate::proofs::LeastCents::root_high))]
+fn times_factor(factor: Falling, requirement: u64) -> u64
     requires { Falls factor.0 factor.1 factor.2 requirement }
     ensures { result ≡ least (reaches factor.0 factor.1 factor.2 requirement) }
 {

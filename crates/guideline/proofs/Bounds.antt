@@ -1,18 +1,13 @@
 -- Inequalities between naturals, which the bounds on a block's figures rest on; no block is mentioned. Assumes nothing.
-use mathlib.Core.Path.{◌≡◌, ap}
-use Prim.Native.Nat.{ℕ, ◌+◌, ◌-◌, ◌*◌, ◌≤◌, ◌<◌}
-use native.Mathlib.Nat.{mul-le-mul, mul-le-mul_left, mul-le-mul_right, le_of_mul-le-mul_left, mul-sub, le_dest}
-use native.Mathlib.Decide.{dec_le}
-use native.Mathlib.Omega.{arith}
-use Rattle.basics.proofs.Roots.{le_of_squares}
+use Rattle.basics.proofs.Common.{◌≡◌, ℕ, ◌+◌, ◌-◌, ◌*◌, ◌<◌, ◌≤◌, ap, mul-le-mul_right, mul-le-mul, mul-le-mul_left, arith, dec_le, le_dest, le_of_mul-le-mul_left, mul-sub, le_of_squares}
 use Rattle.guideline.specs.Block.{radicand, M, k_numerator, k_undiversified}
 
 -- (b − a)(d − c) is 0 or more
-pub cross : {a b c d : ℕ} → a ≤ b → c ≤ d → a * d + b * c ≤ b * d + a * c
-cross h k = rw (← (le_dest h).1, ← (le_dest k).1) (omega arith)
+pub rearrangement : {a b c d : ℕ} → a ≤ b → c ≤ d → a * d + b * c ≤ b * d + a * c
+rearrangement h k = rw (← (le_dest h).1, ← (le_dest k).1) (omega arith)
 
 pub twice : (a b : ℕ) → 2 * (a * b) ≤ a * a + b * b
-twice a b = elim (dec_le a b) [ yes h ↦ omega (arith, cross h h) | no h ↦ let k : b ≤ a = omega arith in omega (arith, cross k k) ]
+twice a b = elim (dec_le a b) [ yes h ↦ omega (arith, rearrangement h h) | no h ↦ let k : b ≤ a = omega arith in omega (arith, rearrangement k k) ]
 
 -- ---- D: the root of a² + a × i + i²
 

@@ -1,22 +1,9 @@
 -- Volume and growth of the first k pairs of a list: how they grow, and how large they can be. Assumes nothing.
-use mathlib.Core.Path.{◌≡◌, refl}
-use mathlib.Core.Bool.{true}
-use mathlib.Core.List.{List}
-use Prim.Native.Nat.{ℕ, zero, suc, ◌+◌, ◌-◌, ◌*◌, ◌/◌, ◌%◌, ◌≤◌, ◌<◌}
-use native.Mathlib.Nat.{mul-le-mul_left, add-zero, add-suc}
-use native.Mathlib.Numerals.{add-one}
-use native.Mathlib.Omega.{arith}
-use lib.Dec.{leb}
-use lib.ListN.{length, get_or}
-use borrow.Author.Tests.{leb-true}
-use Rattle.basics.proofs.Values.{values, values_same}
+use Rattle.basics.proofs.Common.{◌≡◌, ℕ, zero, suc, ◌+◌, ◌-◌, ◌*◌, ◌/◌, ◌%◌, ◌<◌, ◌≤◌, List, length, get_or, refl, add-zero, add-suc, mul-le-mul_left, add-one, arith, leb-true, each_at, values_same}
+use Rattle.basics.proofs.Common.{values}
 use Rattle.amount.specs.Amount.{limit}
 use Rattle.sizes.specs.Sizes.{territories, volume_classes, volume_pairs}
-use Rattle.guideline.specs.Operational.{OperationalAmounts, volume_factors, largest_factor, factor_of, current, excess, total, volume, growth, general_requirement, operational_numerator}
-
--- five volumes and the growth of the first k pairs: their part of the numerator of RO
-unfoldable pub charged : List ℕ → ℕ → ℕ
-charged l k = 5 * total (λ j. factor_of j * current l j) k + total (λ j. factor_of j * excess l j) k
+use Rattle.guideline.specs.Operational.{OperationalAmounts, volume_factors, largest_factor, factor_of, current, excess, total, volume, growth, charged, general_requirement, operational_numerator}
 
 pub charged_none : (l : List ℕ) → charged l 0 ≡ 0
 unfolding charged total
@@ -32,15 +19,12 @@ unfolding charged total
 charged_more l k = rw (add-one k, charged, total) (omega arith)
 
 pub factor_most : (k : ℕ) → factor_of k ≤ largest_factor
-unfolding values
-factor_most k =
-    leb-true _ _ (values_same (λ j. leb (get_or volume_factors j 0) largest_factor) (λ j. true) volume_classes refl (k % volume_classes) (omega arith))
+factor_most k = each_at (λ f. f ≤ largest_factor) 0 (omega arith) volume_factors (omega arith) (k % volume_classes)
 
 -- from class to class the factors never rise
 pub factors_fall : (k : ℕ) → k < volume_classes → get_or volume_factors (suc k) 0 ≤ get_or volume_factors k 0
 unfolding values
-factors_fall k h =
-    leb-true _ _ (values_same (λ j. leb (get_or volume_factors (suc j) 0) (get_or volume_factors j 0)) (λ j. true) volume_classes refl k h)
+factors_fall k h = grind (arith, leb-true, values_same)
 
 -- each pair is charged at most ten times the limit for each unit of its factor, whatever its prior volume is
 charged_most : (l : List ℕ) → ((k : ℕ) → current l k ≤ limit) → (k : ℕ) → charged l k ≤ 10 * limit * total factor_of k
@@ -71,7 +55,7 @@ charged_fits l u k h =
 
 -- how large the parts of the numerator of RO can be: it fits a word
 pub record NumeratorFits (l g : List ℕ) : Type 0 where
-  pub business_fits : 5 * volume l + growth l ≤ most_charged
+  pub volume_and_growth_fits : 5 * volume l + growth l ≤ most_charged
   pub general_fits : general_requirement g ≤ 1275 * limit
   pub sum_fits : operational_numerator l g ≤ most_charged + 5 * (1275 * limit)
 
@@ -82,4 +66,4 @@ numerator_fits l g a =
     let b = charged_fits l a.currents (length l / 2) h in
     let e = charged_all l in
     let r : general_requirement g ≤ 1275 * limit = omega (arith, a.gross, a.guarantee, a.ceded) in
-    record { business_fits = omega arith; general_fits = r; sum_fits = omega arith }
+    record { volume_and_growth_fits = omega arith; general_fits = r; sum_fits = omega arith }

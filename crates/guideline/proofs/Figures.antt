@@ -2,28 +2,14 @@
 -- third of V and V, and K between half of LT + D and U. Each is shown of the finer figures, and then of the reported ones. Assumes nothing.
 -- In order: a block that is accepted, by its 17 numbers; Q and its root; K by U, LT, V and D; half cents, the least at or above a number of
 -- hundredths; the figures; as code finds the root.
-use mathlib.Core.Path.{◌≡◌, refl, sym, ap, ◌∙◌}
-use mathlib.Core.List.{List}
-use Prim.Native.Nat.{ℕ, ◌+◌, ◌-◌, ◌*◌, ◌/◌, ◌^◌, ◌≤◌, ◌<◌}
-use native.Mathlib.Nat.{mul-le-mul, mul-le-mul_left, ne_of_gt}
-use native.Mathlib.Decide.{dec_le}
-use native.Mathlib.Omega.{arith}
-use lib.Dec.{leb}
-use lib.ListN.{length, get_or}
-use lib.IntN.{ℤ, pos, ◌*ℤ◌}
-use lib.Signed.{le_z}
-use Rattle.basics.specs.Each.{Each}
-use Rattle.basics.specs.Pick.{pick}
-use Rattle.basics.specs.Least.{least}
-use Rattle.basics.proofs.Picks.{if_ne}
-use Rattle.basics.proofs.LeastOf.{LeastOf, Rising, least_of}
-use Rattle.basics.proofs.Roots.{le_of_squares}
-use Rattle.basics.proofs.Tests.{leb_same}
+use Rattle.basics.proofs.Common.{◌≡◌, ℕ, ◌+◌, ◌-◌, ◌*◌, ◌/◌, ◌^◌, ◌<◌, ◌≤◌, leb, List, length, get_or, ℤ, pos, ◌*ℤ◌, sym, refl, ap, ◌∙◌, mul-le-mul, mul-le-mul_left, ne_of_gt, arith, dec_le, le_z}
+use Rattle.basics.proofs.Common.{Each, least, pick, LeastOf, least_of, if_ne, le_of_squares, leb_same}
+use Rattle.basics.proofs.LeastOf.{Rising}
 use Rattle.integer.specs.Sum.{sum}
 use Rattle.amount.specs.Amount.{limit}
 use Rattle.sizes.specs.Sizes.{risks, last_lt_position, block_figures, FitsColumns, fineness}
-use Rattle.guideline.specs.Block.{ir, lt, PC, A, seven, U, LT, Vh, y, ys, Q4, largest_of, largest, root, fine_i, a, radicand, fine_d, reported, I, D}
-use Rattle.guideline.specs.Block.{fine_numerator, requirement, K, EachRisk, AcceptedBlock, figures_of}
+use Rattle.guideline.specs.Block.{ir, lt, PC, A, seven, U, LT, Vh, y, ys, Q4, largest_of, largest, root, fine_i, a, radicand, fine_d, reported, I, D, fine_numerator, requirement, K, EachRisk}
+use Rattle.guideline.specs.Block.{AcceptedBlock, figures_of}
 use Rattle.guideline.proofs.Table.{form, form_least, form_most, quarter_form, quarter_natural}
 use Rattle.guideline.proofs.Bounds.{radicand_most, root_thrice, m_rises, k_least, u_passes}
 
@@ -32,15 +18,7 @@ use Rattle.guideline.proofs.Bounds.{radicand_most, root_thrice, m_rises, k_least
 pub accepted_of_lem :
     (b : List ℕ) → ((k : ℕ) → get_or b k 0 ≤ limit) → get_or b last_lt_position 0 ≡ 0 → ((i : ℕ) → i < risks → get_or b (2 * i + 1) 0 ≤ get_or b (2 * i) 0) →
     AcceptedBlock b
-accepted_of_lem b a z w =
-    record {
-      ir_fits = (a 0, a 2, a 4, a 6, a 8, a 10, a 12);
-      lt_within = (w 0 (omega arith), w 1 (omega arith), w 2 (omega arith), w 3 (omega arith), w 4 (omega arith), w 5 (omega arith), w 6 (omega arith));
-      lt_seven = z;
-      pc_fits = a 14;
-      credit_fits = a 15;
-      market_fits = a 16;
-    }
+accepted_of_lem b a z w = grind arith
 
 -- ---- Q and its root
 
@@ -95,10 +73,7 @@ module _ (u l v : ℕ) (v_is : 2 * u ≡ v + l) (fits : u < 2 ^ 64) where
   requirement_law :
       (d : ℕ) → d ≤ fineness * v → fineness * v ≤ 3 * d → 0 < u →
       LeastOf (fine_numerator u l v d) (λ k. 60 * (fineness * v * (fineness * k))) (requirement u l v d)
-  requirement_law d high low h =
-      rw (requirement_some u l v d h)
-      (least_of (fine_numerator u l v d) (λ k. 60 * (fineness * v * (fineness * k))) (λ m k le. omega (arith, mul-le-mul_left v le)) u fits
-      (numerator_within d high low))
+  requirement_law d high low h = search (arith, requirement_some, least_of, mul-le-mul_left, numerator_within)
 
   -- 'K never falls as D rises'
   pub requirement_rises : (d e : ℕ) → fineness * v ≤ 3 * d → d ≤ e → e ≤ fineness * v → requirement u l v d ≤ requirement u l v e
@@ -178,10 +153,7 @@ module _ (b : List ℕ) (v : AcceptedBlock b) where
 
   pub fine_d_law : LeastOf (radicand (fineness * a b) (fine_i b)) (λ d. d * d) (fine_d b)
   unfolding fine_d
-  fine_d_law =
-      let n : ℕ = radicand (fineness * a b) (fine_i b) in
-      let l : LeastOf n _ (fine_d b) = least_of n _ (λ m k le. omega (arith, mul-le-mul le le)) (fineness * Vh b) v_small (omega (arith, v_passes)) in
-      record { reaches = omega (arith, l.reaches); first = λ m h. l.first m (omega arith) }
+  fine_d_law = search (arith, least_of, mul-le-mul, v_small, v_passes)
 
   pub fine_d_high : fine_d b ≤ fineness * Vh b
   fine_d_high = fine_d_law.first (fineness * Vh b) v_passes
@@ -253,7 +225,4 @@ figures_long b = refl
 -- where the sum in quarters is a natural q, the root is that of 2,500 × q, a whole number
 pub root_is : (b : List ℕ) (q : ℕ) → Q4 b ≡ pos q → root b ≡ least (λ r. leb (fineness * fineness / 4 * q) (r * r))
 unfolding root
-root_is b q e = rw e (λ i. least (λ r. same (r * r) i))
-  where
-    same : (n : ℕ) → leb (fineness * fineness * q) (4 * n) ≡ leb (fineness * fineness / 4 * q) n
-    same n = leb_same (fineness * fineness * q) (4 * n) (fineness * fineness / 4 * q) n (λ h. omega arith) (λ h. omega arith)
+root_is b q e = grind (arith, leb_same)

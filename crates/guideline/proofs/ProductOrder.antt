@@ -1,10 +1,6 @@
 -- The 49 products one after the other are the double sum, row by row: a row's products follow one another, and a row begins where the one before it
 -- ends. Assumes nothing.
-use mathlib.Core.Path.{◌≡◌, refl, ap, ◌∙◌}
-use mathlib.Core.List.{List}
-use Prim.Native.Nat.{ℕ, zero, suc, ◌+◌, ◌*◌, ◌≤◌, ◌<◌}
-use native.Mathlib.Omega.{arith}
-use lib.IntN.{ℤ, ◌+ℤ◌}
+use Rattle.basics.proofs.Common.{◌≡◌, ℕ, zero, suc, ◌+◌, ◌*◌, ◌<◌, ◌≤◌, List, ℤ, ◌+ℤ◌, refl, ap, ◌∙◌, arith}
 use Rattle.integer.specs.Sum.{sum}
 use Rattle.integer.proofs.Sums.{sum_same, sum_on}
 use Rattle.sizes.specs.Sizes.{risks}

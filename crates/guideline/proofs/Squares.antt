@@ -1,11 +1,6 @@
 -- Tables of seven rows and seven columns that are sums of squares of lines, and what the sum over all i, j of entry × x(i) × x(j)
 -- comes to for such a table. Assumes nothing.
-use mathlib.Core.Path.{◌≡◌, refl, ap, ◌∙◌}
-use mathlib.Core.List.{List, [], ◌∷◌}
-use Prim.Native.Nat.{ℕ, ◌+◌, ◌*◌, ◌/◌, ◌%◌, ◌<◌}
-use native.Mathlib.Omega.{arith}
-use lib.ListN.{get_or}
-use lib.IntN.{ℤ, pos, negsuc, nat_abs, ◌+ℤ◌, ◌*ℤ◌, *ℤ_comm, zero-*ℤ}
+use Rattle.basics.proofs.Common.{◌≡◌, ℕ, ◌+◌, ◌*◌, ◌/◌, ◌%◌, ◌<◌, List, [], ◌∷◌, get_or, ℤ, pos, ◌+ℤ◌, ◌*ℤ◌, nat_abs, ap, ◌∙◌, arith, zero-*ℤ, *ℤ_comm}
 use Rattle.integer.specs.Sum.{sum}
 use Rattle.integer.proofs.Integer.{ring}
 use Rattle.integer.proofs.Sums.{sum_same, sum_add, sum_times, sum_rows}
@@ -30,8 +25,7 @@ sum_square f =
         rw (d, m)
 
 pub square_pos : (z : ℤ) → z *ℤ z ≡ pos (nat_abs z * nat_abs z)
-square_pos (pos n) = refl
-square_pos (negsuc n) = refl
+square_pos z = grind arith
 
 -- weight × the square of the line's value
 pub record Square : Type 0 where

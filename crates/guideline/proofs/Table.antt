@@ -2,20 +2,9 @@
 -- Assumes nothing.
 -- In order: the test; the sum over all i, j of factor × x(i) × x(j), in quarters, for x of any sign; the definition's sum is the form of the
 -- naturals.
-use mathlib.Core.Path.{◌≡◌, refl, sym, ap, ◌∙◌}
-use mathlib.Core.Bool.{Bool, true}
-use mathlib.Core.List.{List, [], ◌∷◌}
-use Prim.Native.Nat.{ℕ, zero, suc, ◌+◌, ◌-◌, ◌*◌, ◌/◌, ◌%◌, ◌≤◌, ◌<◌}
-use native.Mathlib.Decide.{dec_lt}
-use native.Mathlib.Omega.{arith}
-use lib.Dec.{leb}
-use lib.ListN.{length, get_or, get_or-eq_default}
-use lib.IntN.{ℤ, pos, negsuc, neg_ℤ, nat_abs, ◌+ℤ◌, ◌*ℤ◌}
-use mir.Syntax.{w8, w64}
+use Rattle.basics.proofs.Common.{◌≡◌, ℕ, zero, suc, ◌+◌, ◌-◌, ◌*◌, ◌/◌, ◌%◌, ◌<◌, ◌≤◌, List, [], ◌∷◌, get_or, ℤ, pos, negsuc, ◌+ℤ◌, ◌*ℤ◌, neg_ℤ, nat_abs, sym, refl, ap, ◌∙◌, arith, w8, w64, Each}
+use Rattle.basics.proofs.Common.{each_at, never, values_same, values}
 use mir.Val.{SFits}
-use borrow.Author.Tests.{leb-true}
-use Rattle.basics.proofs.Picks.{never}
-use Rattle.basics.proofs.Values.{values, values_same}
 use Rattle.integer.specs.Sum.{sum}
 use Rattle.integer.proofs.Integer.{ring, *ℤ-+ℤ, *ℤ_assoc, +ℤ-*ℤ, natural_diff}
 use Rattle.integer.proofs.Sums.{sum_same, sum_add, sum_times}
@@ -38,17 +27,16 @@ squares =
     ∷ record { weight = 6405; line = pos 0 ∷ pos 0 ∷ pos 0 ∷ pos 0 ∷ pos 1 ∷ pos 0 ∷ pos 0 ∷ [] }
     ∷ []
 
--- what is tested of each entry, as found against as wanted: its size, that it equals its mirror image, its part in the sum of squares
+-- what is tested of each entry, as found against as wanted: that it equals its mirror image, its part in the sum of squares
 record FactorFacts : Type 0 where
-  small : Bool
   mirror : ℤ
   scaled : ℤ
 
 found : ℕ → FactorFacts
-found k = record { small = leb (nat_abs (factor k)) 4; mirror = factor k; scaled = pos 5040 *ℤ factor k }
+found k = record { mirror = factor k; scaled = pos 5040 *ℤ factor k }
 
 wanted : ℕ → FactorFacts
-wanted k = record { small = true; mirror = factor (k % risks * risks + k / risks); scaled = pos 2520 +ℤ made squares k }
+wanted k = record { mirror = factor (k % risks * risks + k / risks); scaled = pos 2520 +ℤ made squares k }
 
 tested : values found products ≡ values wanted products
 unfolding values found wanted factor factors made squares
@@ -57,26 +45,18 @@ tested = refl
 entry : (k : ℕ) → k < products → found k ≡ wanted k
 entry = values_same found wanted products tested
 
--- 'rows and columns 1 to 7': beside the table there is nothing
-beside : (k : ℕ) → products ≤ k → factor k ≡ pos 0
-unfolding factor factors
-beside k h =
-    let out : length factors ≤ k / risks = omega arith in
-    ap (λ (r : List ℤ). get_or r (k % risks) (pos 0)) (get_or-eq_default factors [] out)
+-- at most 4 quarters in size
+abbrev Small : ℤ → Type 0
+Small z = nat_abs z ≤ 4
 
--- no factor is above 4 quarters in size
+-- no factor is above 4 quarters in size, also at a place beside the table, where it is 0
 pub factor_small : (k : ℕ) → nat_abs (factor k) ≤ 4
-unfolding found wanted
-factor_small k =
-    elim (dec_lt k products) [
-      | yes h ↦ leb-true _ 4 (ap (λ (e : FactorFacts). e.small) (entry k h))
-      | no h ↦ rw (beside k (omega arith)) (omega arith)
-    ]
+unfolding factor factors
+factor_small k = each_at Small (pos 0) (omega arith) _ (each_at (Each Small) [] tt factors (omega arith) (k / risks)) (k % risks)
 
 -- so it fits a byte and a machine word
 pub small_fits : (z : ℤ) → nat_abs z ≤ 4 → SFits w8 z × SFits w64 z
-small_fits (pos n) h = (record { sfits = omega arith }, record { sfits = omega arith })
-small_fits (negsuc n) h = (record { sfits = omega arith }, record { sfits = omega arith })
+small_fits z h = grind arith
 
 -- rows and columns may change places
 pub factor_symmetric : (i j : ℕ) → i < risks → j < risks → factor (i * risks + j) ≡ factor (j * risks + i)

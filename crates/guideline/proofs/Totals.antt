@@ -1,19 +1,10 @@
 -- What the totals of an accepted sheet obey: the sum of K, RO, the bracket and the buffer. Assumes nothing.
-use mathlib.Core.Path.{◌≡◌, sym, ap}
-use mathlib.Core.List.{List, [], ◌∷◌, ◌++◌}
-use Prim.Native.Nat.{ℕ, ◌+◌, ◌-◌, ◌*◌, ◌/◌, ◌%◌, ◌^◌, ◌≤◌, ◌<◌}
-use native.Mathlib.Nat.{mul-le-mul_right}
-use native.Mathlib.Omega.{arith}
-use lib.Dec.{leb}
-use lib.ListN.{length}
-use Rattle.basics.specs.Least.{least}
-use Rattle.basics.proofs.LeastOf.{LeastOf, least_of, ceil_eq}
+use Rattle.basics.proofs.Common.{◌≡◌, ℕ, ◌+◌, ◌-◌, ◌*◌, ◌/◌, ◌%◌, ◌^◌, ◌<◌, ◌≤◌, leb, List, [], ◌∷◌, ◌++◌, length, sym, ap, mul-le-mul_right, arith, Each, least, LeastOf, least_of, ceil_eq}
 use Rattle.amount.specs.Amount.{limit}
-use Rattle.basics.specs.Each.{Each}
 use Rattle.sizes.specs.Sizes.{blocks, FitsColumns, ten_thousandths, largest_scalar}
 use Rattle.guideline.specs.Block.{K, AcceptedBlock}
 use Rattle.guideline.specs.Operational.{OperationalAmounts, operational_numerator, operational_denominator, RO}
-use Rattle.guideline.specs.Buffer.{Sheet, count, GFD, RO_of, sum_k, free, available, bracket, buffer, AcceptedSheet, most_available}
+use Rattle.guideline.specs.Buffer.{Sheet, count, GFD, sum_k, free, available, bracket, buffer, AcceptedSheet, most_available}
 use Rattle.guideline.proofs.Figures.{u_fits, k_high}
 use Rattle.guideline.proofs.Charges.{numerator_fits}
 
@@ -59,7 +50,7 @@ module _ (s : Sheet) (v : AcceptedSheet s) where
   bracket_fits = omega (arith, available_fits s v.blocks_pass v.few v.amounts)
 
   -- the bracket, with no difference
-  pub bracket_is : bracket s + (s.CRᵢ + free s) ≡ sum_k s.blocks + GFD s + RO_of s
+  pub bracket_is : bracket s + (s.CRᵢ + free s) ≡ sum_k s.blocks + GFD s + RO s.volumes s.general
   unfolding bracket available
   bracket_is = omega (arith, v.credits_within)
 

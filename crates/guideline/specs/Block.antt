@@ -8,7 +8,7 @@ use Rattle.std.proofs.Common.{sym, ap, ◌∙◌, arith}
 use Rattle.std.specs.Int.Signed.{le_z}
 use Rattle.integer.specs.Larger.{larger}
 use Rattle.integer.proofs.Integer.{as_diff, diff_eq, diff_add}
-use Rattle.integer.proofs.Difference.{cut_larger, less_diff, uncut}
+use Rattle.integer.proofs.Difference.{cut_larger, less_diff, exact_difference}
 use Rattle.amount.specs.Amount.{limit}
 use Rattle.basics.specs.Pick.{pick}
 use Rattle.basics.specs.Least.{least}
@@ -168,7 +168,7 @@ pub record AcceptedBlock (b : List ℕ) : Type 0 where
 -- in a block that is accepted V is the difference of ℤ: it isn't cut at 0
 pub v_difference : (b : List ℕ) → AcceptedBlock b → pos (Vh b) ≡ pos (2 * U b) -ℤ pos (LT b)
 unfolding Vh U LT
-v_difference b v = uncut (2 * U b) (LT b) (Vh b) (omega arith)
+v_difference b v = exact_difference (2 * U b) (LT b) (Vh b) (omega arith)
 
 -- nor is any y(i)
 pub y_difference : (b : List ℕ) → AcceptedBlock b → EachRisk (λ i. pos (y b i) ≡ pos (2 * ir b i) -ℤ pos (lt b i))
@@ -176,4 +176,4 @@ unfolding y
 y_difference b v = (at 1 (omega arith), at 2 (omega arith), at 3 (omega arith), at 4 (omega arith), at 5 (omega arith), at 6 (omega arith), at 7 (omega arith))
   where
     at : (i : ℕ) → y b i + lt b i ≡ 2 * ir b i → pos (y b i) ≡ pos (2 * ir b i) -ℤ pos (lt b i)
-    at i e = uncut (2 * ir b i) (lt b i) (y b i) e
+    at i e = exact_difference (2 * ir b i) (lt b i) (y b i) e

@@ -4,7 +4,7 @@ use Rattle.std.proofs.Common.{◌∙◌, arith}
 use Rattle.std.proofs.Math.IntN.{neg_ℤ-+ℤ}
 use Rattle.amount.specs.Amount.{limit}
 use Rattle.integer.proofs.Integer.{ring}
-use Rattle.integer.proofs.Difference.{uncut}
+use Rattle.integer.proofs.Difference.{exact_difference}
 use Rattle.basics.specs.Least.{least}
 use Rattle.basics.specs.Each.{Each}
 use Rattle.sizes.specs.Sizes.{blocks, ten_thousandths, largest_scalar}
@@ -31,11 +31,7 @@ count s = length s.blocks
 abbrev pub GFD : Sheet → ℕ
 GFD s = get_or s.general 1 0
 
--- RO of the sheet's operational numbers
-abbrev pub RO_of : Sheet → ℕ
-RO_of s = RO s.volumes s.general
-
--- 'sum of K'
+-- 'sum of K', of a list of blocks
 unfoldable pub sum_k : List (List ℕ) → ℕ
 sum_k [] = 0
 sum_k (b ∷ bs) = K b + sum_k bs
@@ -46,7 +42,7 @@ free s = s.CRⱼ + s.CG
 
 -- 'what is left', which rule 13 compares them with: 'sum of K + guarantee requirement + RO, as reported', less the dividend credits
 unfoldable pub available : Sheet → ℕ
-available s = sum_k s.blocks - s.CRᵢ + GFD s + RO_of s
+available s = sum_k s.blocks - s.CRᵢ + GFD s + RO s.volumes s.general
 
 -- no more is ever available: ten amounts for each block, one for the guarantee requirement and four for RO
 abbrev pub most_available : ℕ
@@ -54,7 +50,7 @@ most_available = 10 * limit * blocks + 5 * limit
 
 -- the bracket of the buffer, section 11.3: '∑ K_sans part + ∑ (K_part i − CR_i) − ∑ CR_j − CG + GFD + RO'
 unfoldable pub bracket : Sheet → ℕ
-bracket s = sum_k s.blocks - s.CRᵢ + GFD s + RO_of s - (s.CRⱼ + s.CG)
+bracket s = sum_k s.blocks - s.CRᵢ + GFD s + RO s.volumes s.general - (s.CRⱼ + s.CG)
 
 -- what rules 17 and 13 leave: the credits are within what they are taken from
 abbrev pub CreditsWithin : Sheet → Type 0
@@ -63,12 +59,12 @@ CreditsWithin s = (s.CRᵢ ≤ sum_k s.blocks) × (free s ≤ available s)
 -- in ℤ, where they are, the bracket is the paper's: nothing of it is cut
 pub bracket_difference :
     (s : Sheet) → CreditsWithin s →
-    pos (bracket s) ≡ pos (sum_k s.blocks) -ℤ pos s.CRᵢ -ℤ pos s.CRⱼ -ℤ pos s.CG +ℤ pos (GFD s) +ℤ pos (RO_of s)
+    pos (bracket s) ≡ pos (sum_k s.blocks) -ℤ pos s.CRᵢ -ℤ pos s.CRⱼ -ℤ pos s.CG +ℤ pos (GFD s) +ℤ pos (RO s.volumes s.general)
 unfolding bracket available
 bracket_difference s h =
     let k = sum_k s.blocks in
-    uncut (k + GFD s + RO_of s) (s.CRᵢ + free s) (bracket s) (omega arith)
-    ∙ moved (pos k) (pos s.CRᵢ) (pos s.CRⱼ) (pos s.CG) (pos (GFD s)) (pos (RO_of s))
+    exact_difference (k + GFD s + RO s.volumes s.general) (s.CRᵢ + free s) (bracket s) (omega arith)
+    ∙ moved (pos k) (pos s.CRᵢ) (pos s.CRⱼ) (pos s.CG) (pos (GFD s)) (pos (RO s.volumes s.general))
   where
     moved : (k c d e g r : ℤ) → k +ℤ g +ℤ r -ℤ (c +ℤ (d +ℤ e)) ≡ k -ℤ c -ℤ d -ℤ e +ℤ g +ℤ r
     moved k c d e g r = simp (ring, neg_ℤ-+ℤ)

@@ -24,7 +24,7 @@ abbrev pub ρ : ℕ → ℕ → ℤ
 abbrev pub term : List ℕ → ℕ → ℕ → ℤ
 term ys i j = ρ i j *ℤ pos (numbered ys i 0 * numbered ys j 0)
 
--- f(1) + .. + f(n)
+-- f(1) + .. + f(n), integers
 abbrev pub sumℤ : ℕ → (ℕ → ℤ) → ℤ
 sumℤ n f = sum n (λ k. f (suc k))
 

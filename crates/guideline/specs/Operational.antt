@@ -34,7 +34,7 @@ current l k = get_or l (2 * k) 0
 abbrev pub prior : List ℕ → ℕ → ℕ
 prior l k = get_or l (2 * k + 1) 0
 
--- f 0 + f 1 + .. + f (n − 1)
+-- f 0 + f 1 + .. + f (n − 1): pairs count from 0, where `sum_to` of basics counts from 1
 unfoldable pub total : (ℕ → ℕ) → ℕ → ℕ
 total f zero = 0
 total f (suc n) = total f n + f n
@@ -50,6 +50,10 @@ excess l k = 5 * current l k - 6 * prior l k
 -- 'Growth: factor × the excess of current over 120 % of prior ..; each class in each territory alone' (8.2.2), over 50,000
 unfoldable pub growth : List ℕ → ℕ
 growth l = total (λ k. factor_of k * excess l k) (length l / 2)
+
+-- five times the volume and the growth of the first k pairs: their part of the numerator of RO
+unfoldable pub charged : List ℕ → ℕ → ℕ
+charged l k = 5 * total (λ j. factor_of j * current l j) k + total (λ j. factor_of j * excess l j) k
 
 -- 'each class in each territory alone': what a class grows by is in it in full, whatever the others do
 pub growth_alone : (l : List ℕ) (k : ℕ) → k < length l / 2 → factor_of k * (5 * current l k) ≤ growth l + factor_of k * (6 * prior l k)

@@ -1,13 +1,6 @@
 -- The radicand of I as the code makes it is 10,000 × Q, and at most the square of V in hundredths: it fits the root, and what is made of the root
 -- fits a word. Assumes nothing.
-use mathlib.Core.Path.{◌≡◌, refl, sym, ap, ◌∙◌}
-use mathlib.Core.List.{List}
-use Prim.Native.Nat.{ℕ, ◌+◌, ◌*◌, ◌/◌, ◌^◌, ◌≤◌, ◌<◌, max}
-use native.Mathlib.Nat.{mul-le-mul, lt_of_le_of_lt}
-use native.Mathlib.Omega.{arith}
-use lib.Dec.{leb, lit<}
-use lib.IntN.{pos, nat_abs, ◌*ℤ◌}
-use Rattle.basics.specs.Least.{least}
+use Rattle.basics.proofs.Common.{◌≡◌, ℕ, ◌+◌, ◌*◌, ◌/◌, ◌^◌, ◌<◌, ◌≤◌, max, leb, List, pos, ◌*ℤ◌, nat_abs, sym, refl, ap, ◌∙◌, lt_of_le_of_lt, mul-le-mul, arith, lit<, least}
 use Rattle.amount.specs.Amount.{limit}
 use Rattle.sizes.specs.Sizes.{fineness, most_steps}
 use Rattle.guideline.specs.Factors.{quarter_sum}

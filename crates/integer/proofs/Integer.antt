@@ -1,13 +1,11 @@
 -- The integers as differences of two naturals: an equation of ℤ becomes one of ℕ, which omega proves. Then the laws of the
 -- ring that lib.IntN leaves out, the ruleset `ring` for simp, and the sizes of sums and products. Assumes nothing.
-use mathlib.Core.Path.{◌≡◌, refl, sym, ap, ◌∙◌, subst}
-use mathlib.Core.Bool.{Bool, cond}
-use Prim.Native.Nat.{ℕ, zero, suc, ◌+◌, ◌-◌, ◌*◌, ◌≤◌, ◌<◌}
-use native.Mathlib.Nat.{lt_of_not-le, le_trans, le_dest, mul-add, add-mul, mul_assoc, mul_comm, mul_left_comm, add_assoc, add_comm, add_left_comm}
-use native.Mathlib.Decide.{dec_le}
-use native.Mathlib.Omega.{arith}
-use lib.IntN.{ℤ, pos, negsuc, neg_ℤ, nat_abs, sub_ℕ, ◌+ℤ◌, ◌*ℤ◌, *ℤ_comm, +ℤ_comm, +ℤ_assoc}
-use borrow.Author.Tests.{lt-ltb, le-ltb}
+-- In order: differences; their sum and product, by whether each is a natural or the negative of one; the parts of an integer above and below 0; the
+-- ring's laws; the size of a negative, of a sum and of a product.
+use Rattle.basics.proofs.Common.{◌≡◌, ℕ, suc, ◌+◌, ◌-◌, ◌*◌, ◌<◌, ◌≤◌, Bool, cond, ℤ, pos, negsuc, ◌+ℤ◌, ◌*ℤ◌, neg_ℤ, nat_abs, sym, ap, ◌∙◌, subst, mul_assoc, mul_comm, lt_of_not-le, arith, le-ltb}
+use Rattle.basics.proofs.Common.{lt-ltb, dec_le, le_dest, sub_ℕ, +ℤ_assoc, *ℤ_comm}
+use native.Mathlib.Nat.{le_trans, mul-add, add-mul, mul_left_comm, add_assoc, add_comm, add_left_comm}
+use lib.IntN.{+ℤ_comm}
 
 -- a difference below 0, and one that is not
 pub below : {a b : ℕ} → a < b → sub_ℕ a b ≡ negsuc (b - suc a)
@@ -18,18 +16,13 @@ above {a} {b} h = ap (λ (t : Bool). cond t (negsuc (b - suc a)) (pos (a - b))) 
 
 -- two differences are equal where the crossed sums are
 pub diff_eq : (a b c d : ℕ) → a + d ≡ c + b → sub_ℕ a b ≡ sub_ℕ c d
-diff_eq a b c d e =
-    elim (dec_le b a) [
-      | yes h ↦ let k : d ≤ c = omega arith in above h ∙ ap pos (omega arith) ∙ sym (above k)
-      | no n ↦ let k : c < d = omega arith in below (lt_of_not-le n) ∙ ap negsuc (omega arith) ∙ sym (below k)
-    ]
+diff_eq a b c d e = grind (arith, above, below, lt_of_not-le)
 
 pub as_diff : (n : ℕ) → pos n ≡ sub_ℕ n 0
 as_diff n = ap pos (omega arith) ∙ sym (above {a = n} {b = 0} (omega arith))
 
 pub neg_as_diff : (n : ℕ) → neg_ℤ (pos n) ≡ sub_ℕ 0 n
-neg_as_diff zero = refl
-neg_as_diff (suc n) = ap negsuc (omega arith) ∙ sym (below {a = 0} {b = suc n} (omega arith))
+neg_as_diff n = grind (arith, below)
 
 -- a difference is a natural or the negative of one
 data View : ℕ → ℕ → Type 0 where
@@ -51,13 +44,7 @@ negative_diff a x = diff_eq a (a + suc x) 0 (suc x) (omega arith) ∙ sym (neg_a
 
 -- the sum of two differences
 add_views : {a b c d : ℕ} → View a b → View c d → sub_ℕ a b +ℤ sub_ℕ c d ≡ sub_ℕ (a + c) (b + d)
-add_views (natural b x) (natural d y) =
-    rw (natural_diff b x, natural_diff d y) (as_diff (x + y) ∙ diff_eq (x + y) 0 (b + x + (d + y)) (b + d) (omega arith))
-add_views (natural b x) (negative c y) = rw (natural_diff b x, negative_diff c y) (diff_eq x (suc y) (b + x + c) (b + (c + suc y)) (omega arith))
-add_views (negative a x) (natural d y) = rw (negative_diff a x, natural_diff d y) (diff_eq y (suc x) (a + (d + y)) (a + suc x + d) (omega arith))
-add_views (negative a x) (negative c y) =
-    let n = suc (suc (x + y)) in
-    rw (negative_diff a x, negative_diff c y) (neg_as_diff n ∙ diff_eq 0 n (a + c) (a + suc x + (c + suc y)) (omega arith))
+add_views h h' = grind (arith, natural_diff, as_diff, diff_eq, negative_diff, neg_as_diff)
 
 pub diff_add : (a b c d : ℕ) → sub_ℕ a b +ℤ sub_ℕ c d ≡ sub_ℕ (a + c) (b + d)
 diff_add a b c d = add_views (view a b) (view c d)
@@ -90,8 +77,7 @@ negative_part (pos n) = 0
 negative_part (negsuc n) = suc n
 
 parts : (z : ℤ) → z ≡ sub_ℕ (positive_part z) (negative_part z)
-parts (pos n) = as_diff n
-parts (negsuc n) = neg_as_diff (suc n)
+parts z = grind (arith, as_diff, neg_as_diff)
 
 -- for simp: sums and products of naturals are multiplied out and sorted
 ruleset naturals = (mul-add, add-mul, mul_assoc, mul_comm, mul_left_comm, add_assoc, add_comm, add_left_comm)
@@ -117,21 +103,13 @@ pub ruleset ring = (*ℤ-+ℤ, +ℤ-*ℤ, *ℤ_assoc, *ℤ_comm, *ℤ_left_comm,
 -- ---- the size of a negative, of a sum and of a product
 
 pub abs_neg : (z : ℤ) → nat_abs (neg_ℤ z) ≡ nat_abs z
-abs_neg (pos zero) = refl
-abs_neg (pos (suc n)) = refl
-abs_neg (negsuc n) = refl
+abs_neg z = grind arith
 
 abs_diff : (a b : ℕ) → nat_abs (sub_ℕ a b) ≤ a + b
 abs_diff a b = elim (dec_le b a) [ yes h ↦ rw (above h) (omega arith) | no n ↦ rw (below (lt_of_not-le n)) (omega arith) ]
 
 pub abs_add : (a b : ℤ) → nat_abs (a +ℤ b) ≤ nat_abs a + nat_abs b
-abs_add (pos a) (pos b) = omega arith
-abs_add (pos a) (negsuc b) = abs_diff a (suc b)
-abs_add (negsuc a) (pos b) = le_trans (abs_diff b (suc a)) (omega arith)
-abs_add (negsuc a) (negsuc b) = omega arith
+abs_add a b = grind (arith, abs_diff, le_trans)
 
 pub abs_mul : (a b : ℤ) → nat_abs (a *ℤ b) ≡ nat_abs a * nat_abs b
-abs_mul (pos a) (pos b) = refl
-abs_mul (pos a) (negsuc b) = abs_neg (pos (a * suc b))
-abs_mul (negsuc a) (pos b) = abs_neg (pos (suc a * b))
-abs_mul (negsuc a) (negsuc b) = refl
+abs_mul a b = grind (arith, abs_neg)

@@ -1,9 +1,6 @@
 -- Laws of sums of the first n values of a function to the integers. Assumes nothing.
-use mathlib.Core.Path.{◌≡◌, refl, sym, ap, ◌∙◌}
-use Prim.Native.Nat.{ℕ, zero, suc, ◌+◌, ◌*◌, ◌<◌}
-use native.Mathlib.Nat.{add-zero, add-suc, zero-mul, suc-mul}
-use native.Mathlib.Omega.{arith}
-use lib.IntN.{ℤ, ◌+ℤ◌, ◌*ℤ◌, +ℤ_idr, +ℤ_assoc, *ℤ-zero}
+use Rattle.basics.proofs.Common.{◌≡◌, ℕ, zero, suc, ◌+◌, ◌*◌, ◌<◌, ℤ, ◌+ℤ◌, ◌*ℤ◌, sym, refl, ap, ◌∙◌, add-zero, add-suc, arith, +ℤ_idr, +ℤ_assoc, *ℤ-zero}
+use native.Mathlib.Nat.{zero-mul, suc-mul}
 use Rattle.integer.specs.Sum.{sum}
 use Rattle.integer.proofs.Integer.{ring, *ℤ-+ℤ}
 

@@ -1,26 +1,13 @@
 -- What the rules leave of a sheet: its blocks and amounts are accepted, its totals fit; so the sheet of a sound judgement is an accepted sheet,
 -- and a refusal's number and place are as they must be. The rules are walked once, by `by_rules`. Assumes nothing.
-use mathlib.Core.Path.{◌≡◌, refl, sym, ◌∙◌, subst}
-use mathlib.Core.Bool.{true, false}
-use mathlib.Core.List.{List, [], ◌∷◌, ◌++◌, append-nil}
-use Prim.Native.Nat.{ℕ, zero, suc, ◌+◌, ◌*◌, ◌%◌, ◌≤◌}
-use native.Mathlib.Decide.{dec_le}
-use native.Mathlib.Omega.{arith}
-use lib.Dec.{eqb, ltb}
-use lib.ListN.{length}
-use borrow.Author.Tests.{ltb-true, ltb-false, eqb-true}
-use Rattle.basics.specs.Each.{Each}
-use Rattle.basics.specs.First.{any_to}
-use Rattle.basics.specs.Ascending.{ascending}
-use Rattle.basics.specs.Total.{sum_to}
-use Rattle.basics.specs.Pick.{pick}
-use Rattle.basics.proofs.Picks.{if_true, if_false, by_test, never}
-use Rattle.basics.proofs.Totals.{sum_most}
+-- In order: amounts, scalar and credits of a sheet; a block that exists is one that there can be; the rules walked once; a refusal's number and
+-- place; the accepted sheet.
+use Rattle.basics.proofs.Common.{◌≡◌, ℕ, zero, suc, ◌+◌, ◌*◌, ◌%◌, ◌≤◌, true, false, eqb, ltb, List, [], ◌∷◌, ◌++◌, length, sym, refl, ◌∙◌, subst, append-nil, arith, ltb-false, ltb-true, eqb-true}
+use Rattle.basics.proofs.Common.{dec_le, ascending, Each, any_to, pick, sum_to, none_to, if_true, if_false, by_test, never, sum_most}
 use Rattle.amount.specs.Amount.{limit}
-use Rattle.basics.proofs.Existence.{none_before, none_to}
+use Rattle.basics.proofs.Existence.{none_before}
 use Rattle.refusal.specs.Outcome.{rule_number, printed, Judging, judging}
-use Rattle.refusal.specs.declared.Place.{Place}
-use Rattle.refusal.specs.declared.Place.TheVariants.{Line, Nowhere}
+use Rattle.refusal.specs.declared.Place.{Place, TheVariants.Line, TheVariants.Nowhere}
 use Rattle.sizes.specs.Sizes.{blocks, adjustable_products, largest_scalar}
 use Rattle.guideline.specs.Block.{K}
 use Rattle.guideline.specs.Operational.{OperationalAmounts}
@@ -29,16 +16,14 @@ use Rattle.guideline.proofs.Totals.{sum_more, available_fits}
 use Rattle.layout.specs.Columns.{sheet_line_bytes}
 use Rattle.sheet_length.specs.Measured.{longest_sheet, after_length}
 use Rattle.sheet_length.proofs.Measures.{by_length}
-use Rattle.codes.specs.Codes.{most_lines, Key, row_of, scalar_class}
-use Rattle.codes.specs.declared.Code.{Code}
+use Rattle.codes.specs.Codes.{most_lines, gross_class, guarantee_class, ceded_class, scalar_class, group_credits_class, dividend_class, Key, row_of}
+use Rattle.codes.specs.declared.Code.{Code, TheVariants.Gen, TheVariants.Crd}
 use Rattle.codes.proofs.Table.{rows_same, block_most}
-use Rattle.codes.specs.declared.Code.TheVariants.{Gen, Crd}
 use Rattle.sheet_line.specs.declared.Entry.{Entry}
 use Rattle.sheet_line.specs.Rules.{AcceptedLine}
 use Rattle.places.specs.Entries.{lookup, mark_of, exists, has_line, DistinctKeys}
 use Rattle.ledger.specs.Numbers.{dividend_credit, adjustable_credit}
-use Rattle.order.specs.Reading.{Reading, reading}
-use Rattle.order.specs.Reading.Reading.{complete, stopped}
+use Rattle.order.specs.Reading.{Reading, Reading.complete, Reading.stopped, reading}
 use Rattle.ledger.proofs.Bounds.{first_most, none_unmarked, length_volumes, volumes_most, general_most, scalar_within}
 use Rattle.order.proofs.Lines.{all_read, reading_distinct, reading_stopped}
 use Rattle.credits.specs.Credits.{after_credit, Covered}
@@ -46,8 +31,7 @@ use Rattle.credits.proofs.Acceptance.{all_covered}
 use Rattle.sheet_blocks.specs.Blocks.{blocks_to, dividend_barred}
 use Rattle.sheet_blocks.proofs.WorkedBlocks.{few_blocks, blocks_accepted}
 use Rattle.judgement.specs.Sheet.{sheet_of}
-use Rattle.judgement.specs.Judgement.{Judgement, rule13, rule17, rule16, rule12, rule_lines, judgement}
-use Rattle.judgement.specs.Judgement.Judgement.{turned_away, sound}
+use Rattle.judgement.specs.Judgement.{Judgement, Judgement.turned_away, Judgement.sound, rule13, rule17, rule16, rule12, rule_lines, judgement}
 
 module _ (es : List Entry) (all : Each AcceptedLine es) where
   pub amounts_within : OperationalAmounts (sheet_of es).volumes (sheet_of es).general
@@ -57,14 +41,14 @@ module _ (es : List Entry) (all : Each AcceptedLine es) where
         short = omega (arith, length_volumes es all);
         currents = λ k. (volumes_most es all k).0;
         priors = λ k. (volumes_most es all k).1;
-        gross = general_most es all 1;
-        guarantee = general_most es all 2;
-        ceded = general_most es all 3;
+        gross = general_most es all gross_class;
+        guarantee = general_most es all guarantee_class;
+        ceded = general_most es all ceded_class;
       }
 
   pub free_small : free (sheet_of es) ≤ limit * (adjustable_products + 1)
   unfolding sheet_of
-  free_small = omega (arith, sum_most (adjustable_credit es) limit (λ c. first_most es all Crd 0 c) adjustable_products, general_most es all 5)
+  free_small = omega (arith, sum_most (adjustable_credit es) limit (λ c. first_most es all Crd 0 c) adjustable_products, general_most es all group_credits_class)
 
   pub scalar_ranged : has_line es Gen 0 scalar_class ≡ true → (1 ≤ (sheet_of es).g) × ((sheet_of es).g ≤ largest_scalar)
   unfolding sheet_of
@@ -85,7 +69,7 @@ barred_none : (es : List Entry) → Each AcceptedLine es → (b : ℕ) → divid
 unfolding dividend_barred
 barred_none es all b h = (
   λ t. ltb-false _ _ (sym (if_true _ t) ∙ h),
-  λ t. none_unmarked es all Crd b 1 (let z : lookup mark_of es Crd b 1 ≤ 0 = ltb-false _ _ (sym (if_false _ t) ∙ h) in omega arith),
+  λ t. none_unmarked es all Crd b dividend_class (let z : lookup mark_of es Crd b dividend_class ≤ 0 = ltb-false _ _ (sym (if_false _ t) ∙ h) in omega arith),
 )
 
 -- where rule 17 bars none, the dividend credits are within the K of their blocks

@@ -1,15 +1,12 @@
 -- Sheets that look alike. Document 02, #105: 'Treasurers want two sheets of the same figures to look alike.' Assumes nothing.
-use mathlib.Core.Path.{◌≡◌, sym, ◌∙◌}
-use mathlib.Core.List.{List}
-use Prim.Native.Nat.{ℕ}
+use Rattle.basics.proofs.Common.{◌≡◌, ℕ, List, sym, ◌∙◌}
 use Rattle.sheet_line.specs.declared.Entry.{Entry}
 use Rattle.order.specs.Order.{SameFigures, Ascending, Ordered}
 use Rattle.order.specs.Reading.{print_lines}
 use Rattle.order.proofs.Ascent.{ascending_ordered}
 use Rattle.order.proofs.Lines.{reading_ascending}
 use Rattle.order.proofs.PrintedSheets.{sheet_printed, sheets_alike}
-use Rattle.judgement.specs.Judgement.{judgement}
-use Rattle.judgement.specs.Judgement.Judgement.{sound}
+use Rattle.judgement.specs.Judgement.{judgement, Judgement.sound}
 use Rattle.judgement.proofs.Acceptance.{sound_passed}
 
 -- the lines of a sound judgement ascend, the last one first

@@ -1,20 +1,13 @@
 -- Document 02, #108, as its reader meets it. 'No other answer changes': a sheet above the limit is refused by 1, and one of whole lines within it is
 -- judged by its lines. Of the others the first whole line that breaks the layout is told by 3, and by 2 that none does. Assumes nothing.
-use mathlib.Core.Path.{◌≡◌}
-use mathlib.Core.Bool.{true, false}
-use mathlib.Core.List.{List}
-use Prim.Native.Nat.{ℕ, ◌+◌, ◌%◌, ◌≤◌, ◌<◌}
-use native.Mathlib.Omega.{arith}
-use lib.ListN.{length}
-use Rattle.basics.proofs.Firsts.{sought_found, sought_none}
+use Rattle.basics.proofs.Common.{◌≡◌, ℕ, ◌+◌, ◌%◌, ◌<◌, ◌≤◌, true, false, List, length, arith, sought_found, sought_none}
 use Rattle.refusal.specs.declared.Place.TheVariants as place
 use Rattle.layout.specs.Columns.{sheet_line_bytes}
 use Rattle.layout.specs.Whole.{whole_lines, breaks_at, lines_kept}
 use Rattle.sheet_length.specs.Measured.{longest_sheet}
 use Rattle.sheet_length.proofs.Measures.{too_long, whole, broken_first, all_kept}
 use Rattle.order.specs.Reading.{reading}
-use Rattle.judgement.specs.Judgement.{rule_lines, judgement}
-use Rattle.judgement.specs.Judgement.Judgement.{turned_away}
+use Rattle.judgement.specs.Judgement.{rule_lines, judgement, Judgement.turned_away}
 use Rattle.judgement.proofs.Rules.{lined}
 
 module _ (s : List ℕ) where

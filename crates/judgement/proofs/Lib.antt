@@ -6,3 +6,4 @@ pub mod Rules
 pub mod Findings
 pub mod Lengths
 pub mod RuleOrder
+pub mod VolumeCharges

@@ -2,16 +2,7 @@
 -- program with the two in the other order meets the contract of `judge`. Beside them sheets at both sides of each rule's test, with the buffers of
 -- those that are sound. All computed. Assumes nothing.
 -- In order: lines, in cents; two rules of one sheet, the last line first; both sides of each test, the first line first.
-use mathlib.Core.Path.{◌≡◌, refl}
-use mathlib.Core.Bool.{Bool, true, not}
-use mathlib.Core.List.{List, [], ◌∷◌}
-use Prim.Native.Nat.{ℕ}
-use lib.Dec.{ltb}
-use Rattle.basics.specs.Pick.{pick}
-use Rattle.basics.specs.First.{any_to}
-use Rattle.basics.specs.Least.{least_from}
-use Rattle.basics.specs.Ascending.{ascending}
-use Rattle.basics.specs.Total.{sum_to}
+use Rattle.basics.proofs.Common.{◌≡◌, ℕ, Bool, true, not, ltb, List, [], ◌∷◌, map, refl, ascending, any_to, least_from, pick, sum_to}
 use Rattle.integer.specs.Sum.{sum}
 use Rattle.field.specs.Field.{digits, field, digit_or_space, leading_digits, decimal}
 use Rattle.refusal.specs.Outcome.{place_of}
@@ -21,7 +12,7 @@ use Rattle.guideline.specs.Factors.{factors}
 use Rattle.guideline.specs.Block.{A, U, LT, Vh, y, ys, Q4, largest_of, largest, root, fine_i, a, fine_d, requirement, K}
 use Rattle.guideline.specs.Operational.{total, volume, growth, operational_numerator, RO}
 use Rattle.guideline.specs.Buffer.{sum_k, free, available, bracket, buffer}
-use Rattle.mortality.specs.Credit.{twice_radicand, aggregated, credit, lowered}
+use Rattle.mortality.specs.Credit.{twice_radicand, aggregated, diversification_credit, lowered}
 use Rattle.codes.specs.Codes.{scalar_class, is_code, code_among}
 use Rattle.codes.specs.declared.Code.TheVariants.{Rsk, Oth, Mor, Gen, Crd}
 use Rattle.key_columns.specs.Key.{key}
@@ -37,8 +28,7 @@ use Rattle.ledger.specs.Numbers.{pairs, block_by, volumes_by}
 use Rattle.credits.specs.Credits.{credit_of, after_credit, credit_above}
 use Rattle.sheet_blocks.specs.Blocks.{blocks_to, dividend_barred}
 use Rattle.judgement.specs.Sheet.{sheet_of}
-use Rattle.judgement.specs.Judgement.{Judgement, rule13, rule17, rule16, rule12, rule_lines, judgement}
-use Rattle.judgement.specs.Judgement.Judgement.{turned_away, sound}
+use Rattle.judgement.specs.Judgement.{Judgement, Judgement.turned_away, Judgement.sound, rule13, rule17, rule16, rule12, rule_lines, judgement}
 
 -- ---- lines, in cents
 
@@ -103,8 +93,8 @@ pub record InOrder : Type 0 where
 pub in_order : InOrder
 unfolding
     pick any_to least_from ascending sum_to digits field digit_or_space leading_digits decimal factors sum A U LT Vh y ys Q4 largest_of largest
-    root fine_i a fine_d requirement K total volume growth operational_numerator RO sum_k available twice_radicand aggregated credit lowered is_code
-    code_among spaced layout_of lettered key line.outside line.second_barred line.trend_above line.scalar_outside line.rule10 line.rule9 line.rule8
+    root fine_i a fine_d requirement K total volume growth operational_numerator RO sum_k available twice_radicand aggregated diversification_credit lowered is_code
+    code_among spaced layout_of lettered key line.outside line.rule10 line.rule9 line.rule8
     line.rule6 line.rule5 line.parse_line has_key lookup exists pairs block_by volumes_by key_of rule19 rule11 on_line read_from print_by credit_of
     after_credit credit_above blocks_to dividend_barred sheet_of rule13 rule17 rule16 rule12 rule_lines rule2 measured judgement
 in_order =
@@ -119,58 +109,44 @@ in_order =
 
 -- ---- both sides of each test; the first line first
 
--- a sheet's lines, and what is told of it: the number and the place that it is turned away under, or the buffer behind a 0
+-- a sheet's lines, and what is answered of it: the number and the place that it is turned away under, or the buffer behind a 0
 pub record Side : Type 0 where
   pub lines : List Entry
-  pub tells : List ℕ
+  pub answer : List ℕ
 
 abbrev pub sides : List Side
 sides =
     -- 12: no line at all, a scalar alone
-    record { lines = []; tells = 12 ∷ 0 ∷ 0 ∷ [] }
-    ∷ record { lines = one ∷ []; tells = 0 ∷ 0 ∷ [] }
+    record { lines = []; answer = 12 ∷ 0 ∷ 0 ∷ [] }
+    ∷ record { lines = one ∷ []; answer = 0 ∷ 0 ∷ [] }
     -- 16: the credit of S and T of 100, 129, and LT(1) of as much and of a cent less; the blocks at both ends
-    ∷ record { lines = rsk 1 1 200 129 ∷ mor 1 100 100 ∷ one ∷ []; tells = 0 ∷ 71 ∷ [] }
-    ∷ record { lines = rsk 1 1 200 128 ∷ mor 1 100 100 ∷ one ∷ []; tells = 16 ∷ 0 ∷ 0 ∷ [] }
-    ∷ record { lines = rsk 1 2 200 129 ∷ mor 1 100 100 ∷ one ∷ []; tells = 16 ∷ 0 ∷ 0 ∷ [] }
-    ∷ record { lines = mor 2 100 100 ∷ one ∷ []; tells = 16 ∷ 0 ∷ 0 ∷ [] }
-    ∷ record { lines = mor 16 100 100 ∷ one ∷ []; tells = 16 ∷ 0 ∷ 0 ∷ [] }
+    ∷ record { lines = rsk 1 1 200 129 ∷ mor 1 100 100 ∷ one ∷ []; answer = 0 ∷ 71 ∷ [] }
+    ∷ record { lines = rsk 1 1 200 128 ∷ mor 1 100 100 ∷ one ∷ []; answer = 16 ∷ 0 ∷ 0 ∷ [] }
+    ∷ record { lines = rsk 1 2 200 129 ∷ mor 1 100 100 ∷ one ∷ []; answer = 16 ∷ 0 ∷ 0 ∷ [] }
+    ∷ record { lines = mor 2 100 100 ∷ one ∷ []; answer = 16 ∷ 0 ∷ 0 ∷ [] }
+    ∷ record { lines = mor 16 100 100 ∷ one ∷ []; answer = 16 ∷ 0 ∷ 0 ∷ [] }
     -- no credit, and no RSK
-    ∷ record { lines = mor 1 100 0 ∷ one ∷ []; tells = 0 ∷ 0 ∷ [] }
+    ∷ record { lines = mor 1 100 0 ∷ one ∷ []; answer = 0 ∷ 0 ∷ [] }
     -- 17: a dividend credit of K and of a cent more, K of 100; of 0 for a block that does not exist, and for one of OTH alone; the last block
-    ∷ record { lines = rsk 17 1 100 0 ∷ one ∷ crd 17 100 ∷ []; tells = 0 ∷ 0 ∷ [] }
-    ∷ record { lines = rsk 17 1 100 0 ∷ one ∷ crd 17 101 ∷ []; tells = 17 ∷ 0 ∷ 0 ∷ [] }
-    ∷ record { lines = rsk 18 1 100 0 ∷ one ∷ crd 17 0 ∷ []; tells = 17 ∷ 0 ∷ 0 ∷ [] }
-    ∷ record { lines = oth 17 0 ∷ one ∷ crd 17 0 ∷ []; tells = 0 ∷ 0 ∷ [] }
-    ∷ record { lines = one ∷ crd 32 0 ∷ []; tells = 17 ∷ 0 ∷ 0 ∷ [] }
+    ∷ record { lines = rsk 17 1 100 0 ∷ one ∷ crd 17 100 ∷ []; answer = 0 ∷ 0 ∷ [] }
+    ∷ record { lines = rsk 17 1 100 0 ∷ one ∷ crd 17 101 ∷ []; answer = 17 ∷ 0 ∷ 0 ∷ [] }
+    ∷ record { lines = rsk 18 1 100 0 ∷ one ∷ crd 17 0 ∷ []; answer = 17 ∷ 0 ∷ 0 ∷ [] }
+    ∷ record { lines = oth 17 0 ∷ one ∷ crd 17 0 ∷ []; answer = 0 ∷ 0 ∷ [] }
+    ∷ record { lines = one ∷ crd 32 0 ∷ []; answer = 17 ∷ 0 ∷ 0 ∷ [] }
     -- 13: credits of what is left and of a cent more: K of a block without participation and of a participating one, less a dividend credit
-    ∷ record { lines = rsk 1 1 100 0 ∷ rsk 32 1 100 0 ∷ one ∷ gen 5 150 ∷ crd 0 20 ∷ crd 32 30 ∷ []; tells = 0 ∷ 0 ∷ [] }
-    ∷ record { lines = rsk 1 1 100 0 ∷ rsk 32 1 100 0 ∷ one ∷ gen 5 151 ∷ crd 0 20 ∷ crd 32 30 ∷ []; tells = 13 ∷ 0 ∷ 0 ∷ [] }
+    ∷ record { lines = rsk 1 1 100 0 ∷ rsk 32 1 100 0 ∷ one ∷ gen 5 150 ∷ crd 0 20 ∷ crd 32 30 ∷ []; answer = 0 ∷ 0 ∷ [] }
+    ∷ record { lines = rsk 1 1 100 0 ∷ rsk 32 1 100 0 ∷ one ∷ gen 5 151 ∷ crd 0 20 ∷ crd 32 30 ∷ []; answer = 13 ∷ 0 ∷ 0 ∷ [] }
     -- and a guarantee requirement of 100, of which RO is 5
-    ∷ record { lines = gen 2 100 ∷ one ∷ gen 5 105 ∷ []; tells = 0 ∷ 0 ∷ [] }
-    ∷ record { lines = gen 2 100 ∷ one ∷ gen 5 106 ∷ []; tells = 13 ∷ 0 ∷ 0 ∷ [] }
+    ∷ record { lines = gen 2 100 ∷ one ∷ gen 5 105 ∷ []; answer = 0 ∷ 0 ∷ [] }
+    ∷ record { lines = gen 2 100 ∷ one ∷ gen 5 106 ∷ []; answer = 13 ∷ 0 ∷ 0 ∷ [] }
     ∷ []
 
--- what a judgement tells
-abbrev pub told : Judgement → List ℕ
-told (turned_away n p) = n ∷ place_of p
-told (sound es) = 0 ∷ buffer (sheet_of es) ∷ []
+-- what a judgement answers
+abbrev pub answer_of : Judgement → List ℕ
+answer_of (turned_away n p) = n ∷ place_of p
+answer_of (sound es) = 0 ∷ buffer (sheet_of es) ∷ []
 
--- what is found, of the sheets' bytes
-abbrev pub found : List Side → List (List ℕ)
-found [] = []
-found (s ∷ rest) = told (judgement (bytes_of s.lines)) ∷ found rest
-
--- what is wanted
-abbrev pub wanted : List Side → List (List ℕ)
-wanted [] = []
-wanted (s ∷ rest) = s.tells ∷ wanted rest
-
-pub sides_hold : found sides ≡ wanted sides
-unfolding
-    pick any_to least_from ascending sum_to digits field digit_or_space leading_digits decimal factors sum A U LT Vh y ys Q4 largest_of largest
-    root fine_i a fine_d requirement K total volume growth operational_numerator RO sum_k available bracket buffer twice_radicand aggregated credit
-    lowered is_code code_among spaced layout_of lettered key line.outside line.second_barred line.trend_above line.scalar_outside line.rule10 line.rule9
-    line.rule8 line.rule6 line.rule5 line.parse_line has_key lookup exists pairs block_by volumes_by key_of rule19 rule11 on_line read_from
-    credit_of after_credit credit_above blocks_to dividend_barred sheet_of rule13 rule17 rule16 rule12 rule_lines rule2 measured judgement
+-- what is found, of the sheets' bytes, is what is wanted
+pub sides_hold : map (λ (s : Side). answer_of (judgement (bytes_of s.lines))) sides ≡ map (λ (s : Side). s.answer) sides
+unfolding in_order bracket buffer
 sides_hold = refl

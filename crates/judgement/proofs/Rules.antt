@@ -1,12 +1,6 @@
 -- The rules of a judgement by what the tests find, in the order in which they are tested; and what a judgement tells. Assumes nothing.
 -- In order: the length, and the lines; rules 12, 16, 17 and 13; what a judgement has to tell; the ledger afterwards.
-use Rattle.std.specs.Prelude.{Result, Ok, Err}
-use mathlib.Core.Path.{◌≡◌, refl, sym, ap, ◌∙◌, subst}
-use mathlib.Core.Bool.{true, false}
-use mathlib.Core.List.{List}
-use Prim.Native.Nat.{ℕ, ◌≤◌, ◌<◌}
-use Rattle.basics.specs.First.{any_to}
-use Rattle.basics.proofs.Picks.{if_true, if_false, if_lt, if_ge, never}
+use Rattle.basics.proofs.Common.{◌≡◌, ℕ, ◌<◌, ◌≤◌, true, false, List, Ok, Err, Result, sym, refl, ap, ◌∙◌, subst, any_to, if_true, if_false, if_lt, if_ge, never}
 use Rattle.refusal.specs.Outcome.{rule_number, stated_number}
 use Rattle.refusal.specs.declared.Refusal.{Refusal}
 use Rattle.refusal.specs.declared.Place.{Place}
@@ -19,8 +13,7 @@ use Rattle.codes.specs.Codes.{scalar_class}
 use Rattle.codes.specs.declared.Code.TheVariants.{Gen}
 use Rattle.sheet_line.specs.declared.Entry.{Entry}
 use Rattle.places.specs.Entries.{has_line}
-use Rattle.order.specs.Reading.{Reading, reading, entries_of, outcome_of}
-use Rattle.order.specs.Reading.Reading.{complete, stopped}
+use Rattle.order.specs.Reading.{Reading, Reading.complete, Reading.stopped, reading, entries_of, outcome_of}
 use Rattle.ledger.specs.Lines.{Holds}
 use Rattle.ledger.specs.declared.Ledger.{Ledger}
 use Rattle.sheet_reader.specs.Filling.{Filled}
@@ -28,9 +21,7 @@ use Rattle.order.proofs.Lines.{all_read}
 use Rattle.sheet_blocks.specs.Blocks.{rows_to, dividend_barred}
 use Rattle.judgement.specs.Sheet.{sheet_of}
 use Rattle.credits.specs.Credits.{credit_above}
-use Rattle.judgement.specs.Judgement.{Judgement, rule13, rule17, rule16, rule12, rule_lines, judgement, findings}
-use Rattle.judgement.specs.Judgement.Judgement.{turned_away, sound}
-use Rattle.judgement.specs.Judgement.Findings.{refusal, figures}
+use Rattle.judgement.specs.Judgement.{Judgement, Judgement.turned_away, Judgement.sound, rule13, rule17, rule16, rule12, rule_lines, judgement, findings, Findings.refusal, Findings.figures}
 use Rattle.judgement.specs.Steps.{LinesOf}
 use Rattle.judgement.proofs.Acceptance.{sound_passed}
 

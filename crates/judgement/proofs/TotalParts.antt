@@ -1,10 +1,6 @@
 -- Numbers that are the parts of a total add up to it, part by part. Assumes nothing.
-use mathlib.Core.Path.{◌≡◌, ◌∙◌}
-use mathlib.Core.List.{List}
-use Prim.Native.Nat.{ℕ, ◌+◌, ◌-◌, ◌*◌}
-use lib.Dec.{leb}
+use Rattle.basics.proofs.Common.{◌≡◌, ℕ, ◌+◌, ◌-◌, ◌*◌, leb, List, ◌∙◌, least}
 use Rattle.codes.specs.Codes.{guarantee_class, scalar_class}
-use Rattle.basics.specs.Least.{least}
 use Rattle.sizes.specs.Sizes.{ten_thousandths}
 use Rattle.guideline.specs.Operational.{RO}
 use Rattle.guideline.specs.Buffer.{sum_k, free, available, bracket, buffer}

@@ -1,6 +1,6 @@
 -- A sheet's amounts off its lines: 'An absent line means zeros'. Assumes nothing.
 use Rattle.std.specs.Prelude.{List, [], ◌∷◌}
-use Rattle.codes.specs.Codes.{gross_class, guarantee_class, ceded_class, scalar_class, credits_class}
+use Rattle.codes.specs.Codes.{gross_class, guarantee_class, ceded_class, scalar_class, group_credits_class}
 use Rattle.basics.specs.Total.{sum_to}
 use Rattle.sizes.specs.Sizes.{blocks, adjustable_products}
 use Rattle.guideline.specs.Buffer.{Sheet}
@@ -19,5 +19,5 @@ sheet_of es =
       g = general_amount es scalar_class;
       CRᵢ = sum_to (dividend_credit es) blocks;
       CRⱼ = sum_to (adjustable_credit es) adjustable_products;
-      CG = general_amount es credits_class;
+      CG = general_amount es group_credits_class;
     }

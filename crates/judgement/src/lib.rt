@@ -1,22 +1,23 @@
 // A sheet judged by every rule but 14, and what its report is to say.
 #![tactic(auto)]
 
-ghost use Rattle.std.specs.Prelude.{◌≡◌, ◌*◌, ◌≤◌, leb};
+ghost use Rattle.std.specs.Prelude.{◌≡◌, ◌+◌, ◌*◌, ◌≤◌, ◌<◌, leb};
 ghost use Rattle.guideline.specs.Buffer.{most_available};
 ghost use Rattle.basics.specs.Least.{least};
-ghost use Rattle.sizes.specs.Sizes.{ten_thousandths, largest_scalar};
-ghost use Rattle.guideline.specs.Operational.{RO};
+ghost use Rattle.sizes.specs.Sizes.{ten_thousandths, largest_scalar, territories, volume_classes, volume_pairs};
+ghost use Rattle.guideline.specs.Operational.{charged, RO};
 ghost use Rattle.ledger.specs.Lines.{Empty, OfLines};
+ghost use Rattle.ledger.specs.Numbers.{volumes_of};
 ghost use Rattle.judgement.specs.Judgement.{judgement, rule12, rule17, findings, stated};
 ghost use Rattle.judgement.specs.Sheet.{sheet_of};
 ghost use Rattle.judgement.specs.Steps.{LinesOf, BehindRows};
 
-use codes::{CEDED_CLASS, CREDITS_CLASS, GROSS_CLASS, GUARANTEE_CLASS, SCALAR_CLASS};
+use codes::{CEDED_CLASS, GROSS_CLASS, GROUP_CREDITS_CLASS, GUARANTEE_CLASS, SCALAR_CLASS};
 use credits::CreditedLedger;
 use figures::NumberedFigures;
 use ledger::Ledger;
 use refusal::{Place, Refusal, Rule};
-use sizes::{BLOCKS, TEN_THOUSANDTHS};
+use sizes::{BLOCKS, TEN_THOUSANDTHS, TERRITORIES, VOLUME_CLASSES};
 
 // What a sheet comes to: how many blocks exist, the sum of their K, RO and the buffer.
 #[derive(Clone, Copy)]
@@ -78,11 +79,11 @@ fn totals_of(
     }
     let ro = operational_figure(ledger);
     let available = sum - w.dividends + ledger.general_amount(GUARANTEE_CLASS) + ro;
-    let free = credits::adjustable_credits(ledger) + ledger.general_amount(CREDITS_CLASS);
+    let free = credits::adjustable_credits(ledger) + ledger.general_amount(GROUP_CREDITS_CLASS);
     if available < free {
         return Err(Refusal(Rule::CreditsAboveBracket, Place::Nowhere));
     }
-    let buffer = scaled(ledger.general_amount(SCALAR_CLASS), available - free);
+    let buffer = times_scalar(ledger.general_amount(SCALAR_CLASS), available - free);
     Ok(Totals {
         count,
         sum,
@@ -92,7 +93,7 @@ fn totals_of(
 }
 
 // g × bracket over 10,000, rounded up. The product can pass a word: the bracket is split by 10,000 first.
-fn scaled(g: u64, bracket: u64) -> u64
+fn times_scalar(g: u64, bracket: u64) -> u64
     requires { (g ≤ largest_scalar) × (bracket ≤ most_available) }
     ensures { result ≡ least (λ x. leb (g * bracket) (ten_thousandths * x)) }
 {
@@ -103,11 +104,41 @@ fn scaled(g: u64, bracket: u64) -> u64
 fn operational_figure(ledger: &Ledger) -> u64
     ensures { OfLines ledger.now (λ es. result ≡ RO (sheet_of es).volumes (sheet_of es).general) }
 {
-    let volumes = ledger.volume_numbers();
     let general = [
         ledger.general_amount(GROSS_CLASS),
         ledger.general_amount(GUARANTEE_CLASS),
         ledger.general_amount(CEDED_CLASS),
     ];
-    operational::operational(&volumes, &general)
+    operational::figure_of(volume_and_growth(ledger), &general)
+}
+
+// Volume and growth of all classes of all territories, over 50,000. The volumes are read where they stand in the ledger: each is
+// read once, and a list of them would only be a copy.
+// Kept: out of line. Taken in, it has no register for the ledger's address, which is then read again for each class.
+#[inline(never)]
+fn volume_and_growth(ledger: &Ledger) -> u64
+    ensures { OfLines ledger.now (λ es. result ≡ charged (volumes_of es) volume_pairs) }
+{
+    let mut sum = 0u64;
+    for i in 0..TERRITORIES {
+        sum = with_territory(ledger, i, sum);
+    }
+    sum
+}
+
+// The same of the territories before one, and then with it.
+fn with_territory(ledger: &Ledger, before: usize, charged_before: u64) -> u64
+    requires in_range { before < territories }
+    requires before { OfLines ledger.now (λ es. charged_before ≡ charged (volumes_of es) (volume_classes * before)) }
+    ensures { OfLines ledger.now (λ es. result ≡ charged (volumes_of es) (volume_classes * (before + 1))) }
+{
+    let mut sum = charged_before;
+    for i in 0..VOLUME_CLASSES {
+        let volume = ledger.volume(before + 1, i + 1);
+        // an absent line means zeros, and most territories of a small society have none
+        if 0 < volume.first {
+            sum += operational::charge(guideline::volume_factor(i), volume.first, volume.second);
+        }
+    }
+    sum
 }

@@ -1,12 +1,5 @@
 -- Columns 1 to 9: the code and the two numbers put into a stretch of nine bytes, with spaces between; and read back off it. Assumes nothing.
-use borrow.Rule.Slice.PartMut.{put_mid}
-use mathlib.Core.Path.{◌≡◌, refl}
-use mathlib.Core.List.{List}
-use Prim.Native.Nat.{ℕ, ◌<◌}
-use native.Mathlib.Omega.{arith}
-use lib.ListN.{length, get_or, set, length-append}
-use Rattle.std.specs.Prelude.{Some}
-use Rattle.basics.proofs.Values.{values, is_values}
+use Rattle.basics.proofs.Common.{◌≡◌, ℕ, ◌<◌, List, length, get_or, set, Some, refl, arith, length-append, put_mid, is_values, values}
 use Rattle.field.specs.Field.{field, leading_digits, decimal}
 use Rattle.field.proofs.WrittenColumns.{length_decimal}
 use Rattle.field.proofs.Inverse.{read_back}

@@ -1,24 +1,13 @@
 -- A layout that is kept: its numbers stand in their columns, an amount is within the limit of 14 columns, and the line is what three letters and
 -- the numbers print as; what is printed keeps the layout. Assumes nothing.
-use Rattle.std.specs.Prelude.{Option, Some, None}
-use mathlib.Core.Path.{◌≡◌, refl, ap, ◌∙◌}
-use mathlib.Core.List.{List, [], ◌∷◌, ◌++◌}
-use mathlib.Core.Bool.{true}
-use Prim.Native.Nat.{ℕ, ◌+◌, ◌^◌, ◌≤◌, ◌<◌}
-use native.Mathlib.Omega.{arith}
-use lib.Dec.{eqb}
-use lib.ListN.{length, take, drop, length-append, length-drop}
-use lib.Seq.{length-take-le}
-use borrow.Author.Tests.{eqb-true}
-use Rattle.basics.specs.Pick.{pick}
-use Rattle.basics.proofs.Picks.{if_true, by_test, never, both}
-use Rattle.basics.proofs.Values.{values, is_values}
+use Rattle.basics.proofs.Common.{◌≡◌, ℕ, ◌+◌, ◌^◌, ◌<◌, ◌≤◌, true, eqb, List, [], ◌∷◌, ◌++◌, length, take, drop, Some, None, Option, refl, ap, ◌∙◌, arith, length-append, length-drop, length-take-le}
+use Rattle.basics.proofs.Common.{eqb-true, pick, if_true, by_test, never, both, is_values, values}
 use Rattle.field.specs.Field.{field, leading_digits, decimal}
 use Rattle.field.proofs.WrittenColumns.{length_decimal}
 use Rattle.field.proofs.Inverse.{field_bound, read_back, written_back}
-use Rattle.key_columns.specs.Key.{columns, code_columns, block_columns, class_columns, key}
+use Rattle.key_columns.specs.Key.{code_columns, block_columns, class_columns, key}
 use Rattle.key_columns.proofs.Columns.{length_key}
-use Rattle.layout.specs.Columns.{sheet_line_bytes, byte_at, spaced, separated_of, fields_of, layout_of, lettered}
+use Rattle.layout.specs.Columns.{sheet_line_bytes, byte_at, first_columns, second_columns, spaced, separated_of, fields_of, layout_of, lettered}
 use Rattle.layout.specs.declared.Numbers.{Numbers}
 
 -- ---- what is printed
@@ -30,7 +19,7 @@ module _ (w : List ℕ) (h : length w ≡ 3) (n : Numbers) where
 
   printed_columns : (separated_of (lettered w n) ≡ true)
       × (block_columns (lettered w n) ≡ decimal 2 n.block) × (class_columns (lettered w n) ≡ decimal 2 n.class)
-      × (columns 11 24 (lettered w n) ≡ decimal 14 n.first) × (columns 26 39 (lettered w n) ≡ decimal 14 n.second)
+      × (first_columns (lettered w n) ≡ decimal 14 n.first) × (second_columns (lettered w n) ≡ decimal 14 n.second)
   unfolding lettered key spaced values decimal leading_digits pick
   printed_columns = rw (is_values 0 3 w h) (refl, refl, refl, refl, refl)
 
@@ -64,7 +53,7 @@ fields_read None c f g n q = never (cc)
 abbrev by_columns : List ℕ → List ℕ
 by_columns s =
     code_columns s ++ (byte_at 4 s ∷ block_columns s) ++ (byte_at 7 s ∷ class_columns s)
-    ++ (byte_at 10 s ∷ columns 11 24 s) ++ (byte_at 25 s ∷ columns 26 39 s) ++ (byte_at 40 s ∷ [])
+    ++ (byte_at 10 s ∷ first_columns s) ++ (byte_at 25 s ∷ second_columns s) ++ (byte_at 40 s ∷ [])
 
 -- the bytes between the numbers
 separators : (s : List ℕ) → separated_of s ≡ true
@@ -94,13 +83,13 @@ module _ (s : List ℕ) (h : length s ≡ sheet_line_bytes) where
 
   module _ (n : Numbers) where
     abbrev Kept-read : Type 0
-    Kept-read = (separated_of s ≡ true) × Read (field (block_columns s)) (field (class_columns s)) (field (columns 11 24 s)) (field (columns 26 39 s)) n
+    Kept-read = (separated_of s ≡ true) × Read (field (block_columns s)) (field (class_columns s)) (field (first_columns s)) (field (second_columns s)) n
 
     kept_read : layout_of s ≡ Some n → Kept-read
     unfolding layout_of
     kept_read =
         by_test (λ l. l ≡ Some n → Kept-read) _ _ _
-        (λ t q. (t, fields_read (field (block_columns s)) (field (class_columns s)) (field (columns 11 24 s)) (field (columns 26 39 s)) n q))
+        (λ t q. (t, fields_read (field (block_columns s)) (field (class_columns s)) (field (first_columns s)) (field (second_columns s)) n q))
         (λ t q. never (cc))
 
     -- an amount has 14 columns

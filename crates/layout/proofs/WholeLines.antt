@@ -1,33 +1,9 @@
 -- The whole lines of a sheet as the code lends them: the first chunks of 40 bytes, each the line behind those before it; and what a search over them
 -- for one whose layout is broken tells. Assumes nothing.
-use Rattle.std.specs.Prelude.{Option, Some, None, MatchOption}
-use Rattle.std.specs.List.{AllWithin, HoldsAt}
-use Rattle.std.specs.Simd.{first_chunks}
-use mathlib.Core.Path.{◌≡◌, refl, sym, ap, ◌∙◌}
-use mathlib.Core.Bool.{Bool, true, false}
-use mathlib.Core.List.{List, []}
-use Prim.Native.Nat.{ℕ, zero, suc, ◌+◌, ◌*◌, ◌/◌, ◌<◌, ◌≤◌}
-use native.Mathlib.Omega.{arith}
-use lib.ListN.{length, take, drop, length-drop}
-use lib.Seq.{drop-drop, length-take-le}
-use Rattle.std.proofs.Common.{slice_index_or}
-use Rattle.basics.specs.First.{FoundAt}
-use Rattle.basics.proofs.Firsts.{sought_found, sought_none}
+use Rattle.basics.proofs.Common.{◌≡◌, ℕ, ◌*◌, ◌/◌, ◌<◌, ◌≤◌, Bool, true, false, List, [], length, drop, slice_index_or, Some, None, Option, MatchOption, HoldsAt, sym, ap, ◌∙◌, arith, length-drop}
+use Rattle.basics.proofs.Common.{length-take-le, AllWithin, first_chunks, FoundAt, count_chunks, chunk_is, sought_found, sought_none}
 use Rattle.layout.specs.Columns.{sheet_line_bytes, layout_of}
 use Rattle.layout.specs.Whole.{whole_lines, line_at, is_broken, breaks_at, lines_kept}
-
-length_cut : (k : ℕ) (s : List ℕ) → length (first_chunks sheet_line_bytes k s) ≡ k
-length_cut zero s = refl
-length_cut (suc k) s = ap (λ (n : ℕ). suc n) (length_cut k (drop sheet_line_bytes s))
-
--- the line behind i others among the first k
-cut_at : (k : ℕ) (s : List ℕ) (i : ℕ) (d : List ℕ) → i < k → slice_index_or (first_chunks sheet_line_bytes k s) i d ≡ line_at s i
-cut_at zero s i d h = absurd (omega arith)
-cut_at (suc k) s zero d h = refl
-cut_at (suc k) s (suc i) d h =
-    let e : sheet_line_bytes + sheet_line_bytes * i ≡ sheet_line_bytes * suc i = omega arith in
-    cut_at k (drop sheet_line_bytes s) i d (omega arith)
-    ∙ ap (take sheet_line_bytes) (drop-drop (sheet_line_bytes * i) sheet_line_bytes s ∙ rw e refl)
 
 -- a whole line has its 40 bytes
 pub length_line : (s : List ℕ) (i : ℕ) → i < whole_lines s → length (line_at s i) ≡ sheet_line_bytes
@@ -40,13 +16,13 @@ breaks l = is_broken (layout_of l)
 -- what the library cuts a sheet into
 module _ (s : List ℕ) {lines : List (List ℕ)} (e : lines ≡ first_chunks sheet_line_bytes (length s / sheet_line_bytes) s) where
   pub count_lines : length lines ≡ whole_lines s
-  count_lines = ap length e ∙ length_cut (whole_lines s) s
+  count_lines = ap length e ∙ count_chunks sheet_line_bytes (whole_lines s) s
 
   pub within : {i : ℕ} → i < length lines → i < whole_lines s
   within h = omega (arith, count_lines)
 
   pub line_is : {i : ℕ} → i < length lines → (d : List ℕ) → slice_index_or lines i d ≡ line_at s i
-  line_is {i} h d = rw e (cut_at (whole_lines s) s i d (within h))
+  line_is {i} h d = rw e (chunk_is sheet_line_bytes (whole_lines s) s i d (within h))
 
   abbrev Kept-to : ℕ → Type 0
   Kept-to = AllWithin (λ l. breaks l ≡ false) lines 0

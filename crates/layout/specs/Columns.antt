@@ -16,6 +16,14 @@ sheet_line_bytes = 40
 abbrev pub byte_at : ℕ → List ℕ → ℕ
 byte_at k s = get_or s (k - 1) 0
 
+-- the columns of the first amount
+abbrev pub first_columns : List ℕ → List ℕ
+first_columns s = columns 11 24 s
+
+-- those of the second
+abbrev pub second_columns : List ℕ → List ℕ
+second_columns s = columns 26 39 s
+
 -- whether these columns hold spaces, and the last one a line feed
 unfoldable pub spaced : List ℕ → List ℕ → Bool
 spaced [] s = eqb (byte_at sheet_line_bytes s) 10
@@ -37,7 +45,7 @@ fields_of None c f g = None
 unfoldable pub layout_of : List ℕ → Option Numbers
 layout_of s =
     pick (separated_of s)
-    (fields_of (field (block_columns s)) (field (class_columns s)) (field (columns 11 24 s)) (field (columns 26 39 s)))
+    (fields_of (field (block_columns s)) (field (class_columns s)) (field (first_columns s)) (field (second_columns s)))
     None
 
 -- a line with these letters in columns 1 to 3 and four numbers

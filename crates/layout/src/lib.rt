@@ -64,6 +64,7 @@ fn separated(s: &[u8; SHEET_LINE_BYTES]) -> bool
 // The first whole line of a sheet whose layout is broken, by how many stand before it; none where no layout is broken. What stands behind the last
 // whole line is not looked at.
 // Kept: two lines, as in movement_input; one function over the length and the reader would be these, with a clause of what the reader tells.
+#[tactic(auto, using(crate::proofs::WholeLines::broken_found))]
 pub fn first_broken(sheet: &[u8]) -> Option<usize>
     ensures { FoundAt (whole_lines sheet.now) (lines_kept sheet.now) result }
 {

@@ -1,21 +1,13 @@
 -- What the rules of a line guarantee of a sheet's numbers. Assumes nothing.
-use mathlib.Core.Path.{◌≡◌, refl, ◌∙◌}
-use mathlib.Core.List.{List, [], ◌∷◌, ◌++◌, append-nil}
-use mathlib.Core.Bool.{Bool, true, false}
-use Prim.Native.Nat.{ℕ, zero, suc, ◌+◌, ◌*◌, ◌/◌, ◌%◌, ◌≤◌, ◌<◌}
-use native.Mathlib.Decide.{ℕ_discrete, dec_le}
-use native.Mathlib.Omega.{arith}
-use lib.ListN.{length, get_or, length-append, get_or-eq_default}
-use lib.Seq.{append_snoc, get_or-append_seam, get_or-append-add}
+-- In order: what is looked up, by code, block and class; the pairs of a list; the numbers of a block; those of the volumes.
+use Rattle.basics.proofs.Common.{◌≡◌, ℕ, zero, suc, ◌+◌, ◌*◌, ◌/◌, ◌%◌, ◌<◌, ◌≤◌, Bool, true, false, List, [], ◌∷◌, ◌++◌, length, get_or, refl, ◌∙◌, append-nil, arith, length-append}
+use Rattle.basics.proofs.Common.{get_or-append-add, ℕ_discrete, dec_le, get_or-eq_default, append_snoc, Each, pick, each_at}
+use lib.Seq.{get_or-append_seam}
 use Rattle.amount.specs.Amount.{limit}
-use Rattle.basics.specs.Pick.{pick}
-use Rattle.basics.specs.Each.{Each}
-use Rattle.basics.proofs.Elements.{each_at}
 use Rattle.sizes.specs.Sizes.{block_numbers, last_lt_position, volume_classes, volume_numbers, largest_scalar, volume_pairs}
 use Rattle.guideline.specs.Operational.{current, prior}
-use Rattle.codes.specs.Codes.{risk_classes, scalar_class, row_of, Key}
-use Rattle.codes.specs.declared.Code.{Code}
-use Rattle.codes.specs.declared.Code.TheVariants.{Rsk, Oth, Vol, Acq, Gen}
+use Rattle.codes.specs.Codes.{pc_class, credit_class, market_class, risk_classes, scalar_class, row_of, Key}
+use Rattle.codes.specs.declared.Code.{Code, TheVariants.Rsk, TheVariants.Oth, TheVariants.Vol, TheVariants.Acq, TheVariants.Gen}
 use Rattle.sheet_line.specs.declared.Entry.{Entry}
 use Rattle.sheet_line.specs.Rules.{AcceptedLine, AcceptedAmounts}
 use Rattle.places.specs.Entries.{has_key, lookup, first_of, second_of, mark_of}
@@ -126,7 +118,7 @@ module _ (es : List Entry) (all : Each AcceptedLine es) where
   unfolding block_by
   block_amounts b =
       pairs_most _ _ (λ i. first_most es all Rsk b (i + 1)) (λ i. second_most es all Rsk b (i + 1)) risk_classes _
-      (first_most es all Oth b 1, (first_most es all Oth b 2, (first_most es all Oth b 3, tt)))
+      (first_most es all Oth b pc_class, (first_most es all Oth b credit_class, (first_most es all Oth b market_class, tt)))
 
   pub block_ruled : (b : ℕ) → RuledNumbers (block_of es b)
   unfolding block_by
@@ -143,7 +135,7 @@ module _ (es : List Entry) (all : Each AcceptedLine es) where
   length_volumes = length_pairs _ _ volume_pairs
 
   -- the pair of a class: the first amount of its VOL line; and the second one, joined with the amount of its ACQ line
-  volume_at : (k : ℕ) → k < volume_pairs →
+  pub volume_at : (k : ℕ) → k < volume_pairs →
       let b = k / volume_classes + 1 in
       let c = k % volume_classes + 1 in
       (current (volumes_of es) k ≡ lookup first_of es Vol b c) × (prior (volumes_of es) k ≡ lookup second_of es Vol b c + lookup first_of es Acq b c)

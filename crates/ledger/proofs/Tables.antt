@@ -1,22 +1,14 @@
 -- What is read off the tables that hold a sheet's lines is what the lines say. Assumes nothing.
-use Rattle.std.specs.Prelude.{Result, Ok, Err}
-use mathlib.Core.Path.{◌≡◌, refl, sym, ◌∙◌}
-use mathlib.Core.List.{List, [], ◌∷◌}
-use mathlib.Core.Bool.{Bool, false}
+use Rattle.basics.proofs.Common.{◌≡◌, ℕ, ◌+◌, ◌^◌, ◌<◌, ◌≤◌, Bool, false, List, [], ◌∷◌, length, set, replicate, Ok, Err, Result, sym, refl, ◌∙◌, arith, set_out}
 use Rattle.std.proofs.Math.Logic.{∥∥₁_elim}
-use Prim.Native.Nat.{ℕ, ◌+◌, ◌/◌, ◌%◌, ◌^◌, ◌≤◌, ◌<◌}
-use native.Mathlib.Omega.{arith}
-use lib.ListN.{length, replicate, set}
-use lib.Seq.{set_out}
-use Rattle.sizes.specs.Sizes.{blocks, volume_classes, volume_pairs}
+use Rattle.sizes.specs.Sizes.{blocks}
 use Rattle.codes.specs.Codes.{general_classes, scalar_class, Key}
-use Rattle.codes.specs.declared.Code.{Code}
-use Rattle.codes.specs.declared.Code.TheVariants.{Vol, Acq, Gen}
+use Rattle.codes.specs.declared.Code.{Code, TheVariants.Vol, TheVariants.Acq, TheVariants.Gen}
 use Rattle.sheet_line.specs.Rules.{AcceptedLine}
 use Rattle.sheet_line.specs.declared.Entry.{Entry}
 use Rattle.refusal.specs.declared.Rule.{Rule}
 use Rattle.places.specs.Entries.{lookup, first_of, second_of, exists, has_line}
-use Rattle.ledger.specs.Numbers.{block_by, joined_by, block_of, volumes_of, general_amount}
+use Rattle.ledger.specs.Numbers.{block_by, block_of, general_amount}
 use Rattle.places.specs.Places.{places, second_places, index_for, table, tabled}
 use Rattle.order.specs.Order.{Admits}
 use Rattle.places.specs.Marks.{marks_of, has_mark, block_marked}
@@ -24,7 +16,7 @@ use Rattle.order.proofs.Admission.{good_admitted}
 use Rattle.ledger.proofs.Bounds.{first_most, second_most}
 use Rattle.places.proofs.Indexes.{length_table}
 use Rattle.places.proofs.Marks.{mark_table, exists_table}
-use Rattle.ledger.proofs.Numbers.{pair_key, of_joined, first_table, second_table, block_table, volumes_table, general_table}
+use Rattle.ledger.proofs.Numbers.{first_table, second_table, block_table, general_table}
 use Rattle.ledger.specs.Tables.{TablesOf, TablesHold}
 use Rattle.ledger.specs.Lines.{Holds, Sound}
 use Rattle.ledger.specs.declared.Ledger.{Ledger}
@@ -79,17 +71,22 @@ module _ {es : List Entry} {f s : List ℕ} {m : List Bool} (H : TablesHold es f
   pub amount_is : (k : Code) (b c : ℕ) → Key k b c → (tabled f k b c ≡ lookup first_of es k b c) × (tabled s k b c ≡ lookup second_of es k b c)
   amount_is k b c v = rw (H.tables.first, H.tables.second) (first_table es H.lines k b c v, second_table es H.lines k b c v)
 
-  -- a joined prior amount fits a word
-  pub joined_small : (j : ℕ) → j < volume_pairs → of_joined f s j < 2 ^ 64
-  joined_small j h =
-      let b = j / volume_classes + 1 in
-      let c = j % volume_classes + 1 in
-      let v = pair_key j h in
-      let w : Key Vol b c = record { low = v.low; high = v.high; one = v.one; most = v.most } in
-      omega (arith, (amount_is Vol b c w).1, (amount_is Acq b c v).0, second_most es H.lines Vol b c, first_most es H.lines Acq b c)
+  -- a class of a territory has a place for what is acquired too
+  module _ (b c : ℕ) (v : Key Vol b c) where
+    acquired_key : Key Acq b c
+    acquired_key = record { low = v.low; high = v.high; one = v.one; most = v.most }
 
-  pub volumes_are : joined_by (tabled f) (tabled s) ≡ volumes_of es
-  volumes_are = rw (H.tables.first, H.tables.second) (volumes_table es H.lines)
+    -- the current volume, and the prior one joined with the acquired one
+    pub volume_is : (tabled f Vol b c ≡ lookup first_of es Vol b c)
+        × (tabled s Vol b c + tabled f Acq b c ≡ lookup second_of es Vol b c + lookup first_of es Acq b c)
+    volume_is =
+        let own = amount_is Vol b c v in
+        let acquired = amount_is Acq b c acquired_key in
+        (own.0, λ i. own.1 i + acquired.0 i)
+
+    -- which fits a word
+    pub joined_small : tabled s Vol b c + tabled f Acq b c < 2 ^ 64
+    joined_small = omega (arith, volume_is.1, second_most es H.lines Vol b c, first_most es H.lines Acq b c)
 
   pub general_is : (c : ℕ) → (1 ≤ c) × (c ≤ general_classes) → tabled f Gen 0 c ≡ general_amount es c
   general_is c h = rw H.tables.first (general_table es H.lines c h)

@@ -9,13 +9,11 @@ ghost use Rattle.codes.specs.Codes.{Key};
 ghost use Rattle.places.specs.Places.{tabled};
 ghost use Rattle.ledger.specs.Tables.{HoldSome};
 
-use codes::{Code, RISK_CLASSES};
+use codes::{CREDIT_CLASS, Code, MARKET_CLASS, PC_CLASS, RISK_CLASSES};
 use places::{PLACES, SECOND_PLACES};
 use refusal::Rule;
 use sheet_line::Entry;
-use sizes::{
-    BLOCK_NUMBERS, CREDIT_POSITION, MARKET_POSITION, PC_POSITION, VOLUME_NUMBERS, VOLUME_PAIRS,
-};
+use sizes::{BLOCK_NUMBERS, CREDIT_POSITION, MARKET_POSITION, PC_POSITION};
 
 // The lines of a sheet in three tables. The tables of every ledger hold some lines, which no rule of a line turns away.
 // Kept: no table of structs, in fixed memory: it would take 24 bytes a place, those without a second amount too, and a converted sheet holds the marks
@@ -36,12 +34,12 @@ pub struct Amounts {
 }
 
 impl Ledger {
-    ghost use Rattle.std.specs.Prelude.{◌≡◌, ◌≤◌};
+    ghost use Rattle.std.specs.Prelude.{◌≡◌, ◌+◌, ◌≤◌};
     ghost use Rattle.codes.specs.Codes.{general_classes, scalar_class, Key};
     ghost use Rattle.sizes.specs.Sizes.{blocks};
     ghost use Rattle.places.specs.Places.{tabled};
     ghost use Rattle.places.specs.Marks.{has_mark, block_marked};
-    ghost use Rattle.ledger.specs.Numbers.{block_by, joined_by};
+    ghost use Rattle.ledger.specs.Numbers.{block_by};
     ghost use Rattle.ledger.specs.Lines.{Empty, Sound, Entered};
 
     // A ledger without a line.
@@ -98,26 +96,24 @@ impl Ledger {
             numbers[2 * i] = self.firsts[at];
             numbers[2 * i + 1] = self.seconds[at];
         }
-        numbers[PC_POSITION] = self.firsts[places::index_of(Code::Oth, block, 1)];
-        numbers[CREDIT_POSITION] = self.firsts[places::index_of(Code::Oth, block, 2)];
-        numbers[MARKET_POSITION] = self.firsts[places::index_of(Code::Oth, block, 3)];
+        numbers[PC_POSITION] = self.firsts[places::index_of(Code::Oth, block, PC_CLASS)];
+        numbers[CREDIT_POSITION] = self.firsts[places::index_of(Code::Oth, block, CREDIT_CLASS)];
+        numbers[MARKET_POSITION] = self.firsts[places::index_of(Code::Oth, block, MARKET_CLASS)];
         numbers
     }
 
-    // The volumes of all territories, eight pairs current, prior each, the prior one joined with the acquired one: two amounts of lines fit a word. The
-    // places of a code's lines follow one another, so that two indexes serve all pairs.
-    #[tactic(auto, unfolding(places::specs::Places::index_of))]
-    pub fn volume_numbers(&self) -> [u64; VOLUME_NUMBERS]
-        ensures { result ≡ joined_by (tabled self.now.firsts) (tabled self.now.seconds) }
+    // The current volume of a class in a territory, and the prior one, joined with the acquired one: two amounts of lines fit a word.
+    pub fn volume(&self, territory: usize, class: usize) -> Amounts
+        requires { Key Code.Vol territory class }
+        ensures first { result.first ≡ tabled self.now.firsts Code.Vol territory class }
+        ensures second { result.second ≡ tabled self.now.seconds Code.Vol territory class + tabled self.now.firsts Code.Acq territory class }
     {
-        let current = places::index_of(Code::Vol, 1, 1);
-        let acquired = places::index_of(Code::Acq, 1, 1);
-        let mut numbers = [0u64; VOLUME_NUMBERS];
-        for i in 0..VOLUME_PAIRS {
-            numbers[2 * i] = self.firsts[current + i];
-            numbers[2 * i + 1] = self.seconds[current + i] + self.firsts[acquired + i];
+        let own = self.amounts(Code::Vol, territory, class);
+        let acquired = amount_of(&self.firsts, Code::Acq, territory, class);
+        Amounts {
+            first: own.first,
+            second: own.second + acquired,
         }
-        numbers
     }
 
     // The amount of a GEN line.

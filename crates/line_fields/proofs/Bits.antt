@@ -1,14 +1,9 @@
 -- Masks over the bytes of a word: that no byte reaches its upper half, and the marks of those that hold a digit. Assumes nothing.
-use mathlib.Core.Path.{◌≡◌, refl, sym, ap, ap₂, subst, ◌∙◌}
-use Prim.Native.Nat.{ℕ, zero, suc, ◌+◌, ◌*◌, ◌/◌, ◌%◌, ◌^◌, ◌≤◌, ◌<◌}
-use native.Mathlib.Nat.{pow-succ', mod-lt, lt_of_le_of_lt}
-use native.Mathlib.Omega.{arith}
-use lib.Arith.{digits_div}
-use lib.Bits.{bit_and, and_block, and_mask, and_zero_l, and_zero_r, and_le_r}
-use lib.Pow.{pow-add}
-use Rattle.std.proofs.lemmas.Nat.{div-add-mod'}
+use Rattle.basics.proofs.Common.{◌≡◌, ℕ, zero, suc, ◌+◌, ◌*◌, ◌/◌, ◌%◌, ◌^◌, ◌<◌, ◌≤◌, bit_and, sym, refl, ap, ◌∙◌, subst, ap₂, lt_of_le_of_lt, mod-lt, div-add-mod', arith, pow_pos, pow-add}
+use Rattle.basics.proofs.Common.{pow-succ', digits_div, and_zero_l, and_zero_r, and_mask, and_block, two_digits}
+use lib.Bits.{and_le_r}
 use Rattle.line_fields.specs.Words.{Within}
-use Rattle.line_fields.proofs.Bytes.{lanes, some, unique, room, lanes_lt, top_lt, lanes_last}
+use Rattle.line_fields.proofs.Bytes.{lanes, some, room, lanes_lt, top_lt, lanes_last}
 
 -- 256 ^ n as a power of 2
 eights : (n : ℕ) → 256 ^ n ≡ 2 ^ (8 * n)
@@ -20,19 +15,25 @@ eights (suc n) =
 lane_and : (n q c r l : ℕ) → r < 256 ^ n → l < 256 ^ n → bit_and (q * 256 ^ n + r) (c * 256 ^ n + l) ≡ bit_and q c * 256 ^ n + bit_and r l
 lane_and n q c r l = rw (eights n) (and_block (8 * n) q c r l)
 
-none : (a p r : ℕ) → 0 < p → a * p + r ≡ 0 → (a ≡ 0) × (r ≡ 0)
-none zero p r h e = (refl, omega arith)
-none (suc a) p r h e = absurd (omega arith)
+both_zero : (a p r : ℕ) → 0 < p → a * p + r ≡ 0 → (a ≡ 0) × (r ≡ 0)
+both_zero zero p r h e = (refl, omega arith)
+both_zero (suc a) p r h e = absurd (omega arith)
 
 -- ---- digits
 
+-- the bit of 2 ^ n in a number
+bit_of : (n b : ℕ) → bit_and b (2 ^ n) ≡ 2 ^ n * (b / 2 ^ n % 2)
+bit_of n b =
+    let s : b / 2 ^ n * 2 ^ n + b % 2 ^ n ≡ b = div-add-mod' b (2 ^ n) in
+    let o : 1 * 2 ^ n + 0 ≡ 2 ^ n = omega arith in
+    let k : bit_and (b / 2 ^ n * 2 ^ n + b % 2 ^ n) (1 * 2 ^ n + 0) ≡ bit_and (b / 2 ^ n) 1 * 2 ^ n + bit_and (b % 2 ^ n) 0 =
+    and_block n (b / 2 ^ n) 1 (b % 2 ^ n) 0 (mod-lt b (pow_pos n)) (pow_pos n) in
+    let m : bit_and b (2 ^ n) ≡ bit_and (b / 2 ^ n) 1 * 2 ^ n + bit_and (b % 2 ^ n) 0 = rw (s, o) at k in
+    omega (arith, m, ap (λ (x : ℕ). x * 2 ^ n) (and_mask (b / 2 ^ n) 1), and_zero_r (b % 2 ^ n))
+
 -- a byte's highest bit
 pub highest : (b : ℕ) → bit_and b 128 ≡ 128 * (b / 128 % 2)
-highest b =
-    let s : b / 128 * 2 ^ 7 + b % 128 ≡ b = div-add-mod' b 128 in
-    let k : bit_and (b / 128 * 2 ^ 7 + b % 128) (1 * 2 ^ 7 + 0) ≡ bit_and (b / 128) 1 * 2 ^ 7 + bit_and (b % 128) 0 =
-    and_block 7 (b / 128) 1 (b % 128) 0 (omega arith) (omega arith) in
-    omega (arith, sym (ap (λ (x : ℕ). bit_and x 128) s) ∙ k, and_mask (b / 128) 1, and_zero_r (b % 128))
+highest b = bit_of 7 b
 
 half : (b : ℕ) → b < 256 → bit_and b 128 ≡ 0 → b < 128
 half b h e = omega (arith, e, highest b)
@@ -47,7 +48,7 @@ lower_halves (suc n) y h e =
     let k : bit_and q 128 * 256 ^ n + bit_and r (lanes 128 n) ≡ 0 =
     sym (lane_and n q 128 r (lanes 128 n) (mod-lt y (some n)) (lanes_lt 128 n (omega arith)))
     ∙ ap (λ (x : ℕ). bit_and x (128 * 256 ^ n + lanes 128 n)) (div-add-mod' y (256 ^ n)) ∙ e in
-    let z = none _ _ _ (some n) k in
+    let z = both_zero _ _ _ (some n) k in
     let t = half q (top_lt n y h) z.0 in
     (omega arith, lower_halves n r (mod-lt y (some n)) z.1)
 
@@ -63,7 +64,7 @@ digits_within (suc n) y h w e =
     let k : bit_and (q + 118) 128 * 256 ^ n + bit_and (r + lanes 118 n) (lanes 128 n) ≡ 0 =
     sym (lane_and n (q + 118) 128 (r + lanes 118 n) (lanes 128 n) (omega arith) (lanes_lt 128 n (omega arith)))
     ∙ ap (λ (x : ℕ). bit_and x (128 * 256 ^ n + lanes 128 n)) s ∙ e in
-    let z = none _ _ _ (some n) k in
+    let z = both_zero _ _ _ (some n) k in
     let t = half (q + 118) (omega (arith, w.0)) z.0 in
     (omega arith, digits_within n r (mod-lt y (some n)) w.1 z.1)
 
@@ -71,11 +72,7 @@ digits_within (suc n) y h w e =
 
 -- a byte's mark is 16 or 0
 pub mark : (b : ℕ) → bit_and b 16 ≡ 16 * (b / 16 % 2)
-mark b =
-    let s : b / 16 * 2 ^ 4 + b % 16 ≡ b = div-add-mod' b 16 in
-    let k : bit_and (b / 16 * 2 ^ 4 + b % 16) (1 * 2 ^ 4 + 0) ≡ bit_and (b / 16) 1 * 2 ^ 4 + bit_and (b % 16) 0 =
-    and_block 4 (b / 16) 1 (b % 16) 0 (omega arith) (omega arith) in
-    omega (arith, sym (ap (λ (x : ℕ). bit_and x 16) s) ∙ k, and_mask (b / 16) 1, and_zero_r (b % 16))
+mark b = bit_of 4 b
 
 -- the marks of the bytes before the last, and the last one's
 marks_last : (n x : ℕ) → bit_and x (lanes 16 (suc n)) ≡ bit_and (x / 256) (lanes 16 n) * 256 + bit_and (x % 256) 16
@@ -90,7 +87,7 @@ behind d l h e =
     let r : ℕ = d % 256 in
     let s : q * 256 + r ≡ d = div-add-mod' d 256 in
     let k : bit_and (d * 256 + l) (q * 256 + r) ≡ q * 256 + r = rw s (rw (digits_div d h) at e) in
-    unique 256 _ _ _ _ (lt_of_le_of_lt (and_le_r l r) (omega arith)) (omega arith) (sym (and_block 8 d q l r h (omega arith)) ∙ k)
+    two_digits 256 _ _ _ _ (lt_of_le_of_lt (and_le_r l r) (omega arith)) (omega arith) (sym (and_block 8 d q l r h (omega arith)) ∙ k)
 
 -- the last k bytes have marks, and no others
 pub record Run (n d : ℕ) : Type 0 where

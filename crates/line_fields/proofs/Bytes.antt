@@ -1,13 +1,7 @@
 -- The bytes of a word, its digits in base 256: columns that all hold the same, bytes within bounds, and how large they are. Assumes nothing.
-use mathlib.Core.Path.{◌≡◌, sym, ap, subst, ◌∙◌}
-use mathlib.Core.List.{List, [], ◌∷◌}
-use Prim.Native.Nat.{ℕ, zero, suc, ◌+◌, ◌*◌, ◌/◌, ◌%◌, ◌^◌, ◌≤◌, ◌<◌}
-use native.Mathlib.Nat.{one-le-pow, pow-succ', mul-le-mul_right, mod-lt, div-lt_iff_lt-mul, zero-add, suc-add}
-use native.Mathlib.Omega.{arith}
-use lib.Arith.{digits_lt, digits_div, digits_mod}
-use lib.ListN.{length}
-use lib.Pow.{pow-add}
-use Rattle.std.proofs.lemmas.Nat.{div-add-mod'}
+use Rattle.basics.proofs.Common.{◌≡◌, ℕ, zero, suc, ◌+◌, ◌*◌, ◌/◌, ◌%◌, ◌^◌, ◌<◌, ◌≤◌, List, [], ◌∷◌, length, sym, ap, ◌∙◌, subst, mul-le-mul_right, mod-lt, suc-add, div-add-mod', zero-add, arith}
+use Rattle.basics.proofs.Common.{pow-add, pow-succ', one-le-pow, digits_lt, digits_div, digits_mod}
+use native.Mathlib.Nat.{div-lt_iff_lt-mul}
 use Rattle.line_fields.specs.Words.{word, Bytes, Within, number}
 
 -- n columns that all hold c
@@ -17,11 +11,6 @@ lanes c (suc n) = c * 256 ^ n + lanes c n
 
 pub some : (n : ℕ) → 0 < 256 ^ n
 some n = one-le-pow n 256 (omega arith)
-
--- two digits are known from their number
-pub unique : (N q r d x : ℕ) → r < N → x < N → q * N + r ≡ d * N + x → (q ≡ d) × (r ≡ x)
-unique N q r d x h k e =
-    (sym (digits_div q h) ∙ ap (λ (y : ℕ). y / N) e ∙ digits_div d k, sym (digits_mod q h) ∙ ap (λ (y : ℕ). y % N) e ∙ digits_mod d k)
 
 -- ---- sizes
 

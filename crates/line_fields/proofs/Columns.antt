@@ -1,11 +1,6 @@
 -- Fourteen columns as a word, from the words of the first four, of the next two and of the last eight. Assumes nothing.
-use mathlib.Core.Path.{◌≡◌}
-use mathlib.Core.List.{List}
-use Prim.Native.Nat.{ℕ, ◌+◌, ◌*◌, ◌^◌}
-use native.Mathlib.Omega.{arith}
-use lib.ListN.{length, get_or}
-use Rattle.std.specs.Int.{from_be_bytes, w16, w32, w64}
-use Rattle.basics.proofs.Values.{values, is_values}
+use Rattle.basics.proofs.Common.{◌≡◌, ℕ, ◌+◌, ◌*◌, ◌^◌, List, length, get_or, arith, w64, is_values, values}
+use Rattle.std.specs.Int.{from_be_bytes, w16, w32}
 use Rattle.line_fields.specs.Words.{word}
 
 -- the n bytes from i on

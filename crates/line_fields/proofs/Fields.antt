@@ -1,24 +1,15 @@
 -- Columns that are known as a word: spaces, and then the digits of a number. Assumes nothing.
 -- In order: columns that hold digits; columns that hold spaces, and then digits; fourteen columns.
-use Rattle.std.specs.Prelude.{Some}
-use mathlib.Core.Path.{◌≡◌, refl, sym, ap, subst, ◌∙◌}
-use mathlib.Core.List.{List, [], ◌∷◌}
-use Prim.Native.Nat.{ℕ, zero, suc, ◌+◌, ◌-◌, ◌*◌, ◌/◌, ◌%◌, ◌^◌, ◌≤◌, ◌<◌}
-use native.Mathlib.Nat.{pow-succ', pow-le-pow_right, mod-lt, mod-eq_of_lt, div-eq_of_lt}
-use native.Mathlib.Decide.{dec_le}
-use native.Mathlib.Omega.{arith}
-use lib.Arith.{digits_div}
-use lib.ListN.{length}
-use Rattle.std.proofs.lemmas.Nat.{div-add-mod'}
-use Rattle.basics.proofs.Picks.{if_eq, if_ne, if_ge}
+use Rattle.basics.proofs.Common.{◌≡◌, ℕ, zero, suc, ◌+◌, ◌-◌, ◌*◌, ◌/◌, ◌%◌, ◌^◌, ◌<◌, ◌≤◌, List, [], ◌∷◌, length, Some, sym, refl, ap, ◌∙◌, subst, mod-lt, mod-eq_of_lt, div-add-mod', arith, dec_le}
+use Rattle.basics.proofs.Common.{pow-succ', pow-le-pow_right, div-eq_of_lt, digits_div, two_digits, if_eq, if_ne, if_ge}
 use Rattle.field.specs.Field.{digits, field}
 use Rattle.line_fields.specs.Words.{word, Bytes, Within, number, Holds}
-use Rattle.line_fields.proofs.Bytes.{lanes, some, unique, lanes_all, within_all, room, word_lt, lanes_sum, lanes_last}
+use Rattle.line_fields.proofs.Bytes.{lanes, some, lanes_all, within_all, room, word_lt, lanes_sum, lanes_last}
 
 -- the first of some columns, and the others
 split : (a : ℕ) (us : List ℕ) (d x : ℕ) → Bytes (a ∷ us) → x < 256 ^ length us → a * 256 ^ length us + word us ≡ d * 256 ^ length us + x
     → (a ≡ d) × (word us ≡ x)
-split a us d x b h e = unique (256 ^ length us) a (word us) d x (word_lt us (λ i. b (suc i))) h e
+split a us d x b h e = two_digits (256 ^ length us) a (word us) d x (word_lt us (λ i. b (suc i))) h e
 
 -- ---- columns that hold digits
 

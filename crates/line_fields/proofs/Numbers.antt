@@ -1,10 +1,5 @@
 -- The number whose decimal digits the eight bytes of a word are, worked out by pairs, by fours and then whole. Assumes nothing.
-use mathlib.Core.Path.{◌≡◌, ap, ap₂, ◌∙◌}
-use Prim.Native.Nat.{ℕ, ◌+◌, ◌*◌, ◌/◌, ◌%◌, ◌^◌, ◌≤◌, ◌<◌}
-use native.Mathlib.Omega.{arith}
-use lib.Arith.{digits_div, digits_mod}
-use lib.Bits.{bit_and, and_block, and_mask}
-use Rattle.std.proofs.lemmas.Nat.{div-add-mod'}
+use Rattle.basics.proofs.Common.{◌≡◌, ℕ, ◌+◌, ◌*◌, ◌/◌, ◌%◌, ◌^◌, ◌<◌, ◌≤◌, bit_and, ap, ◌∙◌, ap₂, div-add-mod', arith, digits_div, digits_mod, and_mask, and_block}
 use Rattle.line_fields.specs.Words.{Within, number}
 
 -- the pairs of bytes as numbers of two digits, the pairs of these as numbers of four, and those together

@@ -1,17 +1,8 @@
 -- Columns that hold a number pass each test of their word: below the spaces' word they are marks and digits, and the first of several digits is not
 -- 0. So a word that a test turns away holds none. Assumes nothing.
 -- In order: masks, by the last byte; the word of a number's columns; words that a test turns away.
-use Rattle.std.specs.Prelude.{Option, Some, None}
-use mathlib.Core.Path.{◌≡◌, refl, sym, ap, ap₂, subst, ◌∙◌}
-use mathlib.Core.List.{List, [], ◌∷◌, ◌++◌}
-use Prim.Native.Nat.{ℕ, zero, suc, ◌+◌, ◌-◌, ◌*◌, ◌/◌, ◌%◌, ◌^◌, ◌≤◌, ◌<◌}
-use native.Mathlib.Nat.{pow-succ'}
-use native.Mathlib.Numerals.{add-one}
-use native.Mathlib.Decide.{ℕ_discrete}
-use native.Mathlib.Omega.{arith}
-use lib.Bits.{bit_and, and_block, and_zero_l, and_zero_r}
-use lib.ListN.{length, length-append}
-use Rattle.basics.specs.Pick.{pick}
+use Rattle.basics.proofs.Common.{◌≡◌, ℕ, zero, suc, ◌+◌, ◌-◌, ◌*◌, ◌/◌, ◌%◌, ◌^◌, ◌<◌, ◌≤◌, List, [], ◌∷◌, ◌++◌, length, bit_and, Some, None, Option, sym, refl, ap, ◌∙◌, subst, ap₂, add-one, arith}
+use Rattle.basics.proofs.Common.{length-append, ℕ_discrete, pow-succ', and_zero_l, and_zero_r, and_block, pick}
 use Rattle.field.specs.Field.{field, digit_or_space, leading_digits, decimal}
 use Rattle.field.proofs.Inverse.{field_bound, written_back, digit_shown, leading_decimal}
 use Rattle.line_fields.specs.Words.{amount_columns, word, HoldsNone}
@@ -28,22 +19,22 @@ and_last c n x d h k = ap (bit_and (x * 256 + d)) (sym (lanes_last c n)) ∙ and
 pub record Passing (n k y : ℕ) : Type 0 where
   pub marks : bit_and (lanes 16 k + y) (lanes 16 n) ≡ lanes 16 k
   pub low : bit_and y (lanes 128 n) ≡ 0
-  pub raised : bit_and (y + lanes 118 n) (lanes 128 n) ≡ 0
+  pub none_above_9 : bit_and (y + lanes 118 n) (lanes 128 n) ≡ 0
   pub within : y ≤ lanes 16 k
 
-raised_none : (n : ℕ) → bit_and (lanes 118 n) (lanes 128 n) ≡ 0
+lanes_118_unmarked : (n : ℕ) → bit_and (lanes 118 n) (lanes 128 n) ≡ 0
 unfolding lanes
-raised_none zero = and_zero_r 0
-raised_none (suc n) =
+lanes_118_unmarked zero = and_zero_r 0
+lanes_118_unmarked (suc n) =
     ap (λ (x : ℕ). bit_and x (lanes 128 (suc n))) (sym (lanes_last 118 n)) ∙ and_last 128 n (lanes 118 n) 118 (omega arith) (omega arith)
-    ∙ omega (arith, raised_none n, highest 118)
+    ∙ omega (arith, lanes_118_unmarked n, highest 118)
 
-none_raised : (n : ℕ) → bit_and (0 + lanes 118 n) (lanes 128 n) ≡ 0
-none_raised n = let z : 0 + lanes 118 n ≡ lanes 118 n = omega arith in ap (λ (x : ℕ). bit_and x (lanes 128 n)) z ∙ raised_none n
+zero_unmarked : (n : ℕ) → bit_and (0 + lanes 118 n) (lanes 128 n) ≡ 0
+zero_unmarked n = let z : 0 + lanes 118 n ≡ lanes 118 n = omega arith in ap (λ (x : ℕ). bit_and x (lanes 128 n)) z ∙ lanes_118_unmarked n
 
 no_digit : (n : ℕ) → Passing n 0 0
 unfolding lanes
-no_digit n = record { marks = and_zero_l (lanes 16 n); low = and_zero_l (lanes 128 n); raised = none_raised n; within = omega arith }
+no_digit n = record { marks = and_zero_l (lanes 16 n); low = and_zero_l (lanes 128 n); none_above_9 = zero_unmarked n; within = omega arith }
 
 digit_behind : (n k y d : ℕ) → d ≤ 9 → Passing n k y → Passing (suc n) (suc k) (y * 256 + d)
 digit_behind n k y d h p =
@@ -54,9 +45,9 @@ digit_behind n k y d h p =
           ap (λ (x : ℕ). bit_and x (lanes 16 (suc n))) e ∙ and_last 16 n (lanes 16 k + y) (16 + d) (omega arith) (omega arith)
           ∙ omega (arith, p.marks, mark (16 + d), lanes_last 16 k);
       low = and_last 128 n y d (omega arith) (omega arith) ∙ omega (arith, p.low, highest d);
-      raised =
+      none_above_9 =
           ap (λ (x : ℕ). bit_and x (lanes 128 (suc n))) f ∙ and_last 128 n (y + lanes 118 n) (d + 118) (omega arith) (omega arith)
-          ∙ omega (arith, p.raised, highest (d + 118));
+          ∙ omega (arith, p.none_above_9, highest (d + 118));
       within = omega (arith, p.within, lanes_last 16 k);
     }
 
@@ -197,4 +188,7 @@ module _ (w : ℕ) where
   digits_high n = holds_none w (λ s. n (rw (digits_are s) s.passing.low))
 
   pub digits_above_9 : (bit_and (digits + lanes 118 16) (lanes 128 16) ≡ 0 → ⊥) → HoldsNone w
-  digits_above_9 n = holds_none w (λ s. n (rw (digits_are s) s.passing.raised))
+  digits_above_9 n = holds_none w (λ s. n (rw (digits_are s) s.passing.none_above_9))
+
+-- what each test of a word says where it fails
+pub ruleset word_tests = (blank, marks_apart, digits_short, digits_unmarked, digits_high, digits_above_9)

@@ -38,6 +38,7 @@ const SECOND_PAIRS: u64 = 0x0000_ffff_0000_ffff;
 const SECOND_FOUR: u64 = 0xffff_ffff;
 
 // The number in two columns.
+#[tactic(auto, using(basics::proofs::Values::is_values), unfolding(basics::proofs::Values::values))]
 pub fn read_pair(s: &[u8; PAIR_COLUMNS]) -> Option<u64>
     ensures { result ≡ field s.now }
 {
@@ -69,6 +70,7 @@ pub fn read_amount(s: &[u8; AMOUNT_COLUMNS]) -> Option<u64>
 }
 
 // The columns as one word, the first as its highest byte.
+#[tactic(auto, using(crate::proofs::Columns::joined), unfolding(basics::proofs::Values::values))]
 fn word_of(s: &[u8; AMOUNT_COLUMNS]) -> u128
     ensures { result ≡ word s.now }
 {
@@ -81,6 +83,7 @@ fn word_of(s: &[u8; AMOUNT_COLUMNS]) -> u128
 
 // The digits, a byte each, of a word that is spaces and then a number; none where it is not. Of a space 0 is left, and of a digit its number with a
 // mark, so the marks tell where digits stand.
+#[tactic(auto, using(crate::proofs::Bytes::within_all, crate::proofs::Bits::lower_halves, crate::proofs::WordTests::word_tests), unfolding(crate::proofs::Bytes::lanes))]
 fn digits_in(w: u128) -> Option<u128>
     ensures { MatchOption result (HoldsNone w) (λ y. AllDigits 16 y × Holds w (number 16 y)) }
 {
@@ -120,6 +123,7 @@ fn number_of(y: u128) -> u64
 }
 
 // The same of eight bytes. Two neighbours at a time become one number, in the place of the second: digits, then numbers of two digits, then of four.
+#[tactic(auto, using(crate::proofs::Bytes::within_all, crate::proofs::Bytes::number_lt, crate::proofs::Numbers::by_bytes))]
 fn number_of_eight(y: u64) -> u64
     requires { AllDigits 8 y }
     ensures value { result ≡ number 8 y }

@@ -1,10 +1,6 @@
 -- A block that is accepted still is after a credit of at most its LT(1): both of its first two numbers fall by the same, and so do U and LT.
 -- Assumes nothing.
-use mathlib.Core.Path.{◌≡◌}
-use mathlib.Core.List.{List, [], ◌∷◌}
-use Prim.Native.Nat.{ℕ, ◌+◌, ◌≤◌, ◌<◌}
-use native.Mathlib.Omega.{arith}
-use lib.ListN.{length}
+use Rattle.basics.proofs.Common.{◌≡◌, ℕ, ◌+◌, ◌<◌, ◌≤◌, List, [], ◌∷◌, length, arith}
 use Rattle.guideline.specs.Block.{lt, A, U, LT, AcceptedBlock}
 use Rattle.mortality.specs.Credit.{lowered}
 

@@ -1,20 +1,11 @@
 -- The aggregate reaches its radicand and is at most S + T, so the credit is at or below the exact one and less than a cent below it; the radicand
 -- as code makes it; no credit where one of the sums is 0. Assumes nothing.
-use mathlib.Core.Path.{◌≡◌, ◌∙◌}
-use Prim.Native.Nat.{ℕ, ◌+◌, ◌-◌, ◌*◌, ◌/◌, ◌≤◌}
-use native.Mathlib.Nat.{mul-le-mul}
-use native.Mathlib.Decide.{dec_le}
-use native.Mathlib.Omega.{arith}
-use lib.Dec.{leb}
-use Rattle.basics.specs.Least.{least}
-use Rattle.basics.proofs.LeastOf.{LeastOf, least_of}
-use Rattle.basics.proofs.Roots.{le_of_squares}
-use Rattle.basics.proofs.Tests.{leb_same}
+use Rattle.basics.proofs.Common.{◌≡◌, ℕ, ◌+◌, ◌-◌, ◌*◌, ◌/◌, ◌≤◌, leb, ◌∙◌, mul-le-mul, arith, dec_le, least, LeastOf, least_of, le_of_squares, leb_same}
 use Rattle.amount.specs.Amount.{limit}
 use Rattle.accuracy.specs.Fraction.{whole}
 use Rattle.guideline.proofs.Bounds.{twice}
 use Rattle.accuracy.proofs.Fractions.{square_is}
-use Rattle.mortality.specs.Credit.{twice_radicand, aggregated, AggregateLeast, credit, AtOrBelowCredit, CreditDemand}
+use Rattle.mortality.specs.Credit.{twice_radicand, aggregated, AggregateLeast, diversification_credit, AtOrBelowCredit, CreditDemand}
 
 -- twice the radicand and 3 × S × T are 2S² + 2T²
 made_up : (s t : ℕ) → twice_radicand s t + 3 * (s * t) ≡ 2 * (s * s) + 2 * (t * t)
@@ -33,26 +24,26 @@ module _ (s t : ℕ) (a : s ≤ limit) (b : t ≤ limit) where
   aggregated_most = aggregated_least.first (s + t) (omega (arith, made_up s t))
 
   -- the credit and the aggregate are S + T: none of it is cut
-  pub shared : credit s t + aggregated s t ≡ s + t
-  unfolding credit
+  pub shared : diversification_credit s t + aggregated s t ≡ s + t
+  unfolding diversification_credit
   shared = omega (arith, aggregated_most)
 
   -- the square of S + T less the credit is that of the aggregate, and S + T less the credit and a cent falls short of the radicand
-  pub credit_demand : CreditDemand s t (credit s t)
+  pub credit_demand : CreditDemand s t (diversification_credit s t)
   credit_demand =
       record {
         at =
             record {
               within = omega (arith, shared);
-              square = omega (arith, aggregated_least.reaches, square_is (s + t) (credit s t) (aggregated s t) (omega (arith, shared)));
+              square = omega (arith, aggregated_least.reaches, square_is (s + t) (diversification_credit s t) (aggregated s t) (omega (arith, shared)));
             };
         near = λ h. short h (dec_le 1 (aggregated s t));
       }
     where
-      short : AtOrBelowCredit s t (whole (credit s t + 1) 0) → Dec (1 ≤ aggregated s t) → ⊥
+      short : AtOrBelowCredit s t (whole (diversification_credit s t + 1) 0) → Dec (1 ≤ aggregated s t) → ⊥
       short h (yes p) =
           let m = aggregated s t - 1 in
-          let e = square_is (s + t) (credit s t + 1) m (omega (arith, shared)) in
+          let e = square_is (s + t) (diversification_credit s t + 1) m (omega (arith, shared)) in
           omega (arith, aggregated_least.first m (omega (arith, h.square)))
       short h (no p) = omega (arith, h.within, shared)
 
@@ -73,13 +64,13 @@ aggregated_found s t n r e f = f ∙ (λ i. least (λ x. same (x * x) i))
     same : (m : ℕ) → leb n m ≡ leb (twice_radicand s t) (2 * m)
     same m = leb_same n m (twice_radicand s t) (2 * m) (λ h. omega arith) (λ h. omega arith)
 
-pub none_with_0 : (t : ℕ) → t ≤ limit → credit 0 t ≡ 0
+pub none_with_0 : (t : ℕ) → t ≤ limit → diversification_credit 0 t ≡ 0
 none_with_0 t b =
     let l = aggregated_least 0 t (omega arith) b in
     omega (arith, shared 0 t (omega arith) b, le_of_squares t (aggregated 0 t) (omega (arith, l.reaches, made_up 0 t)))
 
-pub credit_turned : (s t : ℕ) → credit s t ≡ credit t s
-unfolding credit aggregated
+pub credit_turned : (s t : ℕ) → diversification_credit s t ≡ diversification_credit t s
+unfolding diversification_credit aggregated
 credit_turned s t =
     let sums : s + t ≡ t + s = omega arith in
     let radicands : twice_radicand s t ≡ twice_radicand t s = omega (arith, made_up s t, made_up t s) in

@@ -3,7 +3,7 @@
 use Rattle.std.specs.Prelude.{◌≡◌, List, ℕ, ◌+◌, ◌-◌, ◌*◌, ◌≤◌, leb, pos, ◌-ℤ◌, set}
 use Rattle.std.proofs.Common.{arith}
 use Rattle.basics.specs.Least.{least, LeastWith}
-use Rattle.integer.proofs.Difference.{uncut}
+use Rattle.integer.proofs.Difference.{exact_difference}
 use Rattle.guideline.specs.Block.{ir, lt}
 use Rattle.accuracy.specs.Fraction.{Fraction, ◌≤ᶠ◌, whole, ratio, square_less, ≤ᶠ_trans, square_falls}
 use Rattle.guideline.proofs.Bounds.{twice}
@@ -15,7 +15,7 @@ twice_radicand s t = 2 * (s * s) + 2 * (t * t) - 3 * (s * t)
 -- in ℤ: the difference is never below 0, so nothing of it is cut
 pub radicand_difference : (s t : ℕ) → pos (twice_radicand s t) ≡ pos (2 * (s * s) + 2 * (t * t)) -ℤ pos (3 * (s * t))
 unfolding twice_radicand
-radicand_difference s t = uncut (2 * (s * s) + 2 * (t * t)) (3 * (s * t)) (twice_radicand s t) (omega (arith, twice s t))
+radicand_difference s t = exact_difference (2 * (s * s) + 2 * (t * t)) (3 * (s * t)) (twice_radicand s t) (omega (arith, twice s t))
 
 -- 'Their aggregate is the least whole number of cents whose square is at least S² + T² − 1.5 × S × T', both twice
 unfoldable pub aggregated : ℕ → ℕ → ℕ
@@ -26,8 +26,8 @@ abbrev pub AggregateLeast : ℕ → ℕ → Type 0
 AggregateLeast s t = LeastWith (λ n. twice_radicand s t ≤ 2 * (n * n)) (aggregated s t)
 
 -- 'The credit is S + T less the aggregate', which is at most S + T: proofs/Credits `shared`
-unfoldable pub credit : ℕ → ℕ → ℕ
-credit s t = s + t - aggregated s t
+unfoldable pub diversification_credit : ℕ → ℕ → ℕ
+diversification_credit s t = s + t - aggregated s t
 
 -- 'it lowers both IR(1) and LT(1) of the block', the first two of the block call's 17 numbers
 unfoldable pub lowered : ℕ → List ℕ → List ℕ

@@ -4,15 +4,16 @@
 ghost use Rattle.std.specs.Prelude.{◌≡◌, ◌≤◌};
 ghost use Rattle.amount.specs.Amount.{limit};
 ghost use Rattle.guideline.specs.Block.{ir, lt};
-ghost use Rattle.mortality.specs.Credit.{aggregated, credit, lowered};
+ghost use Rattle.mortality.specs.Credit.{aggregated, diversification_credit, lowered};
 
 use sizes::BLOCK_NUMBERS;
 use wide::Wide;
 
 // The credit for S and T, the level and trend sums of the survival and of the death products. It can pass the largest amount.
+#[tactic(auto, using(crate::proofs::Credits::none_with_0, crate::proofs::Credits::credit_turned, crate::proofs::Credits::aggregated_most), unfolding(crate::specs::Credit::diversification_credit))]
 pub fn credit(s: u64, t: u64) -> u64
     requires { (s ≤ limit) × (t ≤ limit) }
-    ensures { result ≡ credit s t }
+    ensures { result ≡ diversification_credit s t }
 {
     // one sort of business alone has nothing to diversify with, and needs no root
     if s == 0 {
@@ -25,6 +26,7 @@ pub fn credit(s: u64, t: u64) -> u64
 }
 
 // The aggregate of S and T. Four times its radicand, 4S² + 4T² − 6ST, is (2(S − T))² + 2ST, a sum that needs no sign.
+#[tactic(auto, using(crate::proofs::Credits::fourfold, crate::proofs::Credits::aggregated_found))]
 fn aggregated(s: u64, t: u64) -> u64
     requires { (s ≤ limit) × (t ≤ limit) }
     ensures { result ≡ aggregated s t }
@@ -35,6 +37,7 @@ fn aggregated(s: u64, t: u64) -> u64
 }
 
 // A block's 17 numbers after its credit, which lowers both IR(1) and LT(1).
+#[tactic(auto, unfolding(crate::specs::Credit::lowered))]
 pub fn lowered(b: [u64; BLOCK_NUMBERS], c: u64) -> [u64; BLOCK_NUMBERS]
     requires { (c ≤ lt b 1) × (lt b 1 ≤ ir b 1) }
     ensures { result ≡ lowered c b }

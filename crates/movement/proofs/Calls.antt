@@ -1,23 +1,12 @@
 -- What the call gives: by the input's length, then by its lines, then by what the block call says. What an accepted call has written meets the
 -- theorem of one moved input, and the room has the length of the lines. Assumes nothing.
 -- In order: rule by rule; the text of an input that is accepted; the numbers of its refusals; the theorem, of the lines that were written.
-use mathlib.Core.Path.{◌≡◌, refl, sym, ap, ◌∙◌, subst, subst⁻¹}
-use mathlib.Core.List.{List, [], ◌∷◌, ◌++◌, append_assoc}
-use Prim.Native.Nat.{ℕ, zero, suc, ◌+◌, ◌-◌, ◌*◌, ◌^◌, ◌≤◌, ◌<◌}
-use native.Mathlib.Decide.{dec_le, dec_lt}
-use native.Mathlib.Nat.{lt_of_not-le}
-use native.Mathlib.Omega.{arith}
-use lib.IntN.{nat_abs, sub_ℕ}
-use lib.ListN.{length, take, drop}
-use lib.Seq.{take_at, drop_at}
-use Rattle.basics.proofs.Picks.{if_eq, if_ne, if_lt, if_ge, by_test, never}
+use Rattle.basics.proofs.Common.{◌≡◌, ℕ, zero, suc, ◌+◌, ◌-◌, ◌*◌, ◌^◌, ◌<◌, ◌≤◌, List, [], ◌∷◌, ◌++◌, length, take, drop, nat_abs, Result, sym, refl, ap, ◌∙◌, subst, append_assoc, lt_of_not-le}
+use Rattle.basics.proofs.Common.{arith, take_at, drop_at, ltb-true, subst⁻¹, dec_le, dec_lt, sub_ℕ, if_eq, if_ne, if_lt, if_ge, by_test, never}
 use Rattle.integer.proofs.Integer.{above, below}
 use Rattle.integer.proofs.Difference.{less_diff}
-use borrow.Author.Tests.{ltb-true}
-use Rattle.refusal.specs.Outcome.{Outcome, Judging, judging, printed, stated_number}
-use Rattle.refusal.specs.Outcome.Outcome.{accepted, refused}
-use Rattle.refusal.specs.declared.Place.{Place}
-use Rattle.refusal.specs.declared.Place.TheVariants.{Line, Nowhere}
+use Rattle.refusal.specs.Outcome.{Outcome, Outcome.accepted, Outcome.refused, Judging, judging, printed, stated_number}
+use Rattle.refusal.specs.declared.Place.{Place, TheVariants.Line, TheVariants.Nowhere}
 use Rattle.amount.specs.Amount.{limit}
 use Rattle.amount.proofs.Amounts.{all_within}
 use Rattle.sizes.specs.Sizes.{risks, block_numbers, number_columns, FitsColumns}
@@ -29,10 +18,8 @@ use Rattle.block.specs.Call.{first_lt_above, rule8, rule9, block_call}
 use Rattle.block.proofs.Rules.{past_7}
 use Rattle.block.proofs.Acceptance.{accepts_block}
 use Rattle.report_line.specs.Line.{report_line_bytes}
-use Rattle.std.specs.Prelude.{Result}
 use Rattle.refusal.specs.declared.Refusal.{Refusal}
-use Rattle.text_answer.specs.Lent.{Text, Done, untouched}
-use Rattle.text_answer.specs.Lent.Text.{no_text, bytes}
+use Rattle.text_answer.specs.Lent.{Text, Text.no_text, Text.bytes, Done, untouched}
 use Rattle.text_answer.specs.Printing.{printout, Printed, Shown}
 use Rattle.text_answer.proofs.LentRoom as lent
 use Rattle.text_answer.proofs.LentRoom.{RoomFor}
@@ -76,34 +63,34 @@ module _ (s r : List ℕ) where
         unfolding movement_call
         no_room = lent.lent_short _ r says_lines long
 
-        pub all_told :
+        pub lines_answered :
             report_line_bytes * risks ≤ length r → {b r' : List ℕ} {t : ℕ} → b ≡ block_of s → t ≡ raise_of s →
             r' ≡ risk_lines b t risks ++ drop (report_line_bytes * risks) r →
             ◌≡◌ {A = Done} (record { outcome = accepted (report_line_bytes * risks ∷ []); room = r' }) (movement_call s r)
         unfolding movement_call
-        all_told h b-is t-is e =
+        lines_answered h b-is t-is e =
             lent.lent_filled _ r says_lines long h (e ∙ (λ i. risk_lines (b-is i) (t-is i) risks ++ drop (report_line_bytes * risks) r))
 
 -- ---- the text of an input that is accepted
 
-record Told (s t : List ℕ) : Type 0 where
+record AcceptedText (s t : List ℕ) : Type 0 where
   block : AcceptedBlock (block_of s)
   text : t ≡ risk_lines (block_of s) (raise_of s) risks
 
-told : (s t : List ℕ) → movements s ≡ bytes t → Told s t
+accepted_text : (s t : List ℕ) → movements s ≡ bytes t → AcceptedText s t
 unfolding movements rule3
-told s t =
-    by_test (λ (x : Text). x ≡ bytes t → Told s t) _ _ _
-    (λ h. by_test (λ (x : Text). x ≡ bytes t → Told s t) _ _ _ (λ l q. never (cc)) (λ l. after (block_call (block_of s)) refl))
+accepted_text s t =
+    by_test (λ (x : Text). x ≡ bytes t → AcceptedText s t) _ _ _
+    (λ h. by_test (λ (x : Text). x ≡ bytes t → AcceptedText s t) _ _ _ (λ l q. never (cc)) (λ l. after (block_call (block_of s)) refl))
     (λ h q. never (cc))
   where
-    after : (o : Outcome) → block_call (block_of s) ≡ o → after_block (block_of s) (raise_of s) o ≡ bytes t → Told s t
+    after : (o : Outcome) → block_call (block_of s) ≡ o → after_block (block_of s) (raise_of s) o ≡ bytes t → AcceptedText s t
     after (refused n p) e q = never (cc)
     after (accepted vs) e q = record { block = ((accepts_block (block_of s)).accepted_only vs e).1; text = cc }
 
 -- a room that has the length of the lines, or more
 pub room_for : (s r : List ℕ) → report_line_bytes * risks ≤ length r → RoomFor (movements s) r
-room_for s r long t e = omega (arith, long, ap length (told s t e).text, length_lines (block_of s) (raise_of s) risks)
+room_for s r long t e = omega (arith, long, ap length (accepted_text s t e).text, length_lines (block_of s) (raise_of s) risks)
 
 -- ---- the numbers of its refusals
 
@@ -187,7 +174,7 @@ module _ (s r : List ℕ) where
   bounded =
       lent.by_answer (movements s) r (λ d. MovementsBounded s d.outcome d.room) (λ n p e. tt) (λ t e h. tt)
       (λ t e.
-      let w = told s t e in
+      let w = accepted_text s t e in
       rw w.text (λ k h l. moved (block_of s) (raise_of s) (length_numbers s block_numbers) w.block k h l _))
 
   -- what the call gives, and how far K moves

@@ -1,14 +1,6 @@
 -- The line of a risk, and the lines of the risks one after the other. Assumes nothing.
-use borrow.Rule.Slice.PartMut.{put_mid}
-use mathlib.Core.Path.{◌≡◌, refl, sym, ap, ◌∙◌}
-use mathlib.Core.List.{List, ◌++◌}
-use Prim.Native.Nat.{ℕ, zero, suc, ◌+◌, ◌-◌, ◌*◌, ◌≤◌, ◌<◌}
-use native.Mathlib.Numerals.{add-one}
-use native.Mathlib.Omega.{arith}
-use lib.IntN.{ℤ, sub_ℕ}
-use lib.ListN.{length, get_or, set, take, drop, length-append}
-use Rattle.basics.proofs.Picks.{if_lt, if_ge, by_test}
-use Rattle.basics.proofs.Stretches.{Wrote, nothing, lent_part}
+use Rattle.basics.proofs.Common.{◌≡◌, ℕ, zero, suc, ◌+◌, ◌-◌, ◌*◌, ◌<◌, ◌≤◌, List, ◌++◌, length, get_or, take, drop, set, ℤ, sym, refl, ap, ◌∙◌, add-one, arith, length-append, sub_ℕ, put_mid, if_lt}
+use Rattle.basics.proofs.Common.{if_ge, by_test, Wrote, nothing, lent_part}
 use Rattle.integer.proofs.Difference.{less_diff}
 use Rattle.refusal.specs.declared.Place.TheVariants.{Risk}
 use Rattle.amount.specs.Amount.{limit}

@@ -1,18 +1,13 @@
 -- The refusals of the movement call: the number and the place of each are read back off its line, of the whole input and of one risk; and when 14
 -- comes. Assumes nothing.
-use Rattle.std.specs.Prelude.{◌≡◌, List, ℕ, ◌+◌, ◌*◌, ◌≤◌, ◌<◌, length}
-use native.Mathlib.Omega.{arith}
-use Rattle.basics.proofs.Picks.{if_lt}
-use Rattle.refusal.specs.Outcome.{Judging, printed}
-use Rattle.refusal.specs.Outcome.Outcome.{refused}
-use Rattle.refusal.specs.declared.Place.{Place}
-use Rattle.refusal.specs.declared.Place.TheVariants.{Risk, Nowhere}
+use Rattle.basics.proofs.Common.{◌≡◌, ℕ, ◌+◌, ◌*◌, ◌<◌, ◌≤◌, List, length, arith, if_lt}
+use Rattle.refusal.specs.Outcome.{Judging, printed, Outcome.refused}
+use Rattle.refusal.specs.declared.Place.{Place, TheVariants.Risk, TheVariants.Nowhere}
 use Rattle.amount.specs.Amount.{limit}
 use Rattle.sizes.specs.Sizes.{risks, number_columns, FitsColumns}
 use Rattle.guideline.specs.Block.{ir}
 use Rattle.report_line.specs.Line.{report_line_bytes}
-use Rattle.text_answer.specs.Lent.{TooLong}
-use Rattle.text_answer.specs.Lent.Text.{no_text}
+use Rattle.text_answer.specs.Lent.{TooLong, Text.no_text}
 use Rattle.text_answer.specs.Printing.{ReadsRefusal, printout}
 use Rattle.text_answer.proofs.LentRoom.{refusal_row_fits, line_read}
 use Rattle.text_answer.proofs.LentRoom as lent

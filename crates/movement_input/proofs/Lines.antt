@@ -1,32 +1,7 @@
 -- The input's lines as the library cuts them, each the line behind those before it; what a search over them for a broken one tells. Assumes nothing.
-use Rattle.std.specs.Prelude.{Option, Some, None, MatchOption}
-use Rattle.std.specs.List.{AllWithin, HoldsAt}
-use Rattle.std.specs.Simd.{first_chunks}
-use mathlib.Core.Path.{◌≡◌, refl, sym, ap, ◌∙◌}
-use mathlib.Core.Bool.{Bool, true, false}
-use mathlib.Core.List.{List, []}
-use Prim.Native.Nat.{ℕ, zero, suc, ◌+◌, ◌*◌, ◌/◌, ◌<◌, ◌≤◌}
-use native.Mathlib.Omega.{arith}
-use lib.ListN.{length, take, drop}
-use lib.Seq.{drop-drop}
-use Rattle.std.proofs.Common.{slice_index_or}
-use Rattle.basics.specs.First.{FoundAt}
-use Rattle.basics.proofs.Firsts.{sought_found, sought_none}
+use Rattle.basics.proofs.Common.{◌≡◌, ℕ, ◌/◌, ◌<◌, ◌≤◌, Bool, true, false, List, [], length, slice_index_or, Some, None, Option, MatchOption, HoldsAt, sym, ap, ◌∙◌, arith, AllWithin, first_chunks}
+use Rattle.basics.proofs.Common.{FoundAt, count_chunks, chunk_is, sought_found, sought_none}
 use Rattle.movement_input.specs.Reading.{input_line_bytes, input_lines, input_bytes, amount_of, amount_at, is_bad, lines_kept}
-
-length_cut : (k : ℕ) (s : List ℕ) → length (first_chunks input_line_bytes k s) ≡ k
-length_cut zero s = refl
-length_cut (suc k) s = ap (λ (n : ℕ). suc n) (length_cut k (drop input_line_bytes s))
-
--- the line behind i others among the first k
-cut_at : (k : ℕ) (s : List ℕ) (i : ℕ) (d : List ℕ) → i < k
-    → slice_index_or (first_chunks input_line_bytes k s) i d ≡ take input_line_bytes (drop (input_line_bytes * i) s)
-cut_at zero s i d h = absurd (omega arith)
-cut_at (suc k) s zero d h = refl
-cut_at (suc k) s (suc i) d h =
-    let e : input_line_bytes + input_line_bytes * i ≡ input_line_bytes * suc i = omega arith in
-    cut_at k (drop input_line_bytes s) i d (omega arith)
-    ∙ ap (take input_line_bytes) (drop-drop (input_line_bytes * i) input_line_bytes s ∙ rw e refl)
 
 -- whether a line is broken
 abbrev pub bad : List ℕ → Bool
@@ -44,10 +19,10 @@ module _ (s : List ℕ) {lines : List (List ℕ)} (long : length s ≡ input_byt
   cut = let n : length s / input_line_bytes ≡ input_lines = omega arith in rw n at e
 
   count : length lines ≡ input_lines
-  count = ap length cut ∙ length_cut input_lines s
+  count = ap length cut ∙ count_chunks input_line_bytes input_lines s
 
   pub held : (i : ℕ) (d : List ℕ) → i < input_lines → amount_of (slice_index_or lines i d) ≡ amount_at s i
-  held i d h = rw cut (ap amount_of (cut_at input_lines s i d h))
+  held i d h = rw cut (ap amount_of (chunk_is input_line_bytes input_lines s i d h))
 
   kept_before : (i : ℕ) → i ≤ input_lines → Kept-to i → (k : ℕ) → k < i → bad_at k ≡ false
   kept_before i h a k l = rw (held k [] (omega arith)) at (a k [] (omega arith) l)

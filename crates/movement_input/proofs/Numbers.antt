@@ -1,16 +1,6 @@
 -- The input's numbers, as they are read one after the other. Assumes nothing.
-use Rattle.std.specs.Prelude.{Option, Some, None}
-use mathlib.Core.Path.{◌≡◌, refl, subst}
-use mathlib.Core.List.{List, [], ◌∷◌, ◌++◌}
-use Prim.Native.Nat.{ℕ, zero, suc, ◌+◌, ◌-◌, ◌^◌, ◌≤◌, ◌<◌}
-use native.Mathlib.Nat.{pow-le-pow_right}
-use native.Mathlib.Decide.{dec_lt}
-use native.Mathlib.Numerals.{add-one}
-use native.Mathlib.Omega.{arith}
-use lib.ListN.{length, get_or, set, take, length-append, length-take, get_or-append}
-use lib.Seq.{get_or-append-add}
-use Rattle.basics.proofs.Picks.{by_test}
-use Rattle.basics.proofs.Stretches.{Wrote, next}
+use Rattle.basics.proofs.Common.{◌≡◌, ℕ, zero, suc, ◌+◌, ◌-◌, ◌^◌, ◌<◌, ◌≤◌, List, [], ◌∷◌, ◌++◌, length, get_or, take, set, Some, None, Option, refl, subst, add-one, arith, length-append}
+use Rattle.basics.proofs.Common.{length-take, get_or-append-add, dec_lt, pow-le-pow_right, get_or-append, by_test, Wrote, next}
 use Rattle.amount.specs.Amount.{limit}
 use Rattle.sizes.specs.Sizes.{block_numbers}
 use Rattle.field.specs.Field.{field}

@@ -1,22 +1,12 @@
 -- A line is listed exactly when its need is unmet, and the listing follows the sheet's order: by induction over the lines, of the listing's bytes cut into
 -- lines of 20. That no other line is listed is that a line's bytes tell its code, block and class, which one line has. Assumes nothing.
 -- In order: a line's bytes tell its code, block and class; one of a sheet's lines; the listing cut into lines; the listing.
-use mathlib.Core.Path.{◌≡◌, refl, sym, ap, subst⁻¹, ◌∙◌}
+use Rattle.basics.proofs.Common.{◌≡◌, ℕ, ◌+◌, ◌*◌, ◌<◌, ◌≤◌, true, false, ltb, List, [], ◌∷◌, ◌++◌, length, take, drop, Some, None, Option, sym, refl, ap, ◌∙◌, append_assoc, append-nil, arith}
+use Rattle.basics.proofs.Common.{length-append, length-drop, take_all, take_at, drop_at, subst⁻¹, dec_lt, take-append-le, Each, pick, if_true, if_false, if_lt, if_ge, by_test, never}
 use mathlib.Core.Logic.{inl, inr}
-use mathlib.Core.Bool.{true, false}
-use mathlib.Core.List.{List, [], ◌∷◌, ◌++◌, append_assoc, append-nil}
-use Prim.Native.Nat.{ℕ, ◌+◌, ◌*◌, ◌≤◌, ◌<◌}
-use native.Mathlib.Decide.{dec_lt}
-use native.Mathlib.Omega.{arith}
-use lib.Dec.{ltb}
-use lib.ListN.{length, take, drop, length-append, length-drop}
-use lib.Seq.{take-append-le, drop-append-le, take_all, take_at, drop_at}
-use Rattle.basics.specs.Pick.{pick}
-use Rattle.basics.specs.Each.{Each}
-use Rattle.basics.proofs.Picks.{if_true, if_false, if_lt, if_ge, by_test, never}
+use lib.Seq.{drop-append-le}
 use Rattle.codes.specs.Codes.{letters_of, is_code, code_among, code_of}
-use Rattle.codes.specs.declared.Code.{Code}
-use Rattle.codes.specs.declared.Code.TheVariants.{Gen}
+use Rattle.codes.specs.declared.Code.{Code, TheVariants.Gen}
 use Rattle.codes.proofs.Table.{codes_same, three_letters}
 use Rattle.key_columns.specs.Key.{key_bytes}
 use Rattle.key_columns.proofs.Columns.{key_read}
@@ -32,7 +22,6 @@ use Rattle.needs.specs.Needs.{label_for, need_of, unmet}
 use Rattle.needs.specs.Listing.{listed_bytes, label_of, listed_line, listed_for, line_for, listing}
 use Rattle.needs.specs.Listed.{IsLine, listed_lines, listed_at, ListedExactly}
 use Rattle.needs.specs.declared.Label.{Label}
-use Rattle.std.specs.Prelude.{Option, Some, None}
 use Rattle.needs.proofs.Labels.{length_label}
 use Rattle.needs.proofs.ListedLines.{one_if, is_one, unmet_long}
 
@@ -42,9 +31,9 @@ coded : (k : Code) → code_of (letters_of k) ≡ Some k
 unfolding code_among is_code pick
 coded = codes_same (λ k. code_of (letters_of k)) Some refl
 
-label_tells : (d e : Entry) → AcceptedLine d → AcceptedLine e → label_of (label_for d) ≡ label_of (label_for e) → SameKey d.code d.block d.class e
+label_determines : (d e : Entry) → AcceptedLine d → AcceptedLine e → label_of (label_for d) ≡ label_of (label_for e) → SameKey d.code d.block d.class e
 unfolding label_of
-label_tells d e a b q =
+label_determines d e a b q =
     let s = key_small d.code d.block d.class a.key in
     let t = key_small e.code e.block e.class b.key in
     let x = key_read (letters_of d.code) d.block d.class (three_letters d.code) s.0 s.1 in
@@ -57,9 +46,9 @@ unfolding listed_line
 front_label l None h = absurd (omega arith)
 front_label l (Some m) h = simp append_assoc (take_at (label_of l) _ key_bytes (length_label l))
 
-line_tells : (d e : Entry) → AcceptedLine d → AcceptedLine e → length (line_for d) ≡ listed_bytes → line_for d ≡ line_for e → SameKey d.code d.block d.class e
-line_tells d e a b h q =
-    label_tells d e a b
+line_determines : (d e : Entry) → AcceptedLine d → AcceptedLine e → length (line_for d) ≡ listed_bytes → line_for d ≡ line_for e → SameKey d.code d.block d.class e
+line_determines d e a b h q =
+    label_determines d e a b
     (sym (front_label (label_for d) (need_of (label_for d)) h) ∙ ap (take key_bytes) q ∙ front_label (label_for e) (need_of (label_for e)) (sym (ap length q) ∙ h))
 
 -- ---- one of a sheet's lines
@@ -206,7 +195,7 @@ module _ (es : List Entry) where
     -- a line of the sheet whose line is listed has the need of the line that is listed
     one_need : (d e : Entry) → IsLine es d → IsLine es e → unmet es d ≡ true → line_for d ≡ line_for e → unmet es e ≡ true
     one_need d e m n u q =
-        let s = line_tells d e (line_in_lem AcceptedLine es a d m) (line_in_lem AcceptedLine es a e n) (line_long d u) q in
+        let s = line_determines d e (line_in_lem AcceptedLine es a d m) (line_in_lem AcceptedLine es a e n) (line_long d u) q in
         let g : Entry → ℕ = λ x. one_if (unmet es x) in
         let x : g d ≡ g e = sym (found g es p d m) ∙ (λ i. lookup g es (s.code i) (s.block i) (s.class i)) ∙ found g es p e n in
         sym (is_one (unmet es e)) ∙ sym (ap (λ (v : ℕ). ltb 0 v) x) ∙ is_one (unmet es d) ∙ u

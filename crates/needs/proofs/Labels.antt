@@ -1,6 +1,5 @@
 -- Labels and the lines that are made of two: how long they are. Assumes nothing.
-use mathlib.Core.Path.{◌≡◌}
-use lib.ListN.{length, length-append}
+use Rattle.basics.proofs.Common.{◌≡◌, length, length-append}
 use Rattle.codes.specs.Codes.{letters_of}
 use Rattle.codes.proofs.Table.{three_letters}
 use Rattle.key_columns.specs.Key.{key_bytes}

@@ -2,28 +2,21 @@
 -- one of them. Assumes nothing.
 -- In order: which line has a number; their keys rise; each has a block and a class of its code; what two of them need; every line that needs
 -- something is one of them.
-use mathlib.Core.Path.{◌≡◌, refl, ap, ◌∙◌}
-use Prim.Native.Nat.{ℕ, zero, suc, ◌+◌, ◌-◌, ◌*◌, ◌/◌, ◌%◌, ◌≤◌, ◌<◌}
-use native.Mathlib.Decide.{dec_lt, ℕ_discrete}
-use native.Mathlib.Omega.{arith}
-use borrow.Author.Tests.{ltb-true, ltb-false, eqb-true}
-use Rattle.basics.specs.Pick.{pick}
-use Rattle.basics.proofs.Picks.{if_ne, if_lt, if_ge, by_test, never}
+use Rattle.basics.proofs.Common.{◌≡◌, ℕ, zero, suc, ◌+◌, ◌-◌, ◌*◌, ◌/◌, ◌%◌, ◌<◌, ◌≤◌, Some, refl, ap, ◌∙◌, arith, ltb-false, ltb-true, eqb-true, ℕ_discrete, dec_lt, pick, if_ne, if_lt, if_ge}
+use Rattle.basics.proofs.Common.{by_test, never}
 use Rattle.sizes.specs.Sizes.{non_participating, volume_classes}
-use Rattle.codes.specs.Codes.{guarantee_class, rank, Key}
-use Rattle.codes.specs.declared.Code.{Code}
-use Rattle.codes.specs.declared.Code.TheVariants.{Rsk, Oth, Mor, Vol, Acq, Gen, Crd}
+use Rattle.codes.specs.Codes.{sums_class, segregated_class, dividend_class, guarantee_class, rank, Key}
+use Rattle.codes.specs.declared.Code.{Code, TheVariants.Rsk, TheVariants.Oth, TheVariants.Mor, TheVariants.Vol, TheVariants.Acq, TheVariants.Gen, TheVariants.Crd}
 use Rattle.order.specs.Order.{order_base, key_of}
 use Rattle.places.proofs.Keys.{dividend_key}
-use Rattle.needs.specs.Needs.{label, segregated_class, volume_need, credit_need, need_of}
+use Rattle.needs.specs.Needs.{label, volume_need, credit_need, need_of}
 use Rattle.needs.specs.Needing.{last_mor, last_vol, last_acq, most_listed, needing}
 use Rattle.needs.specs.declared.Label.{Label}
-use Rattle.std.specs.Prelude.{Some}
 
 -- ---- which line has a number
 
 module _ (n : ℕ) where
-  pub is_mor : n ≤ last_mor → needing n ≡ label Mor n 1
+  pub is_mor : n ≤ last_mor → needing n ≡ label Mor n sums_class
   unfolding needing
   is_mor h =
       let x : n ≤ last_acq = omega arith in
@@ -40,7 +33,7 @@ module _ (n : ℕ) where
   unfolding needing
   is_acq l h = if_ge _ h ∙ if_lt _ l
 
-  pub is_crd : last_acq < n → needing n ≡ label Crd (n - last_acq + non_participating) 1
+  pub is_crd : last_acq < n → needing n ≡ label Crd (n - last_acq + non_participating) dividend_class
   unfolding needing
   is_crd l = if_lt _ l
 

@@ -1,21 +1,11 @@
 -- The listing is what is gathered of the lines that can need another, by their number: these ascend as the sheet's lines do, and each line that is
 -- listed is one of them. So it has at most a line for each. Assumes nothing.
 -- In order: what is gathered of numbers, by two tests; which lines are listed; the listing.
-use mathlib.Core.Path.{◌≡◌, refl, sym, ap, ◌∙◌}
-use mathlib.Core.Bool.{Bool, true, false, not}
-use mathlib.Core.List.{List, [], ◌∷◌, ◌++◌, append-nil}
-use Prim.Native.Nat.{ℕ, zero, suc, ◌≤◌, ◌<◌}
-use native.Mathlib.Decide.{ℕ_discrete}
-use native.Mathlib.Omega.{arith}
-use lib.Dec.{ltb}
-use lib.ListN.{length}
-use Rattle.basics.specs.Pick.{pick}
-use Rattle.basics.specs.Each.{Each}
-use Rattle.basics.specs.Ascending.{ascending}
+use Rattle.basics.proofs.Common.{◌≡◌, ℕ, zero, suc, ◌<◌, ◌≤◌, Bool, true, false, not, ltb, List, [], ◌∷◌, ◌++◌, length, Some, None, Option, sym, refl, ap, ◌∙◌, append-nil, arith, ℕ_discrete}
+use Rattle.basics.proofs.Common.{ascending, Each, pick, if_true, if_false, by_test, never}
 use Rattle.basics.proofs.Ascents.{most_ascending}
-use Rattle.basics.proofs.Picks.{if_true, if_false, by_test, never}
 use Rattle.codes.specs.Codes.{rank}
-use Rattle.codes.specs.declared.Code.{Code}
+use Rattle.codes.specs.declared.Code.{Code, TheVariants.Crd}
 use Rattle.codes.proofs.Table.{each_code, block_most}
 use Rattle.sheet_line.specs.Rules.{AcceptedLine}
 use Rattle.sheet_line.specs.declared.Entry.{Entry}
@@ -28,7 +18,6 @@ use Rattle.needs.specs.Needs.{label, label_for, need_of, met, all_zero, unmet_wi
 use Rattle.needs.specs.Listing.{listed_bytes, listed_for, line_for, listing}
 use Rattle.needs.specs.Needing.{most_listed, longest_listing, needing, line_at, listed_to}
 use Rattle.needs.specs.declared.Label.{Label}
-use Rattle.std.specs.Prelude.{Option, Some, None}
 use Rattle.needs.proofs.Labels.{length_listed}
 use Rattle.needs.proofs.LineNumbers.{key_at, rises, number_below, Placed, placed}
 
@@ -180,8 +169,8 @@ module _ (es : List Entry) where
 
 -- ---- the listing
 
-rank_most : (k : Code) → rank k ≤ 6
-rank_most = each_code (λ k. rank k ≤ 6) (omega arith)
+rank_most : (k : Code) → rank k ≤ rank Crd
+rank_most = each_code (λ k. rank k ≤ rank Crd) (omega arith)
 
 -- every key is below that of a line past the last one
 below_all : (es : List Entry) → Each AcceptedLine es → last_key es < key_at (suc most_listed)

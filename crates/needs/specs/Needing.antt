@@ -4,9 +4,10 @@ use Rattle.std.specs.Prelude.{List, ℕ, ◌+◌, ◌-◌, ◌*◌, ◌/◌, ◌
 use Rattle.basics.specs.Pick.{pick}
 use Rattle.basics.specs.Ascending.{ascending}
 use Rattle.sizes.specs.Sizes.{non_participating, participating, territories, volume_classes, volume_pairs}
+use Rattle.codes.specs.Codes.{sums_class, segregated_class, dividend_class}
 use Rattle.codes.specs.declared.Code.{Code}
 use Rattle.codes.specs.declared.Code.TheVariants.{Mor, Vol, Acq, Crd}
-use Rattle.needs.specs.Needs.{label, segregated_class, need_of, unmet_by}
+use Rattle.needs.specs.Needs.{label, need_of, unmet_by}
 use Rattle.needs.specs.Listing.{listed_bytes, listed_for}
 use Rattle.needs.specs.declared.Label.{Label}
 
@@ -33,10 +34,10 @@ longest_listing = listed_bytes * most_listed
 -- the lines by their number, from 1 on
 unfoldable pub needing : ℕ → Label
 needing n =
-    pick (ltb last_acq n) (label Crd (n - last_acq + non_participating) 1)
+    pick (ltb last_acq n) (label Crd (n - last_acq + non_participating) dividend_class)
     (pick (ltb last_vol n) (label Acq ((n - last_vol - 1) / volume_classes + 1) ((n - last_vol - 1) % volume_classes + 1))
     (pick (ltb last_mor n) (label Vol (n - last_mor) segregated_class)
-    (label Mor n 1)))
+    (label Mor n sums_class)))
 
 -- the line that the listing has for one of them
 abbrev pub line_at : ℕ → List ℕ

@@ -4,7 +4,7 @@
 use Rattle.std.specs.Prelude.{Bool, true, false, not, List, ℕ, Option, Some, None, ltb, eqb}
 use Rattle.basics.specs.Pick.{pick}
 use Rattle.basics.specs.First.{any_to}
-use Rattle.codes.specs.Codes.{risk_classes, guarantee_class}
+use Rattle.codes.specs.Codes.{risk_classes, mortality_risk_class, segregated_class, guarantee_class}
 use Rattle.codes.specs.declared.Code.{Code}
 use Rattle.codes.specs.declared.Code.TheVariants.{Rsk, Oth, Mor, Vol, Acq, Gen, Crd}
 use Rattle.sheet_line.specs.declared.Entry.{Entry}
@@ -19,14 +19,6 @@ label k b c = record { code = k; block = b; class = c }
 abbrev pub label_for : Entry → Label
 label_for e = label e.code e.block e.class
 
--- RSK's class of mortality
-abbrev pub mortality_class : ℕ
-mortality_class = 1
-
--- VOL's class of segregated funds with guarantees
-abbrev pub segregated_class : ℕ
-segregated_class = 5
-
 -- 'VOL class 5 needs GEN 2', which is of block 0
 unfoldable pub volume_need : ℕ → Option Label
 volume_need c = pick (eqb c segregated_class) (Some (label Gen 0 guarantee_class)) None
@@ -39,7 +31,7 @@ credit_need b = pick (eqb b 0) None (Some (label Rsk b 0))
 abbrev pub need_for : Code → ℕ → ℕ → Option Label
 need_for Rsk b c = None
 need_for Oth b c = None
-need_for Mor b c = Some (label Rsk b mortality_class)
+need_for Mor b c = Some (label Rsk b mortality_risk_class)
 need_for Vol b c = volume_need c
 need_for Acq b c = Some (label Vol b c)
 need_for Gen b c = None

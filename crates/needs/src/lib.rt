@@ -7,7 +7,9 @@ ghost use Rattle.codes.specs.Codes.{Key};
 ghost use Rattle.needs.specs.Needs.{need_of};
 ghost use Rattle.needs.specs.Needing.{most_listed, needing};
 
-use codes::{Code, GUARANTEE_CLASS};
+use codes::{
+    Code, DIVIDEND_CLASS, GUARANTEE_CLASS, MORTALITY_RISK_CLASS, SEGREGATED_CLASS, SUMS_CLASS,
+};
 use key_columns::KEY_BYTES;
 use sizes::{NON_PARTICIPATING, PARTICIPATING, TERRITORIES, VOLUME_CLASSES, VOLUME_PAIRS};
 
@@ -39,15 +41,6 @@ pub struct Need {
     pub ghost needed: { need_of line ≡ Some companion },
 }
 
-// RSK's class of mortality, which MOR needs.
-const MORTALITY_CLASS: usize = 1;
-
-// VOL's class of segregated funds with guarantees.
-const SEGREGATED_CLASS: usize = 5;
-
-// The class of MOR, and of CRD of a block, which have no other.
-const ONLY_CLASS: usize = 1;
-
 // The bytes of a line of the listing, its line feed with them.
 pub const LISTED_BYTES: usize = 2 * KEY_BYTES + 2;
 
@@ -76,7 +69,7 @@ pub fn needing(n: usize) -> Need
     if n > LAST_ACQ {
         // CRD of a block needs an RSK line of it, of whichever class
         let block = n - LAST_ACQ + NON_PARTICIPATING;
-        let line = Label::new(Code::Crd, block, ONLY_CLASS);
+        let line = Label::new(Code::Crd, block, DIVIDEND_CLASS);
         let companion = Label::new(Code::Rsk, block, 0);
         return Need { line, companion };
     }
@@ -96,7 +89,7 @@ pub fn needing(n: usize) -> Need
         return Need { line, companion };
     }
     // MOR needs RSK of mortality of its block
-    let line = Label::new(Code::Mor, n, ONLY_CLASS);
-    let companion = Label::new(Code::Rsk, n, MORTALITY_CLASS);
+    let line = Label::new(Code::Mor, n, SUMS_CLASS);
+    let companion = Label::new(Code::Rsk, n, MORTALITY_RISK_CLASS);
     Need { line, companion }
 }

@@ -1,10 +1,5 @@
 -- How a stretch of bytes comes to hold a line of two labels. Assumes nothing.
-use borrow.Rule.Slice.PartMut.{put_mid}
-use mathlib.Core.Path.{◌≡◌, refl}
-use mathlib.Core.List.{List, [], ◌∷◌, ◌++◌}
-use Prim.Native.Nat.{ℕ, ◌+◌}
-use lib.ListN.{length, get_or, set}
-use Rattle.basics.proofs.Values.{values, is_values}
+use Rattle.basics.proofs.Common.{◌≡◌, ℕ, ◌+◌, List, [], ◌∷◌, ◌++◌, length, get_or, set, refl, put_mid, is_values, values}
 use Rattle.key_columns.specs.Key.{key_bytes}
 use Rattle.needs.specs.Listing.{listed_bytes, label_of, listed_line}
 use Rattle.needs.specs.declared.Label.{Label}

@@ -1,17 +1,10 @@
 -- What tables are asked for: the RSK lines of a block, and a companion, which a line that tables can hold has. Assumes nothing.
-use Rattle.std.specs.Prelude.{Option, Some}
-use mathlib.Core.Path.{◌≡◌, refl, sym, ap, ◌∙◌}
-use mathlib.Core.Bool.{Bool, true, false, not}
-use Prim.Native.Nat.{ℕ, ◌≤◌}
-use native.Mathlib.Omega.{arith}
-use borrow.Author.Tests.{eqb-false}
-use Rattle.basics.proofs.Picks.{if_true, if_false, by_test, never}
+use Rattle.basics.proofs.Common.{◌≡◌, ℕ, ◌≤◌, Bool, true, false, not, Some, Option, sym, refl, ap, ◌∙◌, arith, eqb-false, if_true, if_false, by_test, never}
 use Rattle.sizes.specs.Sizes.{blocks}
-use Rattle.codes.specs.Codes.{risk_classes, guarantee_class, Key}
-use Rattle.codes.specs.declared.Code.{Code}
-use Rattle.codes.specs.declared.Code.TheVariants.{Rsk, Oth, Mor, Vol, Acq, Gen, Crd}
+use Rattle.codes.specs.Codes.{risk_classes, mortality_risk_class, guarantee_class, Key}
+use Rattle.codes.specs.declared.Code.{Code, TheVariants.Rsk, TheVariants.Oth, TheVariants.Mor, TheVariants.Vol, TheVariants.Acq, TheVariants.Gen, TheVariants.Crd}
 use Rattle.codes.proofs.Table.{block_most}
-use Rattle.needs.specs.Needs.{label, mortality_class, volume_need, credit_need, need_for, need_of, companion_serves, met, all_zero, unmet_with, unmet_by}
+use Rattle.needs.specs.Needs.{label, volume_need, credit_need, need_for, need_of, companion_serves, met, all_zero, unmet_with, unmet_by}
 use Rattle.needs.specs.declared.Label.{Label}
 use Rattle.needs_unmet.specs.Companions.{HasPlace}
 
@@ -46,7 +39,7 @@ module _ {m : Label} where
   companion_placed Oth b c v q = never (cc)
   companion_placed Gen b c v q = never (cc)
   companion_placed Mor b c v q =
-      let e : label Rsk b mortality_class ≡ m = cc in
+      let e : label Rsk b mortality_risk_class ≡ m = cc in
       rw (← e)
       (record {
         a_block = λ z. absurd (omega arith);

@@ -1,14 +1,5 @@
 -- What tables that hold a sheet's lines tell of a need is what the lines do. Assumes nothing.
-use Rattle.std.specs.Prelude.{Option, Some, None}
-use mathlib.Core.Path.{◌≡◌, refl, sym, ap, ◌∙◌}
-use mathlib.Core.Bool.{Bool, false, not}
-use mathlib.Core.List.{List}
-use Prim.Native.Nat.{ℕ}
-use native.Mathlib.Decide.{ℕ_discrete}
-use lib.Dec.{ltb}
-use Rattle.basics.specs.Pick.{pick}
-use Rattle.basics.proofs.Picks.{if_eq, if_ne}
-use Rattle.basics.proofs.Existence.{any_same}
+use Rattle.basics.proofs.Common.{◌≡◌, ℕ, Bool, false, not, ltb, List, Some, None, Option, sym, refl, ap, ◌∙◌, ℕ_discrete, pick, any_same, if_eq, if_ne}
 use Rattle.codes.specs.Codes.{risk_classes, Key}
 use Rattle.codes.specs.declared.Code.TheVariants.{Rsk}
 use Rattle.sheet_line.specs.declared.Entry.{Entry}

@@ -14,6 +14,8 @@ use places::{PLACES, SECOND_PLACES};
 
 // Whether the need of a line is unmet.
 // Kept: tables beside one another, which any caller may fill; a ledger would ask more of callers.
+// Kept: inlined, as the look-up of the companion is. Else the need is written to memory for each of 176 lines and read back (docs/DECISIONS.md).
+#[inline(always)]
 pub fn unmet(firsts: &[u64; PLACES], seconds: &[u64; SECOND_PLACES], need: Need) -> bool
     ensures { result ≡ unmet_by (tabled firsts.now) (tabled seconds.now) need.line }
 {
@@ -34,6 +36,7 @@ fn all_zero(first: u64, second: u64) -> bool
 
 // Whether a companion is there and its first amount isn't 0.
 // Kept: class 0 for whichever class there is, as `needs::needing` gives it.
+#[inline(always)]
 fn companion_serves(firsts: &[u64; PLACES], companion: Label) -> bool
     requires { HasPlace companion }
     ensures { result ≡ companion_serves (tabled firsts.now) companion }

@@ -1,17 +1,9 @@
 -- The operational call accepts just what rules 15 and 7 leave. What it gives is walked rule by rule; where all numbers are known to pass, no
 -- rule finds one. Assumes nothing.
-use mathlib.Core.Path.{◌≡◌, refl, ◌∙◌}
-use mathlib.Core.List.{List, [], ◌∷◌, ◌++◌}
-use Prim.Native.Nat.{ℕ, ◌+◌, ◌%◌, ◌≤◌}
-use native.Mathlib.Decide.{dec_le}
-use native.Mathlib.Omega.{arith}
-use lib.ListN.{length, get_or, get_or-append, get_or-eq_default}
-use lib.Seq.{get_or-append-add}
-use borrow.Author.Tests.{ltb-false, eqb-true}
-use Rattle.basics.proofs.Picks.{by_test}
-use Rattle.refusal.specs.Outcome.{Outcome}
-use Rattle.refusal.specs.Outcome.Outcome.{accepted}
-use Rattle.refusal.proofs.Accepted.{RulesFollowed, accepts_just}
+use Rattle.basics.proofs.Common.{◌≡◌, ℕ, ◌+◌, ◌%◌, ◌≤◌, List, [], ◌∷◌, ◌++◌, length, get_or, refl, ◌∙◌, arith, get_or-append-add, ltb-false, eqb-true, dec_le, get_or-eq_default, get_or-append}
+use Rattle.basics.proofs.Common.{by_test}
+use Rattle.refusal.specs.Outcome.{Outcome, Outcome.accepted}
+use Rattle.refusal.proofs.Acceptance.{RulesFollowed, accepts_just}
 use Rattle.amount.specs.Amount.{limit}
 use Rattle.amount.specs.Rule7.{rule7}
 use Rattle.amount.proofs.Amounts.{all_within}

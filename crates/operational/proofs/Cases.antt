@@ -1,13 +1,7 @@
 -- The operational call at volumes and general figures that its rules turn away, most of them by two: 15 comes before 7, and positions run through
 -- both. Computed. Assumes nothing.
-use mathlib.Core.Path.{◌≡◌, refl}
-use mathlib.Core.List.{List, [], ◌∷◌}
-use Prim.Native.Nat.{ℕ}
-use lib.ListN.{replicate, set}
-use Rattle.basics.specs.Pick.{pick}
-use Rattle.basics.specs.First.{first_from}
-use Rattle.refusal.specs.Outcome.{Outcome}
-use Rattle.refusal.specs.Outcome.Outcome.{refused}
+use Rattle.basics.proofs.Common.{◌≡◌, ℕ, List, [], ◌∷◌, set, replicate, refl, first_from, pick}
+use Rattle.refusal.specs.Outcome.{Outcome, Outcome.refused}
 use Rattle.refusal.specs.declared.Place.TheVariants.{Position, Nowhere}
 use Rattle.amount.specs.Amount.{first_above}
 use Rattle.amount.specs.Rule7.{rule7}

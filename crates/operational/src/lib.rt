@@ -1,7 +1,7 @@
 // The operational call: chapter 8 for all territories.
 #![tactic(auto)]
 
-ghost use Rattle.std.specs.Prelude.{◌≡◌, ℕ, ◌+◌, ◌-◌, ◌*◌, ◌≤◌, leb, length, get_or};
+ghost use Rattle.std.specs.Prelude.{◌≡◌, ℕ, ◌+◌, ◌-◌, ◌*◌, ◌^◌, ◌≤◌, ◌<◌, leb, length};
 ghost use Rattle.basics.specs.Least.{least};
 ghost use Rattle.refusal.specs.Outcome.{stated_number};
 ghost use Rattle.amount.specs.Amount.{limit};
@@ -35,23 +35,31 @@ pub fn operational_call(volumes: &[u64], general: &[u64; GENERAL_FIGURES]) -> Re
 }
 
 // RO. Its numerator, over 50,000, just fits a word: for 16 territories it is below 1.67 × 10^19.
-pub fn operational(volumes: &[u64], general: &[u64; GENERAL_FIGURES]) -> u64
+fn operational(volumes: &[u64], general: &[u64; GENERAL_FIGURES]) -> u64
     requires { OperationalAmounts volumes.now general.now }
     ensures { result ≡ RO volumes.now general.now }
 {
-    rounded_up(business(volumes) + 5 * general_requirement(general))
+    figure_of(volume_and_growth(volumes), general)
+}
+
+// RO, by volume and growth, over 50,000: the general requirement is added, and the sum rounded.
+pub fn figure_of(volume_and_growth: u64, general: &[u64; GENERAL_FIGURES]) -> u64
+    requires { volume_and_growth + 5 * general_requirement general.now < 2 ^ 64 }
+    ensures { result ≡ least (λ x. leb (volume_and_growth + 5 * general_requirement general.now) (operational_denominator * x)) }
+{
+    rounded_up(volume_and_growth + 5 * general_requirement(general))
 }
 
 // The general requirement, over 10,000.
 fn general_requirement(figures: &[u64; GENERAL_FIGURES]) -> u64
-    requires { (get_or figures.now 0 0 ≤ limit) × (get_or figures.now 1 0 ≤ limit) × (get_or figures.now 2 0 ≤ limit) }
+    requires { general_requirement figures.now < 2 ^ 64 }
     ensures { result ≡ general_requirement figures.now }
 {
     575 * figures[0] + 450 * figures[1] + 250 * figures[2]
 }
 
 // Volume and growth of all classes of all territories, over 50,000.
-fn business(volumes: &[u64]) -> u64
+fn volume_and_growth(volumes: &[u64]) -> u64
     requires most_volumes { length volumes.now ≤ volume_numbers }
     requires within_limit { ((k : ℕ) → current volumes.now k ≤ limit) × ((k : ℕ) → prior volumes.now k ≤ 2 * limit) }
     ensures { result ≡ 5 * volume volumes.now + growth volumes.now }
@@ -68,15 +76,10 @@ fn business(volumes: &[u64]) -> u64
 }
 
 // A class in a territory, over 50,000. The excess over 120 % of the prior volume is in fifths, so that none is lost.
-// A class without current volume has no charge. It is tested first, since an absent line means zeros and most territories of a small society have
-// no line.
-fn charge(factor: u64, current: u64, prior: u64) -> u64
+pub fn charge(factor: u64, current: u64, prior: u64) -> u64
     requires { (factor ≤ largest_factor) × (current ≤ limit) × (prior ≤ 2 * limit) }
     ensures { result ≡ factor * (5 * current + (5 * current - 6 * prior)) }
 {
-    if current == 0 {
-        return 0;
-    }
     factor * (5 * current + amount::excess(5 * current, 6 * prior))
 }
 

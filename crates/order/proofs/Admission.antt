@@ -1,13 +1,6 @@
 -- What admits a line after others: of an admitted one that it did not stand before and comes after the last, of a refused one that its rule
 -- has a number of those that judging refuses by. Assumes nothing.
-use Rattle.std.specs.Prelude.{Result, Ok, Err}
-use mathlib.Core.Path.{◌≡◌, refl, sym, ◌∙◌, subst}
-use mathlib.Core.Bool.{Bool, true, false}
-use mathlib.Core.List.{List}
-use Prim.Native.Nat.{ℕ, ◌≤◌, ◌<◌}
-use lib.ListN.{get_or, set}
-use borrow.Author.Tests.{ltb-true}
-use Rattle.basics.proofs.Picks.{if_true, if_false, if_lt, if_ge, by_test, never}
+use Rattle.basics.proofs.Common.{◌≡◌, ℕ, ◌<◌, ◌≤◌, Bool, true, false, List, get_or, set, Ok, Err, Result, sym, refl, ◌∙◌, subst, ltb-true, if_true, if_false, if_lt, if_ge, by_test, never}
 use Rattle.refusal.specs.Outcome.{rule_number, Judging, judging}
 use Rattle.refusal.specs.declared.Rule.{Rule}
 use Rattle.refusal.specs.declared.Rule.TheVariants as rule

@@ -1,12 +1,5 @@
 -- Lines that ascend: none of them has a key above the last one's, and two such lists with the same figures are one list. Assumes nothing.
-use mathlib.Core.Path.{◌≡◌, refl, sym, ap, ◌∙◌, subst}
-use mathlib.Core.List.{List, [], ◌∷◌}
-use mathlib.Core.Bool.{Bool, true, false}
-use Prim.Native.Nat.{ℕ, ◌<◌}
-use native.Mathlib.Omega.{arith}
-use lib.Dec.{ltb}
-use Rattle.basics.specs.Each.{Each}
-use Rattle.basics.proofs.Picks.{if_true, if_false, never}
+use Rattle.basics.proofs.Common.{◌≡◌, ℕ, ◌<◌, Bool, true, false, ltb, List, [], ◌∷◌, sym, refl, ap, ◌∙◌, subst, arith, Each, if_true, if_false, never}
 use Rattle.codes.specs.Codes.{rank, Key}
 use Rattle.codes.proofs.Table.{rank_one}
 use Rattle.sheet_line.specs.Rules.{AcceptedLine}

@@ -2,17 +2,8 @@
 -- nothing.
 -- In order: a line more; what holds of the lines that were read: what each new line keeps; a reading is stopped by the number of a rule, at a line of
 -- the sheet; a loop over the lines, after i of them.
-use Rattle.std.specs.Prelude.{Result, Ok, Err}
-use mathlib.Core.Path.{◌≡◌, refl, sym, ap, ◌∙◌}
-use mathlib.Core.List.{List, [], ◌∷◌}
-use mathlib.Core.Bool.{Bool, false}
-use Prim.Native.Nat.{ℕ, zero, suc, ◌+◌, ◌-◌, ◌*◌, ◌≤◌, ◌<◌}
-use native.Mathlib.Numerals.{add-one}
-use native.Mathlib.Omega.{arith}
-use lib.ListN.{length, take, drop, length-drop}
-use lib.Seq.{drop-drop, length-take-le}
-use Rattle.basics.specs.Each.{Each}
-use Rattle.basics.proofs.Picks.{never}
+use Rattle.basics.proofs.Common.{◌≡◌, ℕ, zero, suc, ◌+◌, ◌-◌, ◌*◌, ◌<◌, ◌≤◌, Bool, false, List, [], ◌∷◌, length, take, drop, Ok, Err, Result, sym, refl, ap, ◌∙◌, add-one, arith, length-drop}
+use Rattle.basics.proofs.Common.{length-take-le, drop-drop, Each, never}
 use Rattle.refusal.specs.Outcome.{rule_number, Judging}
 use Rattle.layout.specs.Columns.{sheet_line_bytes}
 use Rattle.layout.specs.Whole.{whole_lines, line_at}
@@ -24,8 +15,7 @@ use Rattle.sheet_line.proofs.Acceptance.{line_good}
 use Rattle.sheet_line.proofs.Refusals.{line_judging}
 use Rattle.places.specs.Entries.{DistinctKeys}
 use Rattle.order.specs.Order.{key_for, last_key, Ascending, Keyed, admitted, Admits}
-use Rattle.order.specs.Reading.{Reading, stood_in, line_after, on_line, read_from, reading_by, untested, reading, entries_of}
-use Rattle.order.specs.Reading.Reading.{complete, stopped}
+use Rattle.order.specs.Reading.{Reading, Reading.complete, Reading.stopped, stood_in, line_after, on_line, read_from, reading_by, untested, reading, entries_of}
 use Rattle.places.specs.Marks.{marks_of, has_mark}
 use Rattle.places.proofs.Keys.{New, distinct}
 use Rattle.order.proofs.Admission.{good_admitted, refused_admitted}
@@ -172,10 +162,10 @@ keyed (Err r) a = tt
 keyed (Ok e) a = (a e refl).key
 
 -- the marks of the lines seen say of a line what those lines do
-marks_tell : (seen : List Entry) → Each AcceptedLine seen → (m : List Bool) → m ≡ marks_of seen → (last : ℕ) → last ≡ last_key seen → (l : Result Entry Rule) → Keyed l
+marks_serve : (seen : List Entry) → Each AcceptedLine seen → (m : List Bool) → m ≡ marks_of seen → (last : ℕ) → last ≡ last_key seen → (l : Result Entry Rule) → Keyed l
     → admitted (λ e. has_mark m e.code e.block e.class) last l ≡ line_after seen l
-marks_tell seen all m p last q (Err r) k = refl
-marks_tell seen all m p last q (Ok e) k =
+marks_serve seen all m p last q (Err r) k = refl
+marks_serve seen all m p last q (Ok e) k =
     rw (p, q, mark_table seen all e.code e.block e.class k)
 
 module _ {parse : List ℕ → Result Entry Rule} {test : Result Entry Rule → Result Entry Rule} (R : Reads parse test)
@@ -196,7 +186,7 @@ module _ {parse : List ℕ → Result Entry Rule} {test : Result Entry Rule → 
           ≡ on_line (test r) (i + 1) seen (λ t. read_from parse test (whole_lines s - (i + 1)) (i + 1 + 1) (drop (sheet_line_bytes * (i + 1)) s) t)
       more =
           let l : r ≡ line_after seen (parse (line_at s i)) =
-          A.line ∙ marks_tell seen B.all m B.marks last B.key (parse (line_at s i)) line_keyed in
+          A.line ∙ marks_serve seen B.all m B.marks last B.key (parse (line_at s i)) line_keyed in
           sym B.rest ∙ read_more parse test s (whole_lines s) i seen h ∙ rw (← l)
 
       pub admitted_good : {e : Entry} → r ≡ Ok e → AcceptedLine e

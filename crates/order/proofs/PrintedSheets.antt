@@ -1,17 +1,8 @@
 -- A sheet whose lines are all good is the bytes of its lines, and the bytes of lines that each are good and ascend are read as those lines. So two
 -- sheets with the same lines are the same bytes, and, as lines ascend, two with the same figures are. Assumes nothing.
 -- In order: what is read is printed; what is printed is read; a sheet's own lines, and what follows.
-use Rattle.std.specs.Prelude.{Result, Ok}
-use mathlib.Core.Path.{◌≡◌, refl, sym, ap, ◌∙◌}
-use mathlib.Core.Logic.{◌↔◌}
-use mathlib.Core.List.{List, [], ◌∷◌, ◌++◌, append_assoc, append-nil}
-use Prim.Native.Nat.{ℕ, zero, suc, ◌+◌, ◌*◌, ◌/◌, ◌%◌}
-use native.Mathlib.Omega.{arith}
-use lib.Dec.{ltb}
-use lib.ListN.{length, take, drop, take-append-drop, length-drop, length-append}
-use lib.Seq.{length-take-le, take_at, drop_at}
-use Rattle.basics.specs.Each.{Each}
-use Rattle.basics.proofs.Picks.{if_false, if_lt, never}
+use Rattle.basics.proofs.Common.{◌≡◌, ℕ, zero, suc, ◌+◌, ◌*◌, ◌/◌, ◌%◌, ltb, ◌↔◌, List, [], ◌∷◌, ◌++◌, length, take, drop, Ok, Result, sym, refl, ap, ◌∙◌, append_assoc, append-nil, arith}
+use Rattle.basics.proofs.Common.{length-append, length-drop, take-append-drop, length-take-le, take_at, drop_at, Each, if_false, if_lt, never}
 use Rattle.layout.specs.Columns.{sheet_line_bytes}
 use Rattle.layout.specs.Whole.{whole_lines}
 use Rattle.sheet_line.specs.Line.{print_line}
@@ -21,8 +12,7 @@ use Rattle.sheet_line.specs.declared.Entry.{Entry}
 use Rattle.sheet_line.proofs.PrintedLines.{length_print, parse_print, print_parsed}
 use Rattle.places.specs.Entries.{mark_of}
 use Rattle.order.specs.Order.{SameFigures, Ascending, rule11, rule19}
-use Rattle.order.specs.Reading.{line_after, read_from, reading_by, untested, reading, print_by, print_lines}
-use Rattle.order.specs.Reading.Reading.{complete}
+use Rattle.order.specs.Reading.{line_after, read_from, reading_by, untested, reading, print_by, print_lines, Reading.complete}
 use Rattle.order.proofs.Ascent.{none_above, same_lines}
 use Rattle.order.proofs.Lines.{on_good, by_line, Reads, Passes, own, next_line, all_read, reading_ascending}
 

@@ -17,6 +17,7 @@ const ORDER_BASE: u64 = 128;
 //
 // Kept: 0 for no last key. No key is 0, so that one comparison serves the first line too; an Option would be no plainer.
 // Kept: inlined. The ledger works the line's place out too, and the compiler makes one of both where this is taken in.
+#[tactic(auto, using(crate::proofs::Admission::stands_marked))]
 #[inline(always)]
 pub fn admit(
     line: Result<Entry, Rule>,

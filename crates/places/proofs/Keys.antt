@@ -1,18 +1,10 @@
 -- An entry has a code, block and class where the test says so; and lines that were each new when they were read have distinct keys. Assumes nothing.
-use mathlib.Core.Path.{◌≡◌, refl, sym, ap, ◌∙◌}
-use mathlib.Core.List.{List, [], ◌∷◌}
-use mathlib.Core.Bool.{Bool, true, false}
-use Prim.Native.Nat.{ℕ, zero, suc, ◌≤◌, ◌<◌}
-use native.Mathlib.Omega.{arith}
-use lib.Dec.{ltb}
-use lib.ListN.{length, get_or}
-use borrow.Author.Tests.{eqb-true, eq-eqb}
-use Rattle.basics.proofs.Picks.{if_true, if_false, if_eq, by_test, never}
+use Rattle.basics.proofs.Common.{◌≡◌, ℕ, zero, suc, ◌<◌, ◌≤◌, Bool, true, false, ltb, List, [], ◌∷◌, length, get_or, sym, refl, ap, ◌∙◌, arith, eq-eqb, eqb-true, if_true, if_false, if_eq, by_test}
+use Rattle.basics.proofs.Common.{never}
 use Rattle.sizes.specs.Sizes.{non_participating, blocks}
-use Rattle.codes.specs.Codes.{rank, Key}
+use Rattle.codes.specs.Codes.{dividend_class, rank, Key}
 use Rattle.codes.proofs.Table.{rank_one}
-use Rattle.codes.specs.declared.Code.{Code}
-use Rattle.codes.specs.declared.Code.TheVariants.{Crd}
+use Rattle.codes.specs.declared.Code.{Code, TheVariants.Crd}
 use Rattle.sheet_line.specs.declared.Entry.{Entry}
 use Rattle.places.specs.Entries.{has_key, lookup, has_line, SameKey, DistinctKeys}
 
@@ -89,6 +81,6 @@ distinct es n = record { one_place = one_place es n; found = found es n }
 -- ---- a place of CRD
 
 -- a participating block's
-pub dividend_key : (b : ℕ) → non_participating < b → b ≤ blocks → Key Crd b 1
+pub dividend_key : (b : ℕ) → non_participating < b → b ≤ blocks → Key Crd b dividend_class
 dividend_key zero h l = absurd (omega arith)
 dividend_key (suc b) h l = record { low = h; high = l; one = omega arith; most = omega arith }

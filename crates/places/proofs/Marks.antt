@@ -1,34 +1,22 @@
 -- The marks of entries: one for each line, and one among those of a block's RSK and OTH lines where the block exists. Assumes nothing.
 -- In order: a mark stands where a line does; the marks of a code and block; whether a block exists.
-use mathlib.Core.Path.{◌≡◌, refl, sym, ap, ◌∙◌}
-use mathlib.Core.List.{List, [], ◌∷◌}
-use mathlib.Core.Bool.{Bool, true, false, ◌||◌}
-use Prim.Native.Nat.{ℕ, zero, suc, ◌+◌, ◌-◌, ◌≤◌, ◌<◌}
-use native.Mathlib.Decide.{ℕ_discrete}
+use Rattle.basics.proofs.Common.{◌≡◌, ℕ, zero, suc, ◌+◌, ◌-◌, ◌<◌, ◌≤◌, Bool, true, false, ◌||◌, eqb, ltb, List, [], ◌∷◌, length, take, drop, fold, sym, refl, ap, ◌∙◌, add-one, arith, length-drop}
+use Rattle.basics.proofs.Common.{length-set, get_or-drop, get_or-set_other, get_or-set_same, le-ltb, lt-ltb, ℕ_discrete, length-replicate, get_or-replicate, Each, any_to, pick, any_same, if_true}
+use Rattle.basics.proofs.Common.{if_false, if_eq, if_ne}
 use native.Mathlib.Nat.{add-sub_cancel_left}
-use native.Mathlib.Numerals.{add-one}
-use native.Mathlib.Omega.{arith}
-use lib.Dec.{eqb, ltb}
-use lib.ListN.{length, take, drop, length-set, length-replicate, length-drop, get_or-replicate}
-use lib.Seq.{get_or-set_same, get_or-set_other, get_or-drop}
-use Rattle.std.specs.List.{fold}
 use Rattle.std.proofs.lemmas.List.Sums.{fold_more}
-use Rattle.basics.specs.Pick.{pick}
-use Rattle.basics.specs.Each.{Each}
-use Rattle.basics.specs.First.{any_to}
-use Rattle.basics.proofs.Picks.{if_true, if_false, if_eq, if_ne, never}
-use Rattle.basics.proofs.Existence.{one_of, any_same}
+use Rattle.basics.proofs.Existence.{one_of}
 use Rattle.sizes.specs.Sizes.{blocks}
-use Rattle.codes.specs.Codes.{risk_classes, other_classes, row_of, Key}
+use Rattle.codes.specs.Codes.{risk_classes, other_classes, row_of, rank, Key}
+use Rattle.codes.proofs.Table.{rows_same, rank_of_row, rank_one}
 use Rattle.sheet_line.specs.Rules.{AcceptedLine}
-use Rattle.codes.specs.declared.Code.{Code}
-use Rattle.codes.specs.declared.Code.TheVariants.{Rsk, Oth, Mor, Vol, Acq, Gen, Crd}
+use Rattle.codes.specs.declared.Code.{Code, TheVariants.Rsk, TheVariants.Oth}
 use Rattle.sheet_line.specs.declared.Entry.{Entry}
 use Rattle.places.specs.Entries.{lookup, has_line, SameKey, exists}
 use Rattle.places.specs.Places.{places, index_of, index_for}
 use Rattle.places.specs.Marks.{marks_of, has_mark, block_marked}
 use Rattle.places.proofs.Keys.{has_key_lem, no_key}
-use Rattle.places.proofs.Indexes.{place_most, index_most, index_one, other_key}
+use Rattle.places.proofs.Indexes.{index_most, index_one, other_key}
 
 -- ---- a mark stands where a line does
 
@@ -81,7 +69,7 @@ classes_marked m k b n {first} e h = rw (add-sub_cancel_left first n, e) (joined
 -- the places of a code and block up to a class
 pub classes_most : (k : Code) (b n : ℕ) → Key k b n → index_of k b 1 + n ≤ places
 unfolding index_of
-classes_most k b n v = omega (arith, place_most k b n v)
+classes_most k b n v = omega (arith, index_most k b n v, v.one)
 
 -- ---- whether a block exists
 
@@ -107,10 +95,9 @@ unfolding pick
 either_true true = refl
 either_true false = refl
 
--- CRD's lines make none exist
-no_credit_block : (b : ℕ) → (row_of Crd b).makes_block ≡ false
-no_credit_block zero = refl
-no_credit_block (suc b) = refl
+-- the codes whose lines make their block exist are the first two
+makes : (k : Code) (b : ℕ) → (row_of k b).makes_block ≡ ltb (rank k) 2
+makes k b = rows_same (λ r. r.makes_block) (λ r. ltb r.rank 2) refl k b ∙ ap (λ (n : ℕ). ltb n 2) (rank_of_row k b)
 
 module _ (e : Entry) (es : List Entry) (b : ℕ) (a : AcceptedLine e) where
   -- a line of neither
@@ -118,38 +105,39 @@ module _ (e : Entry) (es : List Entry) (b : ℕ) (a : AcceptedLine e) where
   unfolding block_lined
   lined_out o p = rw (any_out e es b Rsk risk_classes o, any_out e es b Oth other_classes p)
 
-  -- one of another code than these
-  other_code : (k : Code) → k ≡ e.code → (Rsk ≡ k → ⊥) → (Oth ≡ k → ⊥) → block_lined es b ≡ block_lined (e ∷ es) b
-  other_code k q o p = sym (lined_out (λ c s. o (s.code ∙ sym q)) (λ c s. p (s.code ∙ sym q)))
-
   -- one of another block
   other_block : (e.block ≡ b → ⊥) → block_lined es b ≡ block_lined (e ∷ es) b
   other_block n = sym (lined_out (λ c s. n (sym s.block)) (λ c s. n (sym s.block)))
 
-  line_more : (k : Code) → k ≡ e.code → pick (row_of k e.block).makes_block (pick (eqb e.block b) true (block_lined es b)) (block_lined es b) ≡ block_lined (e ∷ es) b
+  abbrev Step : Type 0
+  Step = pick (row_of e.code e.block).makes_block (pick (eqb e.block b) true (block_lined es b)) (block_lined es b) ≡ block_lined (e ∷ es) b
+
+  -- one of a code that makes its block exist
+  of_block : rank e.code < 2 → (b ≡ e.block → block_lined (e ∷ es) b ≡ true) → Step
+  of_block l h =
+      if_true _ (makes e.code e.block ∙ lt-ltb _ _ l)
+      ∙ elim (ℕ_discrete e.block b) [
+        | yes p ↦ if_eq _ p ∙ sym (h (sym p))
+        | no n ↦ if_ne _ n ∙ other_block n
+      ]
+
+  line_more : Step
   unfolding block_lined
-  line_more Rsk q =
-      if_true _ refl
-      ∙ elim (ℕ_discrete e.block b) [
-        | yes p ↦ if_eq _ p ∙ sym (if_true _ (any_in e es b Rsk a q (sym p)))
-        | no n ↦ if_ne _ n ∙ other_block n
+  line_more =
+      elim (ℕ_discrete (rank Rsk) (rank e.code)) [
+        | yes x ↦ of_block (omega arith) (λ p. if_true _ (any_in e es b Rsk a (rank_one Rsk e.code x) p))
+        | no x ↦ elim (ℕ_discrete (rank Oth) (rank e.code)) [
+          | yes y ↦ of_block (omega arith) (λ p. rw (any_in e es b Oth a (rank_one Oth e.code y) p) (either_true _))
+          | no y ↦
+              if_false _ (makes e.code e.block ∙ le-ltb _ _ (omega arith))
+              ∙ sym (lined_out (λ c s. x (ap rank s.code)) (λ c s. y (ap rank s.code)))
+        ]
       ]
-  line_more Oth q =
-      if_true _ refl
-      ∙ elim (ℕ_discrete e.block b) [
-        | yes p ↦ if_eq _ p ∙ sym (rw (any_in e es b Oth a q (sym p)) (either_true _))
-        | no n ↦ if_ne _ n ∙ other_block n
-      ]
-  line_more Mor q = if_false _ refl ∙ other_code Mor q (λ z. never (cc)) (λ z. never (cc))
-  line_more Vol q = if_false _ refl ∙ other_code Vol q (λ z. never (cc)) (λ z. never (cc))
-  line_more Acq q = if_false _ refl ∙ other_code Acq q (λ z. never (cc)) (λ z. never (cc))
-  line_more Gen q = if_false _ refl ∙ other_code Gen q (λ z. never (cc)) (λ z. never (cc))
-  line_more Crd q = if_false _ (no_credit_block e.block) ∙ other_code Crd q (λ z. never (cc)) (λ z. never (cc))
 
 exists_lined : (es : List Entry) (b : ℕ) → Each AcceptedLine es → exists es b ≡ block_lined es b
 unfolding exists block_lined lookup any_to pick
 exists_lined [] b all = refl
-exists_lined (e ∷ es) b all = rw (exists_lined es b all.1) (line_more e es b all.0 e.code refl)
+exists_lined (e ∷ es) b all = rw (exists_lined es b all.1) (line_more e es b all.0)
 
 pub exists_table : (es : List Entry) (b : ℕ) → Each AcceptedLine es → (1 ≤ b) × (b ≤ blocks) → block_marked (marks_of es) b ≡ exists es b
 unfolding block_lined

@@ -2,15 +2,8 @@
 -- the longest output, so that with room for that the call never refuses. Assumes nothing.
 -- In order: the text that was worked out, n bytes in front of an output; what its summary says; its length; it refuses by 14 alone, and only where
 -- its text is longer than the room.
-use mathlib.Core.Path.{◌≡◌, refl, sym, ap, subst, subst⁻¹, ◌∙◌}
-use mathlib.Core.List.{List, [], ◌∷◌, ◌++◌}
-use Prim.Native.Nat.{ℕ, suc, ◌≤◌, ◌<◌}
-use native.Mathlib.Omega.{arith}
-use lib.ListN.{length, take, drop, length-append, length-take}
-use lib.Seq.{take_at}
-use Rattle.basics.proofs.Picks.{by_test, never}
-use Rattle.refusal.specs.Outcome.{printed}
-use Rattle.refusal.specs.Outcome.Outcome.{accepted, refused}
+use Rattle.basics.proofs.Common.{◌≡◌, ℕ, suc, ◌<◌, ◌≤◌, List, [], ◌∷◌, ◌++◌, length, take, drop, sym, refl, ap, ◌∙◌, subst, arith, length-append, length-take, take_at, subst⁻¹, by_test, never}
+use Rattle.refusal.specs.Outcome.{printed, Outcome.accepted, Outcome.refused}
 use Rattle.refusal.specs.declared.Place.{Place}
 use Rattle.refusal.specs.declared.Place.TheVariants as place
 use Rattle.judgement.specs.Judgement.{judgement}
@@ -18,8 +11,7 @@ use Rattle.report_line.specs.declared.Row.{Row}
 use Rattle.report_line.specs.Line.{row_in, rows_in}
 use Rattle.report_line.proofs.Readback.{length_in_lem, append_in}
 use Rattle.report.proofs.Items.{items_in_long}
-use Rattle.text_answer.specs.Lent.{Done, TooLong, untouched}
-use Rattle.text_answer.specs.Lent.Text.{bytes}
+use Rattle.text_answer.specs.Lent.{Done, TooLong, untouched, Text.bytes}
 use Rattle.text_answer.specs.Printing.{REF, refusal_row, Printed}
 use Rattle.text_answer.proofs.LentRoom as lent
 use Rattle.quarter_stream.specs.Sheets.{Sheets, sheets_of}

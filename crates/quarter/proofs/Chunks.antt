@@ -1,20 +1,13 @@
 -- A chunk taken sheet after sheet, whichever bytes came before it. Assumes nothing.
 -- In order: of the bytes s and a chunk, up to a place of the chunk; the loop; a state that has more than 60 sheets already.
-use borrow.Rule.Slice.PartMut.{put_mid}
-use mathlib.Core.Path.{◌≡◌, refl, sym, ap, subst, ◌∙◌}
-use mathlib.Core.List.{List, ◌++◌, append_assoc, append-nil}
-use Prim.Native.Nat.{ℕ, ◌+◌, ◌-◌, ◌≤◌, ◌<◌}
-use native.Mathlib.Omega.{arith}
-use lib.ListN.{length, take, drop, drop_of_length-le}
-use Rattle.std.specs.Prelude.{Option, Some, None}
-use Rattle.basics.proofs.Stretches.{behind, put_behind, from_further}
+use Rattle.basics.proofs.Common.{◌≡◌, ℕ, ◌+◌, ◌-◌, ◌<◌, ◌≤◌, List, ◌++◌, length, take, drop, Some, None, Option, ControlFlow, Continue, Break, sym, refl, ap, ◌∙◌, subst, append_assoc, append-nil}
+use Rattle.basics.proofs.Common.{arith, drop_of_length-le, put_mid, put_behind, from_further}
+use Rattle.basics.proofs.Stretches.{behind}
 use Rattle.judgement.specs.Judgement.{judgement}
 use Rattle.report_line.specs.Line.{line_bytes, row_in}
 use Rattle.quarter_stream.specs.Steps.{Within, NewSheet, ScannedTo}
 use Rattle.quarter_stream.specs.declared.OpenSheet.{OpenSheet}
 use Rattle.quarter_stream.specs.declared.Closed.{Closed}
-use Rattle.std.specs.declared.ops.ControlFlow.{ControlFlow}
-use Rattle.std.specs.declared.ops.ControlFlow.TheVariants.{Continue, Break}
 use Rattle.summary.specs.Summaries.{summary_of}
 use Rattle.summary.specs.declared.Accepted.{Accepted}
 use Rattle.summary.specs.declared.Summary.{Summary}

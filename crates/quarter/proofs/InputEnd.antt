@@ -1,16 +1,7 @@
 -- The end of an input: what follows the lines of the sheets, and that with them it is the whole text. Assumes nothing.
 -- In order: the room that is left; the text; what it ends with; the three ends.
-use borrow.Rule.Slice.PartMut.{put_mid}
-use mathlib.Core.Path.{◌≡◌, refl, sym, ap, ◌∙◌}
-use Rattle.std.specs.Prelude.{Some, None, is_none}
-use mathlib.Core.List.{List, [], ◌∷◌, ◌++◌}
-use Prim.Native.Nat.{ℕ, suc, ◌+◌, ◌-◌, ◌≤◌}
-use native.Mathlib.Omega.{arith}
-use borrow.Author.Tests.{ltb-true}
-use lib.ListN.{length, take, drop, length-take}
-use lib.Seq.{length-take-le, take_at}
-use Rattle.basics.proofs.Picks.{if_true}
-use Rattle.basics.proofs.Stretches.{put_behind, stretch_long}
+use Rattle.basics.proofs.Common.{◌≡◌, ℕ, suc, ◌+◌, ◌-◌, ◌≤◌, List, [], ◌∷◌, ◌++◌, length, take, drop, is_none, Some, None, sym, refl, ap, ◌∙◌, arith, length-take, length-take-le, take_at, ltb-true}
+use Rattle.basics.proofs.Common.{put_mid, if_true, put_behind, stretch_long}
 use Rattle.refusal.specs.declared.Place.TheVariants as place
 use Rattle.text_answer.specs.Printing.{REF, refusal_row, Printed}
 use Rattle.report_line.specs.Line.{line_bytes, row_in, rows_in}

@@ -1,28 +1,19 @@
 -- An input of which there are not more than 60 sheets so far, taken sheet after sheet: a chunk goes on with the open sheet, closes it, or brings a byte
 -- after the 60th closing line. The sheets are held cut at the room, which changes no line. Assumes nothing.
 -- In order: so far; a chunk more; what there was more than 60 sheets of already.
-use borrow.Rule.Slice.PartMut.{put_mid}
-use mathlib.Core.Path.{◌≡◌, refl, sym, ap, subst, ◌∙◌}
-use mathlib.Core.List.{List, [], ◌∷◌, ◌++◌, map, append-nil}
-use Prim.Native.Nat.{ℕ, suc, ◌+◌, ◌-◌, ◌≤◌, ◌<◌}
-use native.Mathlib.Omega.{arith}
-use lib.Dec.{ltb}
-use Rattle.std.specs.Prelude.{Option, Some, None, is_none, IfSome}
-use borrow.Author.Tests.{ltb-true, ltb-false, le-ltb, lt-ltb}
-use lib.ListN.{length, get_or, take, drop, length-map, length-append}
-use lib.Seq.{take-nil, length-take-le, drop-cons}
-use Rattle.basics.proofs.Stretches.{front, put_behind}
+use Rattle.basics.proofs.Common.{◌≡◌, ℕ, suc, ◌+◌, ◌-◌, ◌<◌, ◌≤◌, ltb, List, [], ◌∷◌, ◌++◌, map, length, get_or, take, drop, is_none, Some, None, Option, ControlFlow, Continue, Break, sym, refl, ap}
+use Rattle.basics.proofs.Common.{◌∙◌, subst, append-nil, arith, length-append, length-take-le, drop-cons, ltb-false, ltb-true, le-ltb, lt-ltb, length-map, take-nil, put_mid, put_behind}
+use Rattle.std.specs.Prelude.{IfSome}
+use Rattle.basics.proofs.Stretches.{front}
 use Rattle.judgement.specs.Judgement.{judgement}
 use Rattle.sheet_length.specs.Measured.{longest_sheet}
 use Rattle.report_line.specs.declared.Row.{Row}
 use Rattle.report_line.specs.Line.{line_bytes, row_in, rows_in}
 use Rattle.report_line.proofs.Readback.{append_in}
 use Rattle.quarter_stream.specs.Sheets.{sheets_in, sheets_of, one, count}
-use Rattle.quarter_stream.specs.Steps.{Kept, Within, NewSheet, SoFar, ScannedTo}
+use Rattle.quarter_stream.specs.Steps.{UnclosedSheet, Within, NewSheet, SoFar, ScannedTo}
 use Rattle.quarter_stream.specs.declared.OpenSheet.{OpenSheet}
 use Rattle.quarter_stream.specs.declared.Closed.{Closed}
-use Rattle.std.specs.declared.ops.ControlFlow.{ControlFlow}
-use Rattle.std.specs.declared.ops.ControlFlow.TheVariants.{Continue, Break}
 use Rattle.quarter_stream.proofs.WholeInput.{held_none}
 use Rattle.quarter_stream.proofs.StreamState.{so_far_start, so_far_closed, so_far_rest, so_far_on, so_far_next}
 use Rattle.quarter_stream.proofs.Continuation.{byte_after, still_more}
@@ -189,7 +180,7 @@ module _ {s : List ℕ} {xs : List (List ℕ)} {room out : List ℕ} {h : OpenSh
             ∙ ap (λ (v : List ℕ). rows_in columns (sheet_rows 1 xs) ++ v) (row_alone (sheet_row (n + 1) (judgement x)) ∙ sym y) in
             let c : length (sheets_of u).closed ≡ length (xs ++ (x ∷ [])) = sym (ap length (so_far_closed S) ∙ length-map (sheets_of u).closed (take (length after))) in
             let r : take (suc longest_sheet) (sheets_of u).rest ≡ [] =
-            ap (λ (v : ℕ). take v (sheets_of u).rest) (sym (long ∙ G.room_long)) ∙ sym (so_far_rest S) ∙ ap (λ (v : Kept). v.bytes) (f.kept after) in
+            ap (λ (v : ℕ). take v (sheets_of u).rest) (sym (long ∙ G.room_long)) ∙ sym (so_far_rest S) ∙ ap (λ (v : UnclosedSheet). v.bytes) (f.is_new after) in
             let z : one (sheets_of u).rest ≡ 0 = ap one (held_none longest_sheet (sheets_of u).rest r) in (
               N.0,
               N.1,

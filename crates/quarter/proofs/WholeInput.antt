@@ -1,13 +1,6 @@
 -- All steps together: however an input is cut into chunks, the text is that of all its bytes; and more than 60 sheets are decided by the first byte after
 -- the 60th closing line, whatever follows. Assumes nothing.
-use mathlib.Core.Path.{◌≡◌, sym, ap, ◌∙◌}
-use mathlib.Core.List.{List, [], ◌∷◌, ◌++◌, append_assoc, append-nil}
-use Prim.Native.Nat.{ℕ, ◌≤◌, ◌<◌}
-use native.Mathlib.Omega.{arith}
-use lib.ListN.{length, take, drop, length-append}
-use lib.Seq.{length-take-le}
-use Rattle.basics.proofs.Picks.{if_lt}
-use Rattle.basics.proofs.Stretches.{from_further}
+use Rattle.basics.proofs.Common.{◌≡◌, ℕ, ◌<◌, ◌≤◌, List, [], ◌∷◌, ◌++◌, length, take, drop, sym, ap, ◌∙◌, append_assoc, append-nil, arith, length-append, length-take-le, if_lt, from_further}
 use Rattle.report_line.specs.Line.{rows_in}
 use Rattle.report_line.proofs.Readback.{append_in}
 use Rattle.quarter_stream.specs.Sheets.{sheets_of, count}

@@ -1,2 +1,2 @@
 -- Laws of a sheet's buffer.
-pub mod Answers
+pub mod Buffers

@@ -1,19 +1,10 @@
 -- Closing lines: a line without a line feed closes nothing; with one it closes where it is 39 minus signs. Assumes nothing.
 -- In order: the sheets from left to right; bytes before a first sheet; a line that has begun; no closing line; the sheets from a line's start on; one
 -- induction for all: an input s after whole lines w of a sheet and a line l that has begun.
-use mathlib.Core.Path.{◌≡◌, refl, sym, ap, ◌∙◌}
-use mathlib.Core.List.{List, [], ◌∷◌, ◌++◌, append_assoc}
-use mathlib.Core.Bool.{Bool, true, false}
-use Prim.Native.Nat.{ℕ, zero, suc, ◌-◌, ◌≤◌, ◌<◌}
-use native.Mathlib.Decide.{ℕ_discrete, dec_le}
-use native.Mathlib.Omega.{arith}
-use lib.Dec.{eqb}
-use lib.ListN.{replicate}
-use borrow.Author.Tests.{ne_eqb}
-use Rattle.basics.specs.Pick.{pick}
-use Rattle.basics.proofs.Picks.{if_true, if_false, if_eq, if_ne, if_lt, if_ge}
-use Rattle.quarter_stream.specs.Sheets.{closing, starts, Sheets, and_then}
-use Rattle.quarter_stream.specs.Steps.{counted}
+use Rattle.basics.proofs.Common.{◌≡◌, ℕ, zero, suc, ◌-◌, ◌<◌, ◌≤◌, Bool, true, false, eqb, List, [], ◌∷◌, ◌++◌, replicate, sym, refl, ap, ◌∙◌, append_assoc, arith, ne_eqb, ℕ_discrete, dec_le, pick}
+use Rattle.basics.proofs.Common.{if_true, if_false, if_eq, if_ne, if_lt, if_ge}
+use Rattle.quarter_stream.specs.Sheets.{closing_minuses, closing, starts, Sheets, and_then}
+use Rattle.quarter_stream.specs.Steps.{not_closing, counted}
 
 -- ---- the sheets from left to right
 
@@ -30,7 +21,7 @@ unfoldable pub sheets_from : (left : ℕ) (here : Bool) → List ℕ → Sheets
 sheets_from left here [] = record { closed = []; rest = [] }
 sheets_from zero here (b ∷ s) =
     pick (pick here (starts closing (b ∷ s)) false)
-    (and_then [] (sheets_from 39 true s))
+    (and_then [] (sheets_from closing_minuses true s))
     (behind (b ∷ []) (sheets_from 0 (eqb b 10) s))
 sheets_from (suc n) here (b ∷ s) = sheets_from n here s
 
@@ -76,7 +67,7 @@ unfolding count_from
 count_more m [] b = refl
 count_more m (a ∷ l) b = count_more (counted m a) l b
 
-count_past : (l : List ℕ) → count_from 40 l ≡ 40
+count_past : (l : List ℕ) → count_from not_closing l ≡ not_closing
 unfolding count_from counted
 count_past [] = refl
 count_past (b ∷ l) = elim (ℕ_discrete b 45) [
@@ -84,30 +75,34 @@ count_past (b ∷ l) = elim (ℕ_discrete b 45) [
   | no n ↦ ap (λ (n : ℕ). count_from n l) (if_ne _ n) ∙ count_past l
 ]
 
+-- the minus signs of a closing line
+abbrev pub all_minuses : List ℕ
+all_minuses = replicate closing_minuses 45
+
 -- 39 of them are a closing line without its line feed
-count_all : (m : ℕ) (l : List ℕ) → m ≤ 39 → count_from m l ≡ 39 → l ≡ replicate (39 - m) 45
+count_all : (m : ℕ) (l : List ℕ) → m ≤ closing_minuses → count_from m l ≡ closing_minuses → l ≡ replicate (closing_minuses - m) 45
 unfolding count_from counted
-count_all m [] h q = let e : 39 - m ≡ 0 = omega arith in rw e
+count_all m [] h q = let e : closing_minuses - m ≡ 0 = omega arith in rw e
 count_all m (b ∷ l) h q =
     elim (ℕ_discrete b 45) [
       | no n ↦ past (ap (λ (k : ℕ). count_from k l) (if_ne _ n))
-      | yes e ↦ elim (dec_le 39 m) [
+      | yes e ↦ elim (dec_le closing_minuses m) [
         | yes k ↦ past (ap (λ (k : ℕ). count_from k l) (if_eq _ e ∙ if_ge _ k))
         | no k ↦
-            let k' : m < 39 = omega arith in
-            let c : count_from (suc m) l ≡ 39 = sym (ap (λ (k : ℕ). count_from k l) (if_eq _ e ∙ if_lt _ k')) ∙ q in
-            let z : 39 - m ≡ suc (39 - suc m) = omega arith in
+            let k' : m < closing_minuses = omega arith in
+            let c : count_from (suc m) l ≡ closing_minuses = sym (ap (λ (k : ℕ). count_from k l) (if_eq _ e ∙ if_lt _ k')) ∙ q in
+            let z : closing_minuses - m ≡ suc (closing_minuses - suc m) = omega arith in
             rw (e, z) (ap (λ (r : List ℕ). 45 ∷ r) (count_all (suc m) l k' c))
       ]
     ]
   where
-    past : count_from (counted m b) l ≡ count_from 40 l → b ∷ l ≡ replicate (39 - m) 45
-    past p = let z : ◌≡◌ {A = ℕ} 40 39 = sym (count_past l) ∙ sym p ∙ q in absurd (omega arith)
+    past : count_from (counted m b) l ≡ count_from not_closing l → b ∷ l ≡ replicate (closing_minuses - m) 45
+    past p = let z : ◌≡◌ {A = ℕ} not_closing closing_minuses = sym (count_past l) ∙ sym p ∙ q in absurd (omega arith)
 
-pub closing_count : (l : List ℕ) → count_from 0 l ≡ 39 → l ≡ replicate 39 45
+pub closing_count : (l : List ℕ) → count_from 0 l ≡ closing_minuses → l ≡ all_minuses
 closing_count l q = count_all 0 l (omega arith) q
 
-pub count_closing : (l : List ℕ) → l ≡ replicate 39 45 → count_from 0 l ≡ 39
+pub count_closing : (l : List ℕ) → l ≡ all_minuses → count_from 0 l ≡ closing_minuses
 unfolding count_from counted pick
 count_closing l e = rw e
 
@@ -143,7 +138,7 @@ line_left t [] f = refl
 line_left t (b ∷ l) f = if_false _ (none t) ∙ ap (behind (b ∷ [])) (line_left (eqb b 10) l f.1)
   where
     none : (t : Bool) → pick t (starts closing (b ∷ l)) false ≡ false
-    none true = if_true _ refl ∙ starts_without 39 (b ∷ l) f
+    none true = if_true _ refl ∙ starts_without closing_minuses (b ∷ l) f
     none false = if_false _ refl
 
 passed : (t : Bool) (l s : List ℕ) → NoFeed l → pick t (starts closing (l ++ (10 ∷ s))) false ≡ false
@@ -157,11 +152,11 @@ passed t (b ∷ l) s f c =
     ∙ behind_behind (b ∷ []) (l ++ (10 ∷ [])) (sheets s)
 
 -- a line that is no closing line belongs to its sheet
-pub line_passed : (l s : List ℕ) → NoFeed l → (l ≡ replicate 39 45 → ⊥) → sheets (l ++ (10 ∷ s)) ≡ behind (l ++ (10 ∷ [])) (sheets s)
-line_passed l s f o = passed true l s f (if_true _ refl ∙ starts_other 39 l s f o)
+pub line_passed : (l s : List ℕ) → NoFeed l → (l ≡ all_minuses → ⊥) → sheets (l ++ (10 ∷ s)) ≡ behind (l ++ (10 ∷ [])) (sheets s)
+line_passed l s f o = passed true l s f (if_true _ refl ∙ starts_other closing_minuses l s f o)
 
 -- a closing line closes a sheet
-pub line_closes : (s : List ℕ) → sheets (replicate 39 45 ++ (10 ∷ s)) ≡ and_then [] (sheets s)
+pub line_closes : (s : List ℕ) → sheets (all_minuses ++ (10 ∷ s)) ≡ and_then [] (sheets s)
 unfolding sheets_from starts pick
 line_closes s = refl
 
@@ -170,14 +165,14 @@ line_closes s = refl
 module _ (P : List ℕ → List ℕ → List ℕ → Type 0)
     (ends : (w l : List ℕ) → NoFeed l → P w l [])
     (byte : (w l s : List ℕ) (b : ℕ) → (b ≡ 10 → ⊥) → P w (l ++ (b ∷ [])) s → P w l (b ∷ s))
-    (closes : (w s : List ℕ) → P [] [] s → P w (replicate 39 45) (10 ∷ s))
-    (line : (w l s : List ℕ) → NoFeed l → (l ≡ replicate 39 45 → ⊥) → P (w ++ (l ++ (10 ∷ []))) [] s → P w l (10 ∷ s)) where
+    (closes : (w s : List ℕ) → P [] [] s → P w all_minuses (10 ∷ s))
+    (line : (w l s : List ℕ) → NoFeed l → (l ≡ all_minuses → ⊥) → P (w ++ (l ++ (10 ∷ []))) [] s → P w l (10 ∷ s)) where
   pub by_lines : (s w l : List ℕ) → NoFeed l → P w l s
   by_lines [] w l f = ends w l f
   by_lines (b ∷ s) w l f =
       elim (ℕ_discrete b 10) [
         | no n ↦ byte w l s b n (by_lines s w (l ++ (b ∷ [])) (no_feed_more l b f n))
-        | yes e ↦ elim (ℕ_discrete (count_from 0 l) 39) [
+        | yes e ↦ elim (ℕ_discrete (count_from 0 l) closing_minuses) [
           | yes c ↦ rw (e, closing_count l c) (closes w s (by_lines s [] [] tt))
           | no c ↦ rw e (line w l s f (λ q. c (count_closing l q)) (by_lines s (w ++ (l ++ (10 ∷ []))) [] tt))
         ]

@@ -1,10 +1,5 @@
 -- Sheets of short inputs, computed. Assumes nothing.
-use mathlib.Core.Path.{◌≡◌, refl}
-use mathlib.Core.List.{List, [], ◌∷◌, ◌++◌}
-use Prim.Native.Nat.{ℕ}
-use lib.ListN.{replicate}
-use Rattle.basics.specs.First.{first_from}
-use Rattle.basics.specs.Pick.{pick}
+use Rattle.basics.proofs.Common.{◌≡◌, ℕ, List, [], ◌∷◌, ◌++◌, replicate, refl, first_from, pick}
 use Rattle.quarter_stream.specs.Sheets.{closing, starts, line_start, closes_at, sheets_in, sheets_of}
 
 -- A and a line feed

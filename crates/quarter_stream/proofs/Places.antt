@@ -1,16 +1,8 @@
 -- The definition by places and the reading from left to right are the same. Assumes nothing.
-use mathlib.Core.Path.{◌≡◌, refl, sym, ap, ◌∙◌, fun_ext}
-use mathlib.Core.List.{List, [], ◌∷◌}
-use mathlib.Core.Bool.{Bool, true, false}
-use Prim.Native.Nat.{ℕ, zero, suc, ◌≤◌, ◌<◌}
-use native.Mathlib.Decide.{dec_le}
-use native.Mathlib.Omega.{arith}
-use lib.Dec.{ltb, eqb}
-use lib.ListN.{length, get_or, take, drop, length-drop}
-use Rattle.basics.specs.First.{first_from, first}
-use Rattle.basics.specs.Pick.{pick}
-use Rattle.basics.proofs.Picks.{if_true, if_false, if_lt, if_ge}
-use Rattle.quarter_stream.specs.Sheets.{closing, starts, line_start, closes_at, Sheets, and_then, sheets_in, sheets_of}
+use Rattle.basics.proofs.Common.{◌≡◌, ℕ, zero, suc, ◌<◌, ◌≤◌, Bool, true, false, eqb, ltb, List, [], ◌∷◌, length, get_or, take, drop, sym, refl, ap, ◌∙◌, arith, length-drop, dec_le, first, first_from}
+use Rattle.basics.proofs.Common.{pick, if_true, if_false, if_lt, if_ge}
+use mathlib.Core.Path.{fun_ext}
+use Rattle.quarter_stream.specs.Sheets.{closing_minuses, closing, closing_bytes, starts, line_start, closes_at, Sheets, and_then, sheets_in, sheets_of}
 use Rattle.quarter_stream.proofs.ClosingLines.{behind, sheets_from, sheets}
 
 -- a search one place further on
@@ -48,7 +40,7 @@ skipped (suc n) here (b ∷ s) = skipped n here s
 
 -- the sheets of s where its first closing line begins at k
 abbrev cut_at : List ℕ → ℕ → Sheets
-cut_at s k = pick (ltb k (length s)) (and_then (take k s) (sheets (drop 40 (drop k s)))) (record { closed = []; rest = s })
+cut_at s k = pick (ltb k (length s)) (and_then (take k s) (sheets (drop closing_bytes (drop k s)))) (record { closed = []; rest = s })
 
 cut_next : (b : ℕ) (s : List ℕ) (k : ℕ) → cut_at (b ∷ s) (suc k) ≡ behind (b ∷ []) (cut_at s k)
 unfolding behind
@@ -74,11 +66,11 @@ by_places here [] = sym (if_false _ refl)
 by_places here (b ∷ s) = go (pick here (starts closing (b ∷ s)) false) (by_places (eqb b 10) s)
   where
     go : (t : Bool) → sheets_from 0 (eqb b 10) s ≡ cut_at s (first_from (at_place (eqb b 10) s) 0 (length s))
-        → pick t (and_then [] (sheets_from 39 true s)) (behind (b ∷ []) (sheets_from 0 (eqb b 10) s))
+        → pick t (and_then [] (sheets_from closing_minuses true s)) (behind (b ∷ []) (sheets_from 0 (eqb b 10) s))
         ≡ cut_at (b ∷ s) (pick t 0 (first_from (at_place here (b ∷ s)) 1 (length s)))
     go true ih =
         let h : 0 < suc (length s) = omega arith in
-        if_true _ refl ∙ ap (and_then []) (skipped 39 true s) ∙ sym (if_lt _ h) ∙ ap (cut_at (b ∷ s)) (sym (if_true _ refl))
+        if_true _ refl ∙ ap (and_then []) (skipped closing_minuses true s) ∙ sym (if_lt _ h) ∙ ap (cut_at (b ∷ s)) (sym (if_true _ refl))
     go false ih =
         if_false _ refl ∙ ap (behind (b ∷ [])) ih ∙ sym (cut_next b s (first_from (at_place (eqb b 10) s) 0 (length s)))
         ∙ ap (cut_at (b ∷ s)) (sym (if_false _ refl ∙ place_next here b s))
@@ -89,9 +81,9 @@ in_all zero [] h = refl
 in_all zero (b ∷ s) h = absurd (omega arith)
 in_all (suc n) s h =
     let k = first (closes_at s) (length s) in
-    let l : length (drop 40 (drop k s)) ≤ n = rw (length-drop 40 (drop k s), length-drop k s) (omega arith) in
+    let l : length (drop closing_bytes (drop k s)) ≤ n = rw (length-drop closing_bytes (drop k s), length-drop k s) (omega arith) in
     let e : first (closes_at s) (length s) ≡ first (at_place true s) (length s) = ap (λ (P : ℕ → Bool). first P (length s)) (fun_ext (at_closes s)) in
-    ap (λ (z : Sheets). pick (ltb k (length s)) (and_then (take k s) z) (record { closed = []; rest = s })) (in_all n (drop 40 (drop k s)) l)
+    ap (λ (z : Sheets). pick (ltb k (length s)) (and_then (take k s) z) (record { closed = []; rest = s })) (in_all n (drop closing_bytes (drop k s)) l)
     ∙ ap (cut_at s) e
     ∙ sym (by_places true s)
 

@@ -1,25 +1,17 @@
 -- Nothing of the input is lost: its sheets with their closing lines, and the rest, are the input. Assumes nothing.
-use mathlib.Core.Path.{◌≡◌, refl, sym, ap, ◌∙◌}
-use mathlib.Core.List.{List, [], ◌∷◌, ◌++◌, append_assoc}
-use mathlib.Core.Bool.{Bool, true, false, true≢false}
-use Prim.Native.Nat.{ℕ, zero, suc}
-use native.Mathlib.Decide.{ℕ_discrete}
-use native.Mathlib.Omega.{arith}
-use lib.Dec.{eqb}
-use lib.ListN.{length, take, drop}
-use Rattle.basics.specs.Pick.{pick}
-use Rattle.basics.proofs.Picks.{if_true, if_false, if_eq, if_ne}
-use Rattle.quarter_stream.specs.Sheets.{closing, starts, Sheets, and_then, sheets_of}
+use Rattle.basics.proofs.Common.{◌≡◌, ℕ, zero, suc, Bool, true, false, eqb, List, [], ◌∷◌, ◌++◌, length, take, drop, sym, refl, ap, ◌∙◌, true≢false, append_assoc, arith, ℕ_discrete, pick, if_true}
+use Rattle.basics.proofs.Common.{if_false, if_eq, if_ne}
+use Rattle.quarter_stream.specs.Sheets.{closing_minuses, closing, starts, Sheets, and_then, sheets_of}
 use Rattle.quarter_stream.proofs.ClosingLines.{joined, behind, sheets_from}
 use Rattle.quarter_stream.proofs.Places.{sheets_of_lem}
 
-abbrev glue : List (List ℕ) → List ℕ → List ℕ
-glue [] r = r
-glue (x ∷ xs) r = x ++ (closing ++ glue xs r)
+abbrev with_closings : List (List ℕ) → List ℕ → List ℕ
+with_closings [] r = r
+with_closings (x ∷ xs) r = x ++ (closing ++ with_closings xs r)
 
 -- the bytes that sheets came from
 abbrev pub bytes_of : Sheets → List ℕ
-bytes_of s = glue s.closed s.rest
+bytes_of s = with_closings s.closed s.rest
 
 starts_is : (w s : List ℕ) → starts w s ≡ true → s ≡ w ++ drop (length w) s
 unfolding starts
@@ -35,22 +27,23 @@ behind_bytes : (w : List ℕ) (s : Sheets) → bytes_of (behind w s) ≡ w ++ by
 unfolding behind
 behind_bytes w s = go s.closed s.rest
   where
-    go : (xs : List (List ℕ)) (r : List ℕ) → bytes_of (joined w xs r) ≡ w ++ glue xs r
+    go : (xs : List (List ℕ)) (r : List ℕ) → bytes_of (joined w xs r) ≡ w ++ with_closings xs r
     go [] r = refl
-    go (x ∷ xs) r = append_assoc w x (closing ++ glue xs r)
+    go (x ∷ xs) r = append_assoc w x (closing ++ with_closings xs r)
 
 from_bytes : (n : ℕ) (here : Bool) (s : List ℕ) → bytes_of (sheets_from n here s) ≡ drop n s
 unfolding sheets_from
 from_bytes zero here [] = refl
 from_bytes (suc n) here [] = refl
-from_bytes zero here (b ∷ s) = go here (pick here (starts closing (b ∷ s)) false) refl (from_bytes 39 true s) (from_bytes 0 (eqb b 10) s)
+from_bytes zero here (b ∷ s) = go here (pick here (starts closing (b ∷ s)) false) refl (from_bytes closing_minuses true s) (from_bytes 0 (eqb b 10) s)
   where
     both : (t u : Bool) → pick t u false ≡ true → u ≡ true
     both true u q = sym (if_true _ refl) ∙ q
     both false u q = absurd (true≢false (sym q ∙ if_false _ refl))
 
-    go : (here : Bool) (t : Bool) → pick here (starts closing (b ∷ s)) false ≡ t → bytes_of (sheets_from 39 true s) ≡ drop 39 s → bytes_of (sheets_from 0 (eqb b 10) s) ≡ s
-        → bytes_of (pick t (and_then [] (sheets_from 39 true s)) (behind (b ∷ []) (sheets_from 0 (eqb b 10) s))) ≡ b ∷ s
+    go : (here : Bool) (t : Bool) → pick here (starts closing (b ∷ s)) false ≡ t → bytes_of (sheets_from closing_minuses true s) ≡ drop closing_minuses s
+        → bytes_of (sheets_from 0 (eqb b 10) s) ≡ s
+        → bytes_of (pick t (and_then [] (sheets_from closing_minuses true s)) (behind (b ∷ []) (sheets_from 0 (eqb b 10) s))) ≡ b ∷ s
     go here true e p q = ap bytes_of (if_true _ refl) ∙ ap (λ (r : List ℕ). closing ++ r) p ∙ sym (starts_is closing (b ∷ s) (both here _ e))
     go here false e p q = ap bytes_of (if_false _ refl) ∙ behind_bytes (b ∷ []) (sheets_from 0 (eqb b 10) s) ∙ ap (λ (r : List ℕ). b ∷ r) q
 from_bytes (suc n) here (b ∷ s) = from_bytes n here s
@@ -61,7 +54,7 @@ rejoined s = ap bytes_of (sheets_of_lem s) ∙ from_bytes 0 true s
 -- an input that has a byte has a sheet, closed or not
 pub some_sheet : (b : ℕ) (s : List ℕ) → (sheets_of (b ∷ s)).closed ≡ [] → (sheets_of (b ∷ s)).rest ≡ [] → ⊥
 some_sheet b s p q =
-    let e : b ∷ s ≡ [] = sym (rejoined (b ∷ s)) ∙ (λ i. glue (p i) (q i)) in
+    let e : b ∷ s ≡ [] = sym (rejoined (b ∷ s)) ∙ (λ i. with_closings (p i) (q i)) in
     let z : suc (length s) ≡ 0 = ap length e in
     omega arith
 

@@ -4,9 +4,17 @@ use Rattle.std.specs.Prelude.{ℕ, zero, suc, ◌+◌, List, [], ◌∷◌, ◌+
 use Rattle.basics.specs.First.{first}
 use Rattle.basics.specs.Pick.{pick}
 
+-- the minus signs of a closing line
+abbrev pub closing_minuses : ℕ
+closing_minuses = 39
+
 -- 'a line of 39 minus signs and a line feed'
 abbrev pub closing : List ℕ
-closing = replicate 39 45 ++ (10 ∷ [])
+closing = replicate closing_minuses 45 ++ (10 ∷ [])
+
+-- its bytes
+abbrev pub closing_bytes : ℕ
+closing_bytes = closing_minuses + 1
 
 -- s begins with the bytes w
 unfoldable pub starts : List ℕ → List ℕ → Bool
@@ -37,7 +45,7 @@ unfoldable pub sheets_in : ℕ → List ℕ → Sheets
 sheets_in zero s = record { closed = []; rest = s }
 sheets_in (suc n) s =
     let k = first (closes_at s) (length s) in
-    pick (ltb k (length s)) (and_then (take k s) (sheets_in n (drop 40 (drop k s)))) (record { closed = []; rest = s })
+    pick (ltb k (length s)) (and_then (take k s) (sheets_in n (drop closing_bytes (drop k s)))) (record { closed = []; rest = s })
 
 abbrev pub sheets_of : List ℕ → Sheets
 sheets_of s = sheets_in (length s) s

@@ -1,79 +1,84 @@
 -- The same, a byte at a time, in a room for so many bytes of a sheet: bytes past the room are counted nowhere. Assumes nothing.
-use Rattle.std.specs.Prelude.{Option, Some, None, ℕ, suc, ◌≤◌, ◌<◌, ◌≡◌, List, [], ◌∷◌, ◌++◌, ltb, eqb, length, take, drop}
+use Rattle.std.specs.Prelude.{Option, Some, None, ℕ, suc, ◌+◌, ◌≤◌, ◌<◌, ◌≡◌, List, [], ◌∷◌, ◌++◌, ltb, eqb, length, take, drop}
 use Rattle.basics.specs.Pick.{pick}
+use Rattle.quarter_stream.specs.Sheets.{closing_minuses}
 use Rattle.quarter_stream.specs.declared.OpenSheet.{OpenSheet}
 use Rattle.quarter_stream.specs.declared.Closed.{Closed}
 use Rattle.std.specs.declared.ops.ControlFlow.{ControlFlow}
 use Rattle.std.specs.declared.ops.ControlFlow.TheVariants.{Continue, Break}
 
 -- what is held of a sheet that is not closed yet: its bytes before the line that has begun, all its bytes, and how many minus signs that line is;
--- 40 where it is something else
-pub record Kept : Type 0 where
+-- more than a closing line has where it is something else
+pub record UnclosedSheet : Type 0 where
   pub lines : List ℕ
   pub bytes : List ℕ
   pub minuses : ℕ
 
 -- nothing yet
-abbrev pub new_sheet : Kept
+abbrev pub new_sheet : UnclosedSheet
 new_sheet = record { lines = []; bytes = []; minuses = 0 }
 
 -- a byte more, where there is room for it
-abbrev pub put : ℕ → List ℕ → ℕ → List ℕ
-put room s b = take room (s ++ (b ∷ []))
+abbrev pub with_byte : ℕ → List ℕ → ℕ → List ℕ
+with_byte room s b = take room (s ++ (b ∷ []))
+
+-- what the minus signs of a line are said to be that can't be a closing one any more: one more than a closing line has
+abbrev pub not_closing : ℕ
+not_closing = closing_minuses + 1
 
 -- the minus signs of a line that has a byte more
 unfoldable pub counted : ℕ → ℕ → ℕ
-counted m b = pick (eqb b 45) (pick (ltb m 39) (suc m) 40) 40
+counted m b = pick (eqb b 45) (pick (ltb m closing_minuses) (suc m) not_closing) not_closing
 
 -- what a byte more does
 pub data Next : Type 0 where
-  on : Kept → Next
+  stays_open : UnclosedSheet → Next
   closed : List ℕ → Next
 
-unfoldable pub next : ℕ → Kept → ℕ → Next
+unfoldable pub next : ℕ → UnclosedSheet → ℕ → Next
 next room k b =
     pick (eqb b 10)
-    (pick (eqb k.minuses 39)
+    (pick (eqb k.minuses closing_minuses)
     (closed k.lines)
-    (on (record { lines = put room k.bytes b; bytes = put room k.bytes b; minuses = 0 })))
-    (on (record { lines = k.lines; bytes = put room k.bytes b; minuses = counted k.minuses b }))
+    (stays_open (record { lines = with_byte room k.bytes b; bytes = with_byte room k.bytes b; minuses = 0 })))
+    (stays_open (record { lines = k.lines; bytes = with_byte room k.bytes b; minuses = counted k.minuses b }))
 
-unfoldable pub follow {ℓ} : {A : Type ℓ} → Next → (Kept → A) → (List ℕ → A) → A
-follow (on k) f g = f k
+unfoldable pub follow {ℓ} : {A : Type ℓ} → Next → (UnclosedSheet → A) → (List ℕ → A) → A
+follow (stays_open k) f g = f k
 follow (closed s) f g = g s
 
 -- what all bytes do: the sheets that they close, and what is held after them
-pub record Run : Type 0 where
+pub record StreamSheets : Type 0 where
   pub closed : List (List ℕ)
-  pub held : Kept
+  pub held : UnclosedSheet
 
 -- a sheet more, before the others
-abbrev pub closed_then : List ℕ → Run → Run
+abbrev pub closed_then : List ℕ → StreamSheets → StreamSheets
 closed_then s r = record { closed = s ∷ r.closed; held = r.held }
 
-unfoldable pub run : ℕ → Kept → List ℕ → Run
-run room k [] = record { closed = []; held = k }
-run room k (b ∷ bs) = follow (next room k b) (λ j. run room j bs) (λ s. closed_then s (run room new_sheet bs))
+unfoldable pub stream_sheets : ℕ → UnclosedSheet → List ℕ → StreamSheets
+stream_sheets room k [] = record { closed = []; held = k }
+stream_sheets room k (b ∷ bs) = follow (next room k b) (λ j. stream_sheets room j bs) (λ s. closed_then s (stream_sheets room new_sheet bs))
 
 -- the bytes up to the first closing line: what is held after all of them, or the sheet that is closed and the bytes after its closing line
 pub data Scanned : Type 0 where
-  going : Kept → Scanned
+  none_found : UnclosedSheet → Scanned
   found : List ℕ → List ℕ → Scanned
 
-unfoldable pub scanned : ℕ → Kept → List ℕ → Scanned
-scanned room k [] = going k
+unfoldable pub scanned : ℕ → UnclosedSheet → List ℕ → Scanned
+scanned room k [] = none_found k
 scanned room k (b ∷ bs) = follow (next room k b) (λ j. scanned room j bs) (λ s. found s bs)
 
 -- ---- what the code's values say
 
--- the minus signs of a line that has begun, 40 where it is something else
+-- the minus signs of a line that has begun
 abbrev pub minus_signs : Option ℕ → ℕ
-minus_signs None = 40
+minus_signs None = not_closing
 minus_signs (Some m) = m
 
 -- a room and what is known of it
-abbrev pub kept : List ℕ → OpenSheet → Kept
-kept room h = record { lines = take h.begun room; bytes = take h.length room; minuses = minus_signs h.minuses }
+abbrev pub unclosed : List ℕ → OpenSheet → UnclosedSheet
+unclosed room h = record { lines = take h.begun room; bytes = take h.length room; minuses = minus_signs h.minuses }
 
 pub record Within (n : ℕ) (h : OpenSheet) : Type 0 where
   pub begun : h.begun ≤ h.length
@@ -81,18 +86,18 @@ pub record Within (n : ℕ) (h : OpenSheet) : Type 0 where
 
 -- nothing is known
 pub record NewSheet (h : OpenSheet) : Type 0 where
-  pub kept : (room : List ℕ) → kept room h ≡ new_sheet
+  pub is_new : (room : List ℕ) → unclosed room h ≡ new_sheet
   pub within : (n : ℕ) → Within n h
 
 -- a byte more in the room: the places before it keep theirs
 pub record Put (before : List ℕ) (at b r : ℕ) (after : List ℕ) : Type 0 where
-  pub bytes : take r after ≡ put (length before) (take at before) b
+  pub bytes : take r after ≡ with_byte (length before) (take at before) b
   pub below : (n : ℕ) → n ≤ at → take n after ≡ take n before
   pub low : at ≤ r
   pub high : r ≤ length before
 
 abbrev pub stepped : List ℕ → ControlFlow ℕ OpenSheet → Next
-stepped room (Continue h) = on (kept room h)
+stepped room (Continue h) = stays_open (unclosed room h)
 stepped room (Break n) = closed (take n room)
 
 abbrev pub WithinStep : ℕ → ControlFlow ℕ OpenSheet → Type 0
@@ -101,12 +106,12 @@ WithinStep n (Break k) = k ≤ n
 
 -- the room before, what is known of it, a byte; the answer and the room after
 pub record Stepped (before : List ℕ) (h : OpenSheet) (b : ℕ) (r : ControlFlow ℕ OpenSheet) (after : List ℕ) : Type 0 where
-  pub answer : stepped after r ≡ next (length before) (kept before h) b
+  pub answer : stepped after r ≡ next (length before) (unclosed before h) b
   pub within : WithinStep (length before) r
 
 -- the same for the bytes of a chunk from a place on; a closed sheet comes with the place after its closing line
 abbrev pub scanned_as : List ℕ → List ℕ → ControlFlow Closed OpenSheet → Scanned
-scanned_as room chunk (Continue h) = going (kept room h)
+scanned_as room chunk (Continue h) = none_found (unclosed room h)
 scanned_as room chunk (Break c) = found (take c.length room) (drop c.next chunk)
 
 -- in a room of n bytes, from a place of a chunk of m bytes on
@@ -115,9 +120,9 @@ WithinScan n m at (Continue h) = Within n h
 WithinScan n m at (Break c) = (c.length ≤ n) × (at < c.next) × (c.next ≤ m)
 
 pub record ScannedTo (before : List ℕ) (h : OpenSheet) (chunk : List ℕ) (at : ℕ) (r : ControlFlow Closed OpenSheet) (after : List ℕ) : Type 0 where
-  pub answer : scanned_as after chunk r ≡ scanned (length before) (kept before h) (drop at chunk)
+  pub answer : scanned_as after chunk r ≡ scanned (length before) (unclosed before h) (drop at chunk)
   pub within : WithinScan (length before) (length chunk) at r
 
 -- after the bytes s: these sheets were closed, each as far as the room goes, and the room and h hold the rest
 pub record SoFar (room : List ℕ) (h : OpenSheet) (s : List ℕ) (xs : List (List ℕ)) : Type 0 where
-  pub is : run (length room) new_sheet s ≡ record { closed = xs; held = kept room h }
+  pub is : stream_sheets (length room) new_sheet s ≡ record { closed = xs; held = unclosed room h }

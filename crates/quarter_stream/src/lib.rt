@@ -77,14 +77,14 @@ fn next_byte(room: &mut [u8], held: OpenSheet, b: u8) -> ControlFlow<usize, Open
         if held.minuses == Some(MINUSES) {
             return ControlFlow::Break(held.begun);
         }
-        let length = put(room, held.length, b);
+        let length = put_byte(room, held.length, b);
         return ControlFlow::Continue(OpenSheet {
             length,
             begun: length,
             minuses: Some(0),
         });
     }
-    let length = put(room, held.length, b);
+    let length = put_byte(room, held.length, b);
     ControlFlow::Continue(OpenSheet {
         length,
         begun: held.begun,
@@ -93,7 +93,7 @@ fn next_byte(room: &mut [u8], held: OpenSheet, b: u8) -> ControlFlow<usize, Open
 }
 
 // A byte put after the bytes that the room holds, where there is a place for it.
-fn put(room: &mut [u8], at: usize, b: u8) -> usize
+fn put_byte(room: &mut [u8], at: usize, b: u8) -> usize
     requires { at ≤ length room.old }
     ensures { Put room.old at b result room.new }
 {

@@ -3,26 +3,14 @@
 -- Assumes nothing.
 -- In order: the accepted sheets; one sheet is accepted, or none; every line has the columns for what it says; the items of the summary, behind the
 -- lines of the sheets; the text.
-use mathlib.Core.Path.{◌≡◌, refl, sym, ap, subst, ◌∙◌}
-use mathlib.Core.Bool.{Bool, false}
-use mathlib.Core.List.{List, [], ◌∷◌, ◌++◌, append-nil}
-use Prim.Native.Nat.{ℕ, suc, ◌+◌, ◌-◌, ◌/◌, ◌%◌, ◌^◌, ◌≤◌, ◌<◌}
-use native.Mathlib.Nat.{div-le_self, mod-le}
-use native.Mathlib.Omega.{arith}
-use lib.Dec.{eqb}
-use lib.ListN.{length, get_or, replicate, length-take}
-use borrow.Author.Tests.{ltb-false}
-use Rattle.basics.specs.Pick.{pick}
-use Rattle.basics.specs.Each.{Each}
-use Rattle.basics.proofs.Picks.{if_false, by_test, never}
-use Rattle.basics.proofs.Elements.{each_append}
-use Rattle.std.specs.Prelude.{Option, Some}
+use Rattle.basics.proofs.Common.{◌≡◌, ℕ, suc, ◌+◌, ◌-◌, ◌/◌, ◌%◌, ◌^◌, ◌<◌, ◌≤◌, Bool, false, eqb, List, [], ◌∷◌, ◌++◌, length, get_or, replicate, Some, Option, sym, refl, ap, ◌∙◌, subst, append-nil}
+use Rattle.basics.proofs.Common.{div-le_self, arith, length-take, ltb-false, Each, pick, each_append, if_false, by_test, never}
+use native.Mathlib.Nat.{mod-le}
 use Rattle.guideline.specs.Buffer.{Sheet, buffer, AcceptedSheet}
 use Rattle.judgement.specs.Sheet.{sheet_of}
-use Rattle.judgement.specs.Judgement.{Judgement, judgement}
-use Rattle.judgement.specs.Judgement.Judgement.{turned_away, sound}
+use Rattle.judgement.specs.Judgement.{Judgement, Judgement.turned_away, Judgement.sound, judgement}
 use Rattle.judgement.proofs.Acceptance.{sound_accepted, numbered}
-use Rattle.quarter_sheet.proofs.Answers.{buffer_most}
+use Rattle.quarter_sheet.proofs.Buffers.{buffer_most}
 use Rattle.report_line.specs.declared.Row.{Row}
 use Rattle.report_line.specs.Line.{rows_in, equal_bytes, found_at}
 use Rattle.report_line.proofs.Readback.{PrintableIn, row_is, number_among, row_found}
@@ -31,7 +19,7 @@ use Rattle.report.specs.Rows.{row, items_from}
 use Rattle.report.proofs.Readback.{items_printable, number_append, items_found}
 use Rattle.refusal.specs.declared.Place.TheVariants as place
 use Rattle.quarter_stream.specs.Sheets.{Sheets, sheets_of, one, count}
-use Rattle.summary.specs.Summaries.{leading, foremost, smaller, larger, total, summary_of, mean, remainder, items_of, SummaryIs}
+use Rattle.summary.specs.Summaries.{leading, first_extreme, is_smaller, is_larger, total, summary_of, mean, remainder, items_of, SummaryIs}
 use Rattle.summary.specs.Exact.{total_buffer, TotalDemand}
 use Rattle.summary.specs.declared.Accepted.{Accepted}
 use Rattle.summary.specs.declared.Summary.{Summary}
@@ -109,16 +97,16 @@ unfolding sheet_rows
 sheets_fit n [] h = tt
 sheets_fit n (x ∷ xs) h = (sheet_fits n x (judgement x) refl (omega arith), sheets_fit (suc n) xs (omega arith))
 
-small_foremost : (m : ℕ) (before : ℕ → ℕ → Bool) (a : Accepted) (bs : List Accepted) → Small m a → Each (Small m) bs → Small m (foremost before a bs)
-unfolding foremost
-small_foremost m before a [] p q = p
-small_foremost m before a (b ∷ bs) p q =
-    small_foremost m before (leading before a b) bs (by_test (Small m) (before b.buffer a.buffer) b a (λ t. q.0) (λ t. p)) q.1
+small_first_extreme : (m : ℕ) (before : ℕ → ℕ → Bool) (a : Accepted) (bs : List Accepted) → Small m a → Each (Small m) bs → Small m (first_extreme before a bs)
+unfolding first_extreme
+small_first_extreme m before a [] p q = p
+small_first_extreme m before a (b ∷ bs) p q =
+    small_first_extreme m before (leading before a b) bs (by_test (Small m) (before b.buffer a.buffer) b a (λ t. q.0) (λ t. p)) q.1
 
 ends_small : (m : ℕ) → 0 < m → (ys : List Accepted) → Each (Small m) ys → Small m (summary_of ys).smallest × Small m (summary_of ys).largest
 unfolding summary_of
 ends_small m h [] p = (record { sheet = h; buffer = omega arith }, record { sheet = h; buffer = omega arith })
-ends_small m h (a ∷ ys) p = (small_foremost m smaller a ys p.0 p.1, small_foremost m larger a ys p.0 p.1)
+ends_small m h (a ∷ ys) p = (small_first_extreme m is_smaller a ys p.0 p.1, small_first_extreme m is_larger a ys p.0 p.1)
 
 mean_small : (s : Summary) → (mean s ≤ s.total) × (remainder s ≤ s.total)
 unfolding mean remainder

@@ -1,13 +1,10 @@
 -- A sheet that is closed: what is written is its line, and the summary is that with it. Assumes nothing.
-use mathlib.Core.Path.{◌≡◌, sym, ap, ◌∙◌}
-use mathlib.Core.List.{List, [], ◌∷◌, ◌++◌, append-nil}
-use Prim.Native.Nat.{ℕ, ◌+◌, ◌^◌, ◌<◌}
-use native.Mathlib.Omega.{arith}
+use Rattle.basics.proofs.Common.{◌≡◌, ℕ, ◌+◌, ◌^◌, ◌<◌, List, [], ◌∷◌, ◌++◌, sym, ap, ◌∙◌, append-nil, arith}
 use Rattle.refusal.specs.Outcome.Outcome.{accepted, refused}
 use Rattle.refusal.specs.declared.Place.{Place}
 use Rattle.judgement.specs.Judgement.{Judgement, judgement}
 use Rattle.quarter_sheet.specs.Answer.{buffer_of}
-use Rattle.quarter_sheet.proofs.Answers.{is_sound, is_turned, answer_most}
+use Rattle.quarter_sheet.proofs.Buffers.{is_sound, is_turned, answer_most}
 use Rattle.text_answer.specs.Printing.{refusal_row}
 use Rattle.report_line.specs.Line.{line_in, row_in}
 use Rattle.summary.specs.Summaries.{summary_of}

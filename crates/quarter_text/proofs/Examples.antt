@@ -1,9 +1,5 @@
 -- What follows the lines of the sheets, computed: of 60 sheets and of one more, and where the last one is not closed. Assumes nothing.
-use mathlib.Core.Path.{◌≡◌, refl}
-use mathlib.Core.List.{List, [], ◌∷◌, map}
-use Prim.Native.Nat.{ℕ}
-use lib.ListN.{replicate}
-use Rattle.basics.specs.Pick.{pick}
+use Rattle.basics.proofs.Common.{◌≡◌, ℕ, List, [], ◌∷◌, map, replicate, refl, pick}
 use Rattle.refusal.specs.declared.Place.TheVariants as place
 use Rattle.report_line.specs.declared.Row.{Row}
 use Rattle.text_answer.specs.Printing.{refusal_row}

@@ -1,22 +1,13 @@
 -- The lines of sheets and the accepted ones of them: a sheet more, sheets cut at the room, and how many and how large they are. Assumes nothing.
 -- In order: a sheet more, behind the others; sheets cut at a room of one byte more than the longest; how many, and how large.
-use mathlib.Core.Path.{◌≡◌, refl, sym, ap, ◌∙◌}
-use mathlib.Core.List.{List, [], ◌∷◌, ◌++◌, map, append_assoc, append-nil}
-use Prim.Native.Nat.{ℕ, suc, ◌+◌, ◌≤◌, ◌<◌}
-use native.Mathlib.Nat.{mul-le-mul_left}
-use native.Mathlib.Omega.{arith}
-use lib.ListN.{length, take, length-append}
-use lib.Seq.{take_all}
-use Rattle.basics.specs.Each.{Each}
-use Rattle.basics.proofs.Picks.{if_ge}
-use Rattle.basics.proofs.Elements.{each_append}
+use Rattle.basics.proofs.Common.{◌≡◌, ℕ, suc, ◌+◌, ◌<◌, ◌≤◌, List, [], ◌∷◌, ◌++◌, map, length, take, sym, refl, ap, ◌∙◌, append_assoc, append-nil, mul-le-mul_left, arith, length-append, take_all}
+use Rattle.basics.proofs.Common.{Each, each_append, if_ge}
 use Rattle.judgement.specs.Sheet.{sheet_of}
-use Rattle.judgement.specs.Judgement.{Judgement, judgement}
-use Rattle.judgement.specs.Judgement.Judgement.{turned_away, sound}
+use Rattle.judgement.specs.Judgement.{Judgement, Judgement.turned_away, Judgement.sound, judgement}
 use Rattle.judgement.proofs.Acceptance.{sound_accepted}
 use Rattle.sheet_length.specs.Measured.{longest_sheet}
 use Rattle.quarter_sheet.specs.Answer.{most_buffer}
-use Rattle.quarter_sheet.proofs.Answers.{cut_judged, buffer_most}
+use Rattle.quarter_sheet.proofs.Buffers.{cut_judged, buffer_most}
 use Rattle.report_line.specs.Line.{line_bytes, row_in}
 use Rattle.report_line.proofs.Readback.{length_in_lem}
 use Rattle.quarter_stream.specs.Sheets.{Sheets, sheets_of, count}

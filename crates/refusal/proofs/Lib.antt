@@ -1,2 +1,2 @@
 -- Laws of a call's outcome.
-pub mod Accepted
+pub mod Acceptance

@@ -17,6 +17,10 @@ pub data Outcome : Type 0 where
   -- the number of the row under which it is turned away, and the place
   refused : ℕ → Place → Outcome
 
+-- no refusal has the number 0, which an exported call gives where it accepts
+abbrev pub Never0 : Outcome → Type 0
+Never0 o = (p : Place) → o ≡ refused 0 p → ⊥
+
 -- the number of a rule: its row in document 01's table, 'What is turned away', and what document 02's requests add to it
 abbrev pub rule_number : Rule → ℕ
 rule_number rule.SheetTooLong = 1

@@ -1,14 +1,6 @@
 -- Lines of one code and block: of two lists of numbers, how long they are, and how they are written one after the other. Assumes nothing.
-use borrow.Rule.Slice.PartMut.{put_mid}
-use mathlib.Core.Path.{◌≡◌, ap, ◌∙◌}
-use mathlib.Core.List.{List, [], ◌∷◌, ◌++◌, append-nil}
-use Prim.Native.Nat.{ℕ, suc, ◌+◌, ◌-◌, ◌*◌, ◌≤◌, ◌<◌}
-use native.Mathlib.Nat.{add-zero, mul-le-mul_left}
-use native.Mathlib.Numerals.{add-one}
-use native.Mathlib.Omega.{arith}
-use lib.ListN.{length, get_or, take, drop, length-append}
-use lib.Seq.{take-suc, length-take-le}
-use Rattle.basics.proofs.Stretches.{Wrote, nothing, lent_part}
+use Rattle.basics.proofs.Common.{◌≡◌, ℕ, suc, ◌+◌, ◌-◌, ◌*◌, ◌<◌, ◌≤◌, List, [], ◌∷◌, ◌++◌, length, get_or, take, drop, ap, ◌∙◌, append-nil, add-zero, mul-le-mul_left, add-one, arith, length-append}
+use Rattle.basics.proofs.Common.{length-take-le, take-suc, put_mid, Wrote, nothing, lent_part}
 use Rattle.basics.proofs.Stretches as lent
 use Rattle.sizes.specs.Sizes.{number_columns}
 use Rattle.report_line.specs.Line.{line_bytes, report_line_bytes, line_in, rows_in, print_rows}

@@ -1,20 +1,7 @@
 -- The numbers of a report, read back off its lines: those of another code, of another block and of another item are passed. Assumes nothing.
 -- In order: which row is found; the lines of the blocks that exist; a whole report.
-use mathlib.Core.Path.{◌≡◌, refl, ◌∙◌}
-use mathlib.Core.Bool.{Bool, true, false}
-use mathlib.Core.List.{List, [], ◌∷◌, ◌++◌}
-use Prim.Native.Nat.{ℕ, zero, suc, ◌+◌, ◌-◌, ◌^◌, ◌≤◌, ◌<◌}
-use native.Mathlib.Decide.{ℕ_discrete}
-use native.Mathlib.Omega.{arith}
-use borrow.Author.Tests.{eq-eqb, ne_eqb}
-use lib.ListN.{length, get_or}
-use Rattle.basics.specs.Pick.{pick}
-use Rattle.basics.specs.Each.{Each}
-use Rattle.basics.specs.Ascending.{ascending}
-use Rattle.basics.proofs.Picks.{if_true, if_false, if_eq, if_ne, by_test}
-use Rattle.basics.proofs.Elements.{each_append}
-use Rattle.basics.proofs.Ascents.{each_ascending}
-use Rattle.std.specs.Prelude.{Option, Some}
+use Rattle.basics.proofs.Common.{◌≡◌, ℕ, zero, suc, ◌+◌, ◌-◌, ◌^◌, ◌<◌, ◌≤◌, Bool, true, false, List, [], ◌∷◌, ◌++◌, length, get_or, Some, Option, refl, ◌∙◌, arith, eq-eqb, ne_eqb, ℕ_discrete}
+use Rattle.basics.proofs.Common.{ascending, Each, pick, each_ascending, each_append, if_true, if_false, if_eq, if_ne, by_test}
 use Rattle.sizes.specs.Sizes.{blocks, block_figures, number_columns, FitsColumns}
 use Rattle.report_line.specs.declared.Row.{Row}
 use Rattle.report_line.specs.Line.{print_rows, equal_bytes, number_at}

@@ -1,13 +1,7 @@
 -- The lines of rows: written row after row, and the totals behind them. Assumes nothing.
-use borrow.Rule.Slice.PartMut.{put_mid}
-use mathlib.Core.Path.{◌≡◌, refl, sym, ap, ◌∙◌}
-use mathlib.Core.List.{List, [], ◌∷◌, ◌++◌, map, append-nil}
-use Prim.Native.Nat.{ℕ, ◌+◌, ◌-◌, ◌*◌, ◌≤◌, ◌<◌}
-use native.Mathlib.Omega.{arith}
-use lib.ListN.{length, get_or, take, drop, length-append, length-drop}
-use Rattle.std.proofs.lemmas.List.{map-append, take_more}
-use Rattle.std.proofs.lemmas.Grind.{flat_map-append}
-use Rattle.basics.proofs.Stretches.{Wrote, nothing, lent_part}
+use Rattle.basics.proofs.Common.{◌≡◌, ℕ, ◌+◌, ◌-◌, ◌*◌, ◌<◌, ◌≤◌, List, [], ◌∷◌, ◌++◌, map, length, get_or, take, drop, sym, refl, ap, ◌∙◌, append-nil, arith, length-append, length-drop, put_mid}
+use Rattle.basics.proofs.Common.{flat_map-append, map-append, Wrote, nothing, lent_part}
+use Rattle.std.proofs.lemmas.List.{take_more}
 use Rattle.sizes.specs.Sizes.{block_figures}
 use Rattle.figures.specs.Parts.{figure_list, numbered_figures}
 use Rattle.figures.specs.declared.NumberedFigures.{NumberedFigures}

@@ -1,13 +1,6 @@
 -- A stretch of a line's bytes with a line written into it: columns 1–9, a space, the number's columns and the line feed, one after the other.
 -- Assumes nothing.
-use borrow.Rule.Slice.PartMut.{put_mid}
-use mathlib.Core.Path.{◌≡◌, ap, ◌∙◌}
-use mathlib.Core.List.{List}
-use Prim.Native.Nat.{ℕ, ◌-◌, ◌+◌, ◌<◌}
-use native.Mathlib.Omega.{arith}
-use lib.ListN.{length, set, take, drop, length-drop}
-use lib.Seq.{length-take-le}
-use Rattle.basics.proofs.Stretches.{nothing, part, next, all_written}
+use Rattle.basics.proofs.Common.{◌≡◌, ℕ, ◌+◌, ◌-◌, ◌<◌, List, length, take, drop, set, ap, ◌∙◌, arith, length-drop, length-take-le, put_mid, nothing, part, next, all_written}
 use Rattle.field.specs.Field.{decimal}
 use Rattle.field.proofs.WrittenColumns.{length_decimal}
 use Rattle.key_columns.specs.Key.{key_bytes, key}

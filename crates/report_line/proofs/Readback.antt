@@ -1,30 +1,17 @@
 -- The numbers of a report that is made of lines are read back off it. Assumes nothing.
 -- In order: what stands in the columns of a line; columns 1–9 are the same where code, block and item are; a list of rows.
-use mathlib.Core.Path.{◌≡◌, refl, sym, ap, ◌∙◌}
-use mathlib.Core.Bool.{Bool, true, false}
-use mathlib.Core.List.{List, [], ◌∷◌, ◌++◌, append_assoc, List-discrete}
-use Prim.Native.Nat.{ℕ, suc, ◌+◌, ◌^◌, ◌/◌, ◌<◌}
-use native.Mathlib.Decide.{ℕ_discrete}
+use Rattle.basics.proofs.Common.{◌≡◌, ℕ, suc, ◌+◌, ◌/◌, ◌^◌, ◌<◌, Bool, true, false, eqb, List, [], ◌∷◌, ◌++◌, length, take, drop, Some, Option, sym, refl, ap, ◌∙◌, append_assoc, add-one, arith}
+use Rattle.basics.proofs.Common.{length-append, take_at, drop_at, eq-eqb, ne_eqb, ℕ_discrete, Each, pick, if_true, if_false, if_eq, if_ne, is_values, values}
+use mathlib.Core.List.{List-discrete}
 use native.Mathlib.Nat.{add-div_left}
-use native.Mathlib.Numerals.{add-one}
-use native.Mathlib.Omega.{arith}
-use lib.Dec.{eqb}
-use borrow.Author.Tests.{eq-eqb, ne_eqb}
-use lib.ListN.{length, take, drop, length-append}
-use lib.Seq.{take_at, drop_at}
-use Rattle.basics.specs.Pick.{pick}
-use Rattle.basics.specs.Each.{Each}
-use Rattle.basics.proofs.Picks.{if_true, if_false, if_eq, if_ne}
 use Rattle.sizes.specs.Sizes.{number_columns}
 use Rattle.field.specs.Field.{field, leading_digits, decimal}
-use Rattle.std.specs.Prelude.{Option, Some}
 use Rattle.field.proofs.WrittenColumns.{length_decimal}
 use Rattle.field.proofs.Inverse.{read_back}
 use Rattle.key_columns.specs.Key.{key_bytes, key}
 use Rattle.key_columns.proofs.Columns.{key_read}
 use Rattle.report_line.specs.declared.Row.{Row}
 use Rattle.report_line.specs.Line.{before_number, line_bytes, report_line_bytes, line_in, report_line, row_in, rows_in, print_rows, equal_bytes, found_in, found_at, number_at}
-use Rattle.basics.proofs.Values.{values, is_values}
 
 abbrev key_of : Row → List ℕ
 key_of r = key r.code r.block r.item

@@ -36,6 +36,7 @@ impl Row {
     }
 
     // Writes the line into a stretch that is longer than a line without its number: the number has the columns that are left beside the rest of it.
+    #[tactic(auto, using(crate::proofs::LineBytes::line_filled))]
     pub fn write_in(self, out: &mut [u8])
         requires { line_bytes 0 < length out.old }
         ensures { out.new ≡ row_in (length out.old - line_bytes 0) self }

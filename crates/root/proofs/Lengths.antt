@@ -1,12 +1,8 @@
 -- The steps of a root are as many as the radicand has digits in base 4, and the leading zeros of its words give them. Assumes nothing.
-use mathlib.Core.Path.{◌≡◌, refl}
-use Prim.Native.Nat.{ℕ, zero, suc, max, ◌+◌, ◌-◌, ◌*◌, ◌/◌, ◌^◌, ◌≤◌, ◌<◌}
-use native.Mathlib.Nat.{le_refl, lt_of_not-le, pow-succ', pow-le-pow_right, mul-le-mul_right, suc-add}
-use native.Mathlib.Decide.{dec_le}
-use native.Mathlib.Omega.{arith}
-use lib.Arith.{digits_lt}
-use lib.Count.{count_leading_zeros, leading_top, leading_of_zero}
-use lib.Pow.{pow_pos, pow_mono, pow-add}
+use Rattle.basics.proofs.Common.{◌≡◌, ℕ, zero, suc, ◌+◌, ◌-◌, ◌*◌, ◌/◌, ◌^◌, ◌<◌, ◌≤◌, max, refl, mul-le-mul_right, suc-add, lt_of_not-le, arith, pow_pos, pow_mono, pow-add, dec_le, pow-succ'}
+use Rattle.basics.proofs.Common.{pow-le-pow_right, digits_lt, count_leading_zeros}
+use native.Mathlib.Nat.{le_refl}
+use lib.Count.{leading_top, leading_of_zero}
 use Rattle.root.specs.Steps.{length_in, binary_length, HasLength, steps}
 
 -- n has k binary digits, the first of them not 0

@@ -2,5 +2,5 @@
 -- time.
 pub mod Lengths
 pub mod Windows
-pub mod Floors
+pub mod LowerRoots
 pub mod Roots

@@ -1,19 +1,14 @@
 -- A root found one binary digit at a time: what is held after each step (`After`), and the root rounded up. Assumes nothing.
-use mathlib.Core.Path.{◌≡◌, refl, sym, ap, ◌∙◌}
-use mathlib.Core.Bool.{Bool, true, false}
-use Prim.Native.Nat.{ℕ, suc, ◌+◌, ◌-◌, ◌*◌, ◌/◌, ◌%◌, ◌^◌, ◌≤◌, ◌<◌}
-use native.Mathlib.Nat.{pow-succ', div-le_self, div-div-eq-div-mul, div-eq_of_lt, div-one, mod-lt, mod-eq_of_lt, mul_comm}
-use native.Mathlib.Omega.{arith}
-use lib.Dec.{leb, ltb}
-use borrow.Author.Tests.{ltb-true, ltb-false}
-use Rattle.basics.specs.Least.{least}
-use Rattle.basics.specs.Pick.{pick}
+-- In order: one binary digit more; a radicand without a step; what is held before the first step, and from each to the next; the root rounded up
+-- after the last.
+use Rattle.basics.proofs.Common.{◌≡◌, ℕ, suc, ◌+◌, ◌-◌, ◌*◌, ◌/◌, ◌%◌, ◌^◌, ◌<◌, ◌≤◌, Bool, true, false, ltb, leb, sym, refl, ap, ◌∙◌, mod-lt, mod-eq_of_lt, mul_comm, div-le_self, arith, ltb-false}
+use Rattle.basics.proofs.Common.{ltb-true, pow-succ', div-eq_of_lt, least, pick, lt_of_squares}
+use native.Mathlib.Nat.{div-div-eq-div-mul, div-one}
 use Rattle.basics.proofs.LeastOf.{root_eq}
-use Rattle.basics.proofs.Roots.{lt_of_squares}
 use Rattle.root.specs.Steps.{steps, leading, After}
 use Rattle.root.proofs.Lengths.{has_digits, few_steps}
-use Rattle.root.proofs.Windows.{pos4, start_fits, brought}
-use Rattle.root.proofs.Floors.{floor_root, floor_is}
+use Rattle.root.proofs.Windows.{pos4, start_fits, digits_brought_down}
+use Rattle.root.proofs.LowerRoots.{floor_root, floor_is}
 
 -- one binary digit t more, and u left: the root is 2r + t, and t times the next odd number is taken off what is left with the digits brought down
 pub record Digit (r s d t u : ℕ) : Type 0 where
@@ -53,16 +48,11 @@ module _ (n : ℕ) (fits : n < 2 ^ 124) where
   module _ (j w r s : ℕ) (a : After n j w r s) where
     -- the digits that are not yet brought down leave the window's two upper ones free
     pub window_small : w < 2 ^ 126
-    window_small =
-        let m = steps n - j in
-        let f = few in
-        rw a.to_come (start_fits (n % 4 ^ m) m (63 - m) (mod-lt n (pos4 m)) (omega arith))
+    window_small = grind (arith, few, start_fits, mod-lt, pos4)
 
     -- what is left of the leading digits is at most twice the root
     pub small : s ≤ 2 * r
-    small =
-        let k : leading n j < (r + 1) * (r + 1) = rw a.held (floor_root (leading n j) (leading_small j)).next_above in
-        omega (arith, a.remains)
+    small = grind (arith, floor_root, leading_small)
 
   -- before the first step nothing is brought down
   pub at_start : (w : ℕ) → w ≡ n * 4 ^ (63 - steps n) → After n 0 w 0 0
@@ -78,9 +68,7 @@ module _ (n : ℕ) (fits : n < 2 ^ 124) where
 
   -- the digits above the last m, from those above the last m + 1
   one_more : (m : ℕ) → n / 4 ^ m ≡ 4 * (n / 4 ^ suc m) + n / 4 ^ m % 4
-  one_more m =
-      let e : n / 4 ^ m / 4 ≡ n / 4 ^ suc m = div-div-eq-div-mul n (4 ^ m) 4 ∙ ap (λ (x : ℕ). n / x) (mul_comm (4 ^ m) 4 ∙ sym (pow-succ' 4 m)) in
-      omega arith
+  one_more m = grind (arith, div-div-eq-div-mul, mul_comm, pow-succ')
 
   -- one step: q, the two digits that leave the window, are brought down, and one binary digit of the root is fixed
   pub step :
@@ -90,7 +78,7 @@ module _ (n : ℕ) (fits : n < 2 ^ 124) where
       let m = steps n - (j + 1) in
       let e : steps n - j ≡ suc m = omega arith in
       let f = few in
-      let d = brought n m (63 - suc m) w q w' (omega arith) (rw e at a.to_come) fit down in
+      let d = digits_brought_down n m (63 - suc m) w q w' (omega arith) (rw e at a.to_come) fit down in
       let z : suc (63 - suc m) ≡ 63 - m = omega arith in
       let k : r' * r' + s' ≡ leading n (j + 1) = omega (arith, one_more m, rw e at a.remains, d.0) in
       record {
@@ -112,9 +100,7 @@ module _ (n : ℕ) (fits : n < 2 ^ 124) where
 
   module _ (j w r s : ℕ) (ends : steps n ≤ j) (a : After n j w r s) where
     ended : n ≡ r * r + s
-    ended =
-        let e : steps n - j ≡ 0 = omega arith in
-        omega (arith, rw e at a.remains, div-one n)
+    ended = grind (arith, div-one)
 
     root_room : r < 2 ^ 62
     root_room = lt_of_squares r (2 ^ 62) (omega (arith, ended))

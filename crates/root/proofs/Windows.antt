@@ -1,29 +1,21 @@
 -- A window of two words: a radicand is moved to two binary digits below its top, and two at a time are brought down from there. Assumes
 -- nothing.
-use mathlib.Core.Path.{◌≡◌, sym, ap, subst, ◌∙◌}
-use Prim.Native.Nat.{ℕ, zero, suc, ◌+◌, ◌-◌, ◌*◌, ◌/◌, ◌%◌, ◌^◌, ◌≤◌, ◌<◌}
-use native.Mathlib.Nat.{pow-succ', mod-lt, mod-eq_of_lt, mul-lt-mul_of_pos_right, mul-le-mul_left, lt_of_mul-lt-mul_right, div-add-mod'}
-use native.Mathlib.Omega.{arith}
-use lib.Arith.{digits_div, digits_mod, mod-mul}
-use lib.Pow.{pow_pos, pow-add}
+use Rattle.basics.proofs.Common.{◌≡◌, ℕ, zero, suc, ◌+◌, ◌-◌, ◌*◌, ◌/◌, ◌%◌, ◌^◌, ◌<◌, ◌≤◌, sym, ap, ◌∙◌, subst, mod-lt, mod-eq_of_lt, lt_of_mul-lt-mul_right, mul-le-mul_left, mul-lt-mul_of_pos_right}
+use Rattle.basics.proofs.Common.{div-add-mod', arith, pow_pos, pow-add, pow-succ', digits_mod, two_digits}
+use lib.Arith.{mod-mul}
 use Rattle.root.proofs.Lengths.{four}
 
 pub pos4 : (k : ℕ) → 0 < 4 ^ k
 pos4 k = subst (λ (x : ℕ). 0 < x) (sym (four k)) (pow_pos (2 * k))
-
--- two digits are known from their number
-digits : (N q r d x : ℕ) → r < N → x < N → q * N + r ≡ d * N + x → (q ≡ d) × (r ≡ x)
-digits N q r d x h k e =
-    (sym (digits_div q h) ∙ ap (λ (y : ℕ). y / N) e ∙ digits_div d k, sym (digits_mod q h) ∙ ap (λ (y : ℕ). y % N) e ∙ digits_mod d k)
 
 -- a number of k digits in base 4, moved up by the other z of 63, fits two words without their two upper binary digits
 pub start_fits : (n k z : ℕ) → n < 4 ^ k → k + z ≡ 63 → n * 4 ^ z < 2 ^ 126
 start_fits n k z h e = subst (λ (x : ℕ). n * 4 ^ z < x) (sym (pow-add 4 k z) ∙ ap (λ (j : ℕ). 4 ^ j) e) (mul-lt-mul_of_pos_right h (pos4 z))
 
 -- w holds the last m + 1 digits of n in base 4 at its top, below 2^126: what leaves there is the first of them, and r then holds the last m
-pub brought : (n m z w q r : ℕ) → suc m + z ≡ 63 → w ≡ n % 4 ^ suc m * 4 ^ z → r < 2 ^ 126 → r + q * 2 ^ 126 ≡ 4 * w →
+pub digits_brought_down : (n m z w q r : ℕ) → suc m + z ≡ 63 → w ≡ n % 4 ^ suc m * 4 ^ z → r < 2 ^ 126 → r + q * 2 ^ 126 ≡ 4 * w →
     (q ≡ n / 4 ^ m % 4) × (r ≡ n % 4 ^ m * 4 ^ suc z)
-brought n m z w q r places holds h e =
+digits_brought_down n m z w q r places holds h e =
     let d : ℕ = n / 4 ^ m % 4 in
     let t : ℕ = n % 4 ^ m in
     let C : ℕ = 4 ^ suc z in
@@ -32,7 +24,7 @@ brought n m z w q r places holds h e =
     let u : n % 4 ^ suc m ≡ d * 4 ^ m + t = ap (λ (x : ℕ). n % x) (pow-succ' 4 m) ∙ mod-mul n {m = 4} {c = 4 ^ m} (omega arith) (pos4 m) in
     let f : w ≡ (d * 4 ^ m + t) * 4 ^ z = holds ∙ ap (λ (x : ℕ). x * 4 ^ z) u in
     let l : t * C < 2 ^ 126 = start_fits t m (suc z) (mod-lt n (pos4 m)) all in
-    digits (2 ^ 126) q r d (t * C) h l (shifted (2 ^ 126) q r w d (4 ^ m) t (4 ^ z) C (pow-succ' 4 z) N e f)
+    two_digits (2 ^ 126) q r d (t * C) h l (shifted (2 ^ 126) q r w d (4 ^ m) t (4 ^ z) C (pow-succ' 4 z) N e f)
   where
     shifted : (N q r w d A t B C : ℕ) → C ≡ 4 * B → A * C ≡ N → r + q * N ≡ 4 * w → w ≡ (d * A + t) * B → q * N + r ≡ d * N + t * C
     shifted N q r w d A t B C c a e f = omega (arith, ap (λ (x : ℕ). d * x) a, ap (λ (x : ℕ). t * x) c, ap (λ (x : ℕ). d * A * x) c)
@@ -80,9 +72,7 @@ four_as z k e = four z ∙ ap (λ (x : ℕ). 2 ^ x) e
 -- a number of k digits in base 4 is moved up by a word and b binary digits more: the lower word alone is left
 pub far_moved : (h l k b : ℕ) → 2 * (63 - k) ≡ 64 + b → (h * 2 ^ 64 + l) * 4 ^ (63 - k) < 2 ^ 128 →
     l * 2 ^ b % 2 ^ 64 * 2 ^ 64 + 0 ≡ (h * 2 ^ 64 + l) * 4 ^ (63 - k)
-far_moved h l k b e fits =
-    let p : 4 ^ (63 - k) ≡ 2 ^ 64 * 2 ^ b = four_as (63 - k) (64 + b) e ∙ pow-add 2 64 b in
-    rw p (far (2 ^ 64) (2 ^ b) h l (pow_pos 64) (pow_pos b) (rw p at fits))
+far_moved h l k b e fits = grind (arith, four_as, pow-add, far, pow_pos)
 
 -- or by b alone: the lower word's upper digits, all but its last c, cross
 module _ (h l k b c : ℕ) (all : 2 * (63 - k) ≡ b) (word : b + c ≡ 64) (fits : (h * 2 ^ 64 + l) * 4 ^ (63 - k) < 2 ^ 128) where

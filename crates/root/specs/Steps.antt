@@ -32,7 +32,7 @@ leading n j = n / 4 ^ (steps n - j)
 abbrev pub root_down : ℕ → ℕ
 root_down m = least (λ r. ltb m ((r + 1) * (r + 1)))
 
--- r is the greatest whole number whose square is at most m: `floor_root` of proofs/Floors says it of `root_down`, for every m below 2^124
+-- r is the greatest whole number whose square is at most m: `floor_root` of proofs/LowerRoots says it of `root_down`, for every m below 2^124
 pub record FloorRoot (m r : ℕ) : Type 0 where
   pub within : r * r ≤ m
   pub next_above : m < (r + 1) * (r + 1)

@@ -29,6 +29,7 @@ pub fn root_up(n: Wide) -> u64
 
 // The same with its steps: each fixes one binary digit, and after step j the held value is the root, rounded down, of the leading 2j digits
 // of n. Below 2^124 the root and what its square leaves fit a word at each step.
+#[tactic(auto, using(crate::proofs::Lengths::has_digits, crate::proofs::Roots::few))]
 pub fn root_and_steps(n: Wide) -> Root
     requires { value n < 2 ^ 124 }
     ensures { (result.root ≡ least (λ x. leb (value n) (x * x))) × (result.steps ≡ steps (value n)) }
@@ -104,6 +105,7 @@ fn root_step(root: u64, rest: u64, digits: u64) -> PartialRoot
 }
 
 // 1 where the odd number behind `four` is within what is left, else 0: a number to reckon with, as a jump on it would be mispredicted half the time.
+#[tactic(auto, unfolding(basics::specs::Pick::pick))]
 fn one_if_above(next: u64, four: u64) -> u64
     ensures { result ≡ pick (ltb four next) 1 0 }
 {
@@ -129,6 +131,7 @@ fn top_digits(window: Wide) -> u64
 }
 
 // The window without these two digits, moved up by two: two cross from the lower word into the upper one.
+#[tactic(auto, unfolding(wide::specs::Value::value))]
 fn bring_down(window: Wide) -> Wide
     ensures moved { value result + window.high / 2 ^ 60 * 2 ^ 126 ≡ 4 * value window }
     ensures free { result.high < 2 ^ 62 }
@@ -142,6 +145,7 @@ fn bring_down(window: Wide) -> Wide
 }
 
 // The starting place: n moved up by an even number of its leading zeros, so that its padded length stands two binary digits below the top.
+#[tactic(auto, using(crate::proofs::Windows::start_fits, crate::proofs::Windows::far_moved, crate::proofs::Windows::near_moved), unfolding(wide::specs::Value::value))]
 fn aligned(n: Wide, count: u32) -> Wide
     requires { (0 < count) × (count ≤ 62) × (value n < 4 ^ count) }
     ensures { value result ≡ value n * 4 ^ (63 - count) }
@@ -162,6 +166,7 @@ fn aligned(n: Wide, count: u32) -> Wide
 }
 
 // Half the binary length of n, padded to an even number: its leading zeros are those of its upper word, or of its lower one where that is 0.
+#[tactic(auto, using(crate::proofs::Lengths::one_word, crate::proofs::Lengths::two_words), unfolding(wide::specs::Value::value))]
 fn count_steps(n: Wide) -> u32
     ensures { result ≡ steps (value n) }
 {

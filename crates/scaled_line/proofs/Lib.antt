@@ -2,5 +2,5 @@
 pub mod SmallLetters
 pub mod ScaledAmounts
 pub mod Lines
-pub mod Moves
+pub mod MovedLines
 pub mod StoredLines

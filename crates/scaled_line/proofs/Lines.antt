@@ -1,10 +1,5 @@
 -- A line of either sort is read and printed, each undoing the other; the rules that it is refused by. Assumes nothing.
-use Rattle.std.specs.Prelude.{Result, Ok, Err}
-use mathlib.Core.Path.{◌≡◌, refl, subst}
-use mathlib.Core.List.{List}
-use Prim.Native.Nat.{ℕ}
-use lib.ListN.{length}
-use Rattle.basics.proofs.Picks.{by_test, never}
+use Rattle.basics.proofs.Common.{◌≡◌, ℕ, List, length, Ok, Err, Result, refl, subst, by_test, never}
 use Rattle.refusal.specs.Outcome.{rule_number, Judging, judging}
 use Rattle.layout.specs.Columns.{sheet_line_bytes}
 use Rattle.layout.proofs.Columns.{length_lettered}
@@ -17,8 +12,7 @@ use Rattle.sheet_line.proofs.PrintedLines.{parse_print, print_parsed}
 use Rattle.sheet_line.proofs.Refusals.{line_judging}
 use Rattle.scaled_line.specs.Scale.{letters_in, with_capitals, parse_in, print_in}
 use Rattle.scaled_line.specs.Amounts.{barred_by, rule20or21, convertible}
-use Rattle.scaled_line.specs.declared.Scale.{Scale}
-use Rattle.scaled_line.specs.declared.Scale.TheVariants.{Cents, Thousands}
+use Rattle.scaled_line.specs.declared.Scale.{Scale, TheVariants.Cents, TheVariants.Thousands}
 use Rattle.scaled_line.proofs.SmallLetters.{three_in, length_with_capitals, small_printed, small_read}
 
 -- ---- read and printed

@@ -1,20 +1,14 @@
 -- Amounts of one sort in the other: where the rules leave them, they fit there, pass its rules and come back. Assumes nothing.
-use Rattle.std.specs.Prelude.{Result, Ok, Err}
-use mathlib.Core.Path.{◌≡◌, refl, sym, ap, ◌∙◌}
-use mathlib.Core.Bool.{Bool, true, false, not}
-use Prim.Native.Nat.{ℕ, ◌*◌, ◌/◌, ◌%◌, ◌≤◌}
-use native.Mathlib.Omega.{arith}
-use borrow.Author.Tests.{ltb-false, le-ltb, eqb-true, eq-eqb, not-false}
-use Rattle.basics.specs.Pick.{pick}
-use Rattle.basics.proofs.Picks.{if_true, if_false, by_test, never}
+-- In order: one amount; what the last test leaves of an entry; the entry in the other sort, which passes that sort's rules; and back again.
+use Rattle.basics.proofs.Common.{◌≡◌, ℕ, ◌*◌, ◌/◌, ◌%◌, ◌≤◌, Bool, true, false, not, Ok, Err, Result, sym, refl, ap, ◌∙◌, arith, ltb-false, le-ltb, eq-eqb, eqb-true, not-false, pick, if_true}
+use Rattle.basics.proofs.Common.{if_false, by_test, never}
 use Rattle.amount.specs.Amount.{limit}
 use Rattle.sheet_line.specs.Rules.{row_for, is_scalar, AcceptedAmounts, AcceptedLine}
 use Rattle.refusal.specs.declared.Rule.{Rule}
 use Rattle.sheet_line.specs.declared.Entry.{Entry}
 use Rattle.scaled_line.specs.Scale.{other}
 use Rattle.scaled_line.specs.Amounts.{thousand_dollars, barred, has_barred, rule20or21, convertible, in_other, amount_of, rescaled}
-use Rattle.scaled_line.specs.declared.Scale.{Scale}
-use Rattle.scaled_line.specs.declared.Scale.TheVariants.{Cents, Thousands}
+use Rattle.scaled_line.specs.declared.Scale.{Scale, TheVariants.Cents, TheVariants.Thousands}
 
 -- ---- one amount
 

@@ -1,18 +1,8 @@
 -- Lines in small letters: capitals of small letters are the letters of a code again, so reading such a line and printing an entry undo each other; and
 -- such a line is read by its columns as they stand and its letters as capitals. Assumes nothing.
 -- In order: three letters in front; the letters of a code; a line; a line read by its columns, and by its letters as capitals.
-use Rattle.std.specs.Prelude.{Ok}
-use mathlib.Core.Path.{◌≡◌, refl, sym, ap, ◌∙◌}
-use mathlib.Core.List.{List, [], ◌∷◌, ◌++◌, map}
-use Prim.Native.Nat.{ℕ, suc, ◌+◌, ◌-◌, ◌≤◌, ◌<◌}
-use native.Mathlib.Decide.{dec_le}
-use native.Mathlib.Omega.{arith}
-use lib.ListN.{length, get_or, take, drop, take-append-drop, length-append, length-map, length-drop}
-use lib.Seq.{length-take-le, take_at, drop_at}
-use Rattle.basics.specs.Pick.{pick}
-use Rattle.basics.specs.Each.{Each}
-use Rattle.basics.proofs.Picks.{if_lt, if_ge}
-use Rattle.basics.proofs.Values.{values, is_values}
+use Rattle.basics.proofs.Common.{◌≡◌, ℕ, suc, ◌+◌, ◌-◌, ◌<◌, ◌≤◌, List, [], ◌∷◌, ◌++◌, map, length, get_or, take, drop, Ok, sym, refl, ap, ◌∙◌, arith, length-append, length-drop, take-append-drop}
+use Rattle.basics.proofs.Common.{length-take-le, take_at, drop_at, dec_le, length-map, Each, pick, if_lt, if_ge, is_values, values}
 use Rattle.field.specs.Field.{leading_digits, decimal}
 use Rattle.codes.specs.Codes.{letters_of, is_code, code_among, code_of}
 use Rattle.codes.specs.declared.Code.{Code}
@@ -26,8 +16,7 @@ use Rattle.sheet_line.specs.declared.Entry.{Entry}
 use Rattle.sheet_line.proofs.PrintedLines.{parse_print, print_parsed}
 use Rattle.scaled_line.specs.Scale.{other, to_capital, to_small, letters_in, capital, with_capitals, parse_in, print_in}
 use Rattle.scaled_line.specs.Moved.{other_case}
-use Rattle.scaled_line.specs.declared.Scale.{Scale}
-use Rattle.scaled_line.specs.declared.Scale.TheVariants.{Cents, Thousands}
+use Rattle.scaled_line.specs.declared.Scale.{Scale, TheVariants.Cents, TheVariants.Thousands}
 
 -- ---- three letters in front
 

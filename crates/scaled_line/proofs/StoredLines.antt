@@ -1,18 +1,11 @@
 -- A line as it is stored in the other sort of sheet: each amount in two stretches, the whole as a copy with other letters over it and both amounts
 -- put back. Assumes nothing.
-use borrow.Rule.Slice.PartMut.{put_mid}
-use mathlib.Core.Path.{◌≡◌, refl, ◌∙◌}
-use mathlib.Core.Bool.{Bool}
-use mathlib.Core.List.{List, [], ◌∷◌, ◌++◌, map}
-use Prim.Native.Nat.{ℕ}
-use lib.ListN.{length, set, take, drop, replicate}
-use Rattle.basics.proofs.Values.{values, is_values}
+use Rattle.basics.proofs.Common.{◌≡◌, ℕ, Bool, List, [], ◌∷◌, ◌++◌, map, length, take, drop, set, replicate, refl, ◌∙◌, put_mid, is_values, values}
 use Rattle.key_columns.specs.Key.{columns, code_columns}
-use Rattle.layout.specs.Columns.{sheet_line_bytes, byte_at}
+use Rattle.layout.specs.Columns.{sheet_line_bytes, byte_at, first_columns, second_columns}
 use Rattle.line_fields.specs.Words.{amount_columns}
 use Rattle.scaled_line.specs.Moved.{other_case, zeros, keeps_amounts, shifted, moved_amount, moved_line}
-use Rattle.scaled_line.specs.declared.Scale.{Scale}
-use Rattle.scaled_line.specs.declared.Scale.TheVariants.{Cents, Thousands}
+use Rattle.scaled_line.specs.declared.Scale.{Scale, TheVariants.Cents, TheVariants.Thousands}
 
 -- ---- an amount
 
@@ -38,7 +31,7 @@ module _ (s : List ℕ) (h : length s ≡ sheet_line_bytes) where
 
   module _ (x y z : ℕ) (ys : List ℕ) (i : length ys ≡ amount_columns) where
     -- with the first amount put back, the second still stands as it was
-    pub second_stands : columns 26 39 (put_mid 10 14 (with_letters s x y z) ys) ≡ columns 26 39 s
+    pub second_stands : second_columns (put_mid 10 14 (with_letters s x y z) ys) ≡ second_columns s
     unfolding values
     second_stands = rw (is_values 0 sheet_line_bytes s h, is_values 0 14 ys i) refl
 
@@ -49,7 +42,7 @@ module _ (s : List ℕ) (h : length s ≡ sheet_line_bytes) where
 
     pub line_stored : (d : Scale) {kept : Bool} {zs : List ℕ} → length zs ≡ amount_columns
         → x ≡ other_case (byte_at 1 s) → y ≡ other_case (byte_at 2 s) → z ≡ other_case (byte_at 3 s) → kept ≡ keeps_amounts s
-        → ys ≡ moved_amount d kept (columns 11 24 s) → zs ≡ moved_amount d kept (columns 26 39 s)
+        → ys ≡ moved_amount d kept (first_columns s) → zs ≡ moved_amount d kept (second_columns s)
         → put_mid 25 14 (put_mid 10 14 (with_letters s x y z) ys) zs ≡ moved_line d s
     unfolding moved_line
     line_stored d {kept} {zs} j p q r t m n = both_put zs j ∙ rw (p, q, r, m, n, t, three) refl

@@ -5,11 +5,16 @@ ghost use Rattle.line_fields.specs.Words.{amount_columns};
 ghost use Rattle.scaled_line.specs.Moved.{keeps_amounts, holds_zero, moved_amount};
 
 use super::Scale;
+use codes::SCALAR_CLASS;
+use key_columns::CLASS;
 use layout::SHEET_LINE_BYTES;
 use line_fields::AMOUNT_COLUMNS;
 
 // The zeros that 100,000, the cents of a thousand dollars, has behind its 1.
 const ZEROS: usize = 5;
+
+// The digit of the scalar's class.
+const SCALAR_DIGIT: u8 = b'0' + SCALAR_CLASS as u8;
 
 impl Scale {
     // Writes the columns of an amount as the other sort of sheet has them: as they stand where it is kept or is 0, else moved.
@@ -34,12 +39,12 @@ impl Scale {
     }
 }
 
-// Whether a line is the scalar's, class 4 of GEN, which keeps its number.
+// Whether a line is the scalar's, of GEN and its class, which keeps its number.
 #[tactic(auto, unfolding(crate::specs::Moved::keeps_amounts, basics::specs::Pick::pick))]
 pub(crate) fn keeps_amounts(line: &[u8; SHEET_LINE_BYTES]) -> bool
     ensures { result ≡ keeps_amounts line.now }
 {
-    matches!(line[0], b'G' | b'g') && line[7] == b' ' && line[8] == b'4'
+    matches!(line[0], b'G' | b'g') && line[CLASS] == b' ' && line[CLASS + 1] == SCALAR_DIGIT
 }
 
 // Whether the columns of an amount hold 0.

@@ -1,14 +1,7 @@
 -- The exact and the reported K of two blocks that differ by t cents of one IR. For a d that fits the one, d less 2t or a third of V fits the other, and
 -- K's fraction there is at most t lower; so each number strictly below the one exact K is, less t, strictly below the other. Assumes nothing.
 -- In order: K's fraction at what fits; from b to c, whose IR is t cents above, and back; the exact and the reported K.
-use mathlib.Core.Path.{◌≡◌, sym, ap, subst}
-use mathlib.Core.List.{List}
-use Prim.Native.Nat.{ℕ, zero, suc, ◌+◌, ◌-◌, ◌*◌, ◌≤◌, ◌<◌}
-use native.Mathlib.Nat.{mul-le-mul_right, mul-lt-mul_of_pos_right, lt_of_mul-lt-mul_right}
-use native.Mathlib.Decide.{dec_le}
-use native.Mathlib.Omega.{arith}
-use lib.ListN.{length}
-use lib.Seq.{set_out}
+use Rattle.basics.proofs.Common.{◌≡◌, ℕ, zero, suc, ◌+◌, ◌-◌, ◌*◌, ◌<◌, ◌≤◌, List, length, sym, ap, subst, mul-le-mul_right, lt_of_mul-lt-mul_right, mul-lt-mul_of_pos_right, arith, dec_le, set_out}
 use Rattle.amount.specs.Amount.{limit}
 use Rattle.guideline.specs.Block.{ir, U, LT, Vh, M, K, AcceptedBlock}
 use Rattle.sizes.specs.Sizes.{risks, block_numbers, fineness}
@@ -37,9 +30,7 @@ carried x y z t h k = lt_of_mul-lt-mul_right y.denominator (omega (arith, mul-lt
 module _ (b : List ℕ) (v : AcceptedBlock b) where
   -- what fits is a natural over its denominator, from V/3 to V
   fits_nat : (d : Fraction) → Fits b d → (d.numerator⁺ ≡ d.numerator⁻ + nat d) × (Vh b * d.denominator ≤ 3 * nat d) × (nat d ≤ Vh b * d.denominator)
-  fits_nat d f =
-      let e = nat_is d (omega (arith, f.third)) in
-      (e, omega (arith, f.third), omega (arith, fits_high b v d f))
+  fits_nat d f = grind (arith, nat_is, fits_high)
 
   k_at_natural : (d : Fraction) → whole 0 0 ≤ᶠ k_at b d
   k_at_natural d = go (dec_le 1 (U b))

@@ -1,13 +1,7 @@
 -- Two blocks whose figures are near, none more than s apart: what is at or above the exact I of the one, with s added, is at or above the other's; so for the
 -- exact D, and what fits the one, less s, fits the other unless it falls below a third of V. Assumes nothing.
 -- In order: on naturals; the exact I and D; what fits.
-use mathlib.Core.Path.{◌≡◌}
-use mathlib.Core.List.{List}
-use Prim.Native.Nat.{ℕ, ◌+◌, ◌-◌, ◌*◌, ◌≤◌}
-use native.Mathlib.Nat.{mul-le-mul_left, mul-le-mul_right}
-use native.Mathlib.Decide.{dec_le}
-use native.Mathlib.Omega.{arith}
-use lib.IntN.{pos}
+use Rattle.basics.proofs.Common.{◌≡◌, ℕ, ◌+◌, ◌-◌, ◌*◌, ◌≤◌, List, pos, mul-le-mul_right, mul-le-mul_left, arith, dec_le}
 use Rattle.guideline.specs.Block.{PC, Vh, largest, a, radicand, AcceptedBlock}
 use Rattle.accuracy.specs.Fraction.{Fraction, ◌≤ᶠ◌, whole, quarters, thrice, square_less}
 use Rattle.accuracy.specs.Exact.{AtOrAboveI, AtOrAboveD, Fits}
@@ -103,11 +97,7 @@ abbrev pub third_of : List ℕ → Fraction
 third_of b = record { numerator⁺ = Vh b; numerator⁻ = 0; denominator = 3; positive = omega arith }
 
 pub third_fits : (b : List ℕ) → AcceptedBlock b → Fits b (third_of b)
-third_fits b v =
-    record {
-      third = omega arith;
-      within = λ t. omega (arith, t.less, nat_is t.smaller t.at.natural, at_third b v t.smaller t.at);
-    }
+third_fits b v = grind (arith, nat_is, at_third)
 
 -- d fits c, and d − s is at least a third of the V of b: then d − s fits b
 pub fits_near : (b c : List ℕ) (s : ℕ) → Near b c s → (d : Fraction) → Fits c d → whole (Vh b) 0 ≤ᶠ thrice (less d s) → Fits b (less d s)

@@ -1,38 +1,20 @@
 -- The figures of a block with one IR raised by t cents against those of the block: U rises by t, LT stays, one y rises by 2t, so that neither the
 -- largest y nor the root of Q moves by more than 2t. The raised block is accepted just where the raised IR is within the limit. Assumes nothing.
 -- In order: seven risks; what the exact I and D rest on, and how far it is apart; the raised block: IR(k + 1), at position 2k.
-use mathlib.Core.Path.{◌≡◌, refl, sym, ap, ◌∙◌}
-use mathlib.Core.Bool.{true, false}
-use mathlib.Core.List.{List}
-use Prim.Native.Nat.{ℕ, zero, suc, ◌+◌, ◌-◌, ◌*◌, ◌≤◌, ◌<◌}
-use native.Mathlib.Nat.{mul-le-mul_left}
-use native.Mathlib.Omega.{arith}
-use lib.Dec.{eqb}
-use lib.ListN.{length, get_or}
-use lib.Seq.{get_or-set_same, get_or-set_other}
-use borrow.Author.Tests.{eqb-true, eqb-false}
+use Rattle.basics.proofs.Common.{◌≡◌, ℕ, suc, ◌+◌, ◌-◌, ◌*◌, ◌<◌, ◌≤◌, true, false, eqb, List, length, get_or, sym, refl, ap, ◌∙◌, mul-le-mul_left, arith, get_or-set_other, get_or-set_same, eqb-true}
+use Rattle.basics.proofs.Common.{eqb-false, pick, by_test, values_same, values}
 use Rattle.amount.specs.Amount.{limit}
-use Rattle.basics.specs.Pick.{pick}
-use Rattle.basics.proofs.Picks.{by_test}
-use Rattle.basics.proofs.Values.{values, values_same}
 use Rattle.sizes.specs.Sizes.{risks}
 use Rattle.guideline.specs.Block.{ir, lt, PC, A, U, LT, y, ys, largest_of, largest, a, EachRisk, AcceptedBlock}
 use Rattle.guideline.proofs.Figures.{q, formed}
 use Rattle.sensitivity.specs.Movement.{raised}
-use Rattle.sensitivity.proofs.Form.{unit, root_rises, root_falls}
+use Rattle.sensitivity.proofs.QuadraticForm.{unit, root_rises, root_falls}
 
 -- ---- seven risks
 
 -- what holds of each holds at every number
 pub each_at : (P : ℕ → Type 0) → EachRisk P → (j : ℕ) → j < risks → P (suc j)
-each_at P e zero h = e.0
-each_at P e (suc zero) h = e.1
-each_at P e (suc (suc zero)) h = e.2
-each_at P e (suc (suc (suc zero))) h = e.3
-each_at P e (suc (suc (suc (suc zero)))) h = e.4
-each_at P e (suc (suc (suc (suc (suc zero))))) h = e.5
-each_at P e (suc (suc (suc (suc (suc (suc zero)))))) h = e.6
-each_at P e (suc (suc (suc (suc (suc (suc (suc j))))))) h = absurd (omega arith)
+each_at P e j h = grind arith
 
 -- and what holds at every number holds of each
 each_of : (P : ℕ → Type 0) → ((j : ℕ) → j < risks → P (suc j)) → EachRisk P
@@ -53,9 +35,7 @@ module _ (b : List ℕ) where
 
 -- no y is more than s above: nor is the largest
 largest_moves : (b c : List ℕ) (s : ℕ) → ((j : ℕ) → j < risks → y c (suc j) ≤ y b (suc j) + s) → largest c ≤ largest b + s
-largest_moves b c s h =
-    largest_least c (largest b + s)
-    (each_of (λ j. y c j ≤ largest b + s) (λ j l. omega (arith, h j l, each_at (λ j. y b j ≤ largest b) (y_within b) j l)))
+largest_moves b c s h = grind (arith, largest_least, each_of, each_at, y_within)
 
 -- one of the seven is 1, each other 0
 unit_sum : (k : ℕ) → k < risks → unit k 0 + unit k 1 + unit k 2 + unit k 3 + unit k 4 + unit k 5 + unit k 6 ≡ 1
@@ -141,18 +121,7 @@ module _ (b : List ℕ) (k t : ℕ) (within : k < risks) (long : 2 * k < length 
       (ir_is j)
 
   pub within_accepted : AcceptedBlock b → ir b (suc k) + t ≤ limit → AcceptedBlock c
-  within_accepted v top =
-      record {
-        ir_fits = each_of (λ j. ir c j ≤ limit) (fits v top);
-        lt_within = each_of (λ j. lt c j ≤ ir c j) low;
-        lt_seven = lt_is 6 ∙ v.lt_seven;
-        pc_fits = rw pc_is v.pc_fits;
-        credit_fits = rw (kept 15 (λ q. omega arith)) v.credit_fits;
-        market_fits = rw (kept 16 (λ q. omega arith)) v.market_fits;
-      }
-    where
-      low : (j : ℕ) → j < risks → lt c (suc j) ≤ ir c (suc j)
-      low j h = omega (arith, ir_is j, lt_is j, each_at (λ j. lt b j ≤ ir b j) v.lt_within j h)
+  within_accepted v top = grind (arith, each_of, fits, lt_is, pc_is, kept, ir_is, each_at)
 
   module _ (v : AcceptedBlock b) where
     y_is : (j : ℕ) → j < risks → y c (suc j) ≡ y b (suc j) + 2 * t * unit k j

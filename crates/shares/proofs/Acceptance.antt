@@ -1,22 +1,12 @@
 -- The shares call accepts just what rules 7, 8, 9 and 23 leave: what it gives is walked rule by rule. Of what is accepted no margin is cut, so the
 -- shares are the fair ones. Assumes nothing.
-use mathlib.Core.Path.{◌≡◌, refl, sym, ap, subst, ◌∙◌}
-use mathlib.Core.Bool.{false}
-use mathlib.Core.List.{List}
-use Prim.Native.Nat.{ℕ, ◌+◌, ◌≤◌}
-use native.Mathlib.Nat.{pos_of_ne-zero}
-use native.Mathlib.Omega.{arith}
-use lib.ListN.{length}
-use borrow.Author.Tests.{le-ltb, ltb-false, eqb-false}
-use Rattle.basics.specs.First.{any_to}
-use Rattle.basics.proofs.Picks.{if_false, if_ne, by_test}
-use Rattle.basics.proofs.Existence.{none_to, none_of}
+use Rattle.basics.proofs.Common.{◌≡◌, ℕ, ◌+◌, ◌≤◌, false, List, length, sym, refl, ap, ◌∙◌, subst, pos_of_ne-zero, arith, ltb-false, le-ltb, eqb-false, any_to, none_to, if_false, if_ne, by_test}
+use Rattle.basics.proofs.Existence.{none_of}
 use Rattle.basics.proofs.Ascents.{list_long}
 use Rattle.basics.proofs.Totals.{sum_zero, zero_sum}
-use Rattle.refusal.specs.Outcome.{Outcome}
-use Rattle.refusal.specs.Outcome.Outcome.{accepted, refused}
+use Rattle.refusal.specs.Outcome.{Outcome, Outcome.accepted, Outcome.refused}
 use Rattle.refusal.specs.declared.Place.TheVariants.{Nowhere}
-use Rattle.refusal.proofs.Accepted.{RulesFollowed, accepts_just, if_accepted}
+use Rattle.refusal.proofs.Acceptance.{RulesFollowed, accepts_just, if_accepted}
 use Rattle.sizes.specs.Sizes.{block_numbers, parts}
 use Rattle.guideline.specs.Block.{K, AcceptedBlock}
 use Rattle.block.specs.Call.{block_call}

@@ -1,18 +1,8 @@
 -- The margins as a loop finds them: none of the first is negative, each is listed, and they are added up. None is above K, so ten of them fit a
 -- word. Assumes nothing.
-use mathlib.Core.Path.{◌≡◌, ◌∙◌}
-use mathlib.Core.Bool.{true, false}
-use mathlib.Core.List.{List}
-use Prim.Native.Nat.{ℕ, suc, ◌+◌, ◌-◌, ◌*◌, ◌^◌, ◌≤◌, ◌<◌}
-use native.Mathlib.Numerals.{add-one}
-use native.Mathlib.Omega.{arith}
-use lib.ListN.{length, set}
-use borrow.Author.Tests.{lt-ltb, le-ltb}
-use Rattle.basics.specs.First.{any_to}
-use Rattle.basics.specs.Total.{sum_to}
+use Rattle.basics.proofs.Common.{◌≡◌, ℕ, suc, ◌+◌, ◌-◌, ◌*◌, ◌^◌, ◌<◌, ◌≤◌, true, false, List, length, set, ◌∙◌, add-one, arith, le-ltb, lt-ltb, any_to, sum_to, Listed, listed_start, listed_more}
+use Rattle.basics.proofs.Common.{listed_all, sum_most, sum_step}
 use Rattle.basics.proofs.Existence.{none_yet, next_decides, goes_on}
-use Rattle.basics.proofs.Totals.{sum_step, sum_most}
-use Rattle.basics.proofs.Ascents.{Listed, listed_start, listed_more, listed_all}
 use Rattle.amount.specs.Amount.{limit}
 use Rattle.sizes.specs.Sizes.{parts}
 use Rattle.guideline.specs.Block.{K, AcceptedBlock}

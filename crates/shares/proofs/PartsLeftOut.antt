@@ -1,22 +1,12 @@
 -- A block with a part's amounts zero, in document 01's letters: a position is the part's own or another's. Such a block is accepted where the block
 -- is: no amount is larger, and a risk's LT is zero where its IR is made so. Assumes nothing.
 -- In order: a zero in a list; the block without part p, from 1 on; it is accepted where the block is.
-use mathlib.Core.Path.{◌≡◌, refl, sym, ◌∙◌}
-use mathlib.Core.Bool.{Bool, true, false}
-use mathlib.Core.List.{List, [], ◌∷◌}
-use Prim.Native.Nat.{ℕ, zero, suc, ◌+◌, ◌-◌, ◌*◌, ◌≤◌, ◌<◌}
-use native.Mathlib.Decide.{ℕ_discrete}
-use native.Mathlib.Omega.{arith}
-use lib.Dec.{ltb, eqb}
-use lib.ListN.{get_or, set}
-use lib.Seq.{get_or-set_other}
-use borrow.Author.Tests.{ltb-true, ltb-false}
-use Rattle.basics.specs.Pick.{pick}
-use Rattle.basics.proofs.Picks.{if_eq, if_ne, by_test}
+use Rattle.basics.proofs.Common.{◌≡◌, ℕ, zero, suc, ◌-◌, ◌*◌, ◌<◌, ◌≤◌, Bool, true, false, eqb, ltb, List, [], ◌∷◌, get_or, set, sym, refl, ◌∙◌, arith, get_or-set_other, ltb-false, ltb-true}
+use Rattle.basics.proofs.Common.{ℕ_discrete, pick, if_eq, if_ne, by_test}
 use Rattle.amount.specs.Amount.{limit}
 use Rattle.sizes.specs.Sizes.{risks}
 use Rattle.guideline.specs.Block.{ir, lt, PC, credit, market, EachRisk, AcceptedBlock}
-use Rattle.shares.specs.Margins.{without, WithoutPart}
+use Rattle.shares.specs.Margins.{pc_part, credit_part, market_part, position_of, without, WithoutPart}
 
 -- ---- a zero in a list
 
@@ -58,36 +48,37 @@ module _ (b : List ℕ) (p : ℕ) (first : 1 ≤ p) where
       (λ t.
       let k : risks < p = ltb-true risks p t in
       let w : p ≡ i → ⊥ = λ e. omega arith in
-      get_or-set_other b (p + 6) j 0 0 (λ e. omega arith) ∙ sym (if_ne _ w))
+      get_or-set_other b (position_of p) j 0 0 (λ e. omega arith) ∙ sym (if_ne _ w))
       (λ t.
       elim (ℕ_discrete p i) [
         | yes e ↦ either b (2 * p - 2) (2 * p - 1) j (λ z. omega arith) ∙ sym (if_eq _ e)
         | no e ↦ elsewhere b (2 * p - 2) (2 * p - 1) j (λ z. e (omega arith)) (λ z. e (omega arith)) ∙ sym (if_ne _ e)
       ])
 
-  -- PC, credit and market, parts 8 to 10
-  of_other : (q : ℕ) → risks < q → Is q (q + 6) less
+  -- PC, credit and market
+  of_other : (q : ℕ) → risks < q → Is q (position_of q) less
   unfolding without
   of_other q h =
-      by_test (Is q (q + 6)) (ltb risks p) _ _
+      by_test (Is q (position_of q)) (ltb risks p) _ _
       (λ t.
+      let l : risks < p = ltb-true risks p t in
       elim (ℕ_discrete p q) [
-        | yes e ↦ zero_at b (p + 6) (q + 6) (omega arith) ∙ sym (if_eq _ e)
-        | no e ↦ get_or-set_other b (p + 6) (q + 6) 0 0 (λ z. e (omega arith)) ∙ sym (if_ne _ e)
+        | yes e ↦ zero_at b (position_of p) (position_of q) (omega arith) ∙ sym (if_eq _ e)
+        | no e ↦ get_or-set_other b (position_of p) (position_of q) 0 0 (λ z. e (omega arith)) ∙ sym (if_ne _ e)
       ])
       (λ t.
       let k : p ≤ risks = ltb-false risks p t in
       let w : p ≡ q → ⊥ = λ e. omega arith in
-      elsewhere b (2 * p - 2) (2 * p - 1) (q + 6) (λ e. omega arith) (λ e. omega arith) ∙ sym (if_ne _ w))
+      elsewhere b (2 * p - 2) (2 * p - 1) (position_of q) (λ e. omega arith) (λ e. omega arith) ∙ sym (if_ne _ w))
 
   pub without_part : WithoutPart b p
   without_part =
       record {
         ir_is = λ i l h. of_risk i 2 l h (omega arith) (omega arith);
         lt_is = λ i l h. of_risk i 1 l h (omega arith) (omega arith);
-        pc_is = of_other 8 (omega arith);
-        credit_is = of_other 9 (omega arith);
-        market_is = of_other 10 (omega arith);
+        pc_is = of_other pc_part (omega arith);
+        credit_is = of_other credit_part (omega arith);
+        market_is = of_other market_part (omega arith);
       }
 
   -- ---- it is accepted where the block is
@@ -122,7 +113,7 @@ module _ (b : List ℕ) (p : ℕ) (first : 1 ≤ p) where
         ir_fits = each (λ i. ir b i ≤ limit) (λ i. ir less i ≤ limit) fits a.ir_fits;
         lt_within = each (λ i. lt b i ≤ ir b i) (λ i. lt less i ≤ ir less i) pair a.lt_within;
         lt_seven = omega (arith, w.lt_is 7 (omega arith) (omega arith), (cut (eqb p 7) (lt b 7) 0 (omega (arith, a.lt_seven))).0);
-        pc_fits = rw w.pc_is (cut (eqb p 8) (PC b) limit a.pc_fits).0;
-        credit_fits = rw w.credit_is (cut (eqb p 9) (credit b) limit a.credit_fits).0;
-        market_fits = rw w.market_is (cut (eqb p 10) (market b) limit a.market_fits).0;
+        pc_fits = rw w.pc_is (cut (eqb p pc_part) (PC b) limit a.pc_fits).0;
+        credit_fits = rw w.credit_is (cut (eqb p credit_part) (credit b) limit a.credit_fits).0;
+        market_fits = rw w.market_is (cut (eqb p market_part) (market b) limit a.market_fits).0;
       }

@@ -1,17 +1,7 @@
 -- Rule 23 after the block's own tests, by what the code finds of the margins; past it the shares. Assumes nothing.
-use mathlib.Core.Path.{◌≡◌, sym, ap, ◌∙◌}
-use mathlib.Core.Bool.{true}
-use mathlib.Core.List.{List}
-use Prim.Native.Nat.{ℕ, ◌≤◌}
-use native.Mathlib.Nat.{pos_of_ne-zero}
-use native.Mathlib.Omega.{arith}
-use Rattle.basics.specs.First.{any_to}
-use Rattle.basics.proofs.Picks.{if_true, if_false, if_eq, if_ne}
-use Rattle.basics.proofs.Totals.{sum_same}
-use Rattle.refusal.specs.Outcome.{Outcome}
-use Rattle.refusal.specs.Outcome.Outcome.{accepted, refused}
-use Rattle.refusal.specs.declared.Place.{Place}
-use Rattle.refusal.specs.declared.Place.TheVariants.{Nowhere}
+use Rattle.basics.proofs.Common.{◌≡◌, ℕ, ◌≤◌, true, List, sym, ap, ◌∙◌, pos_of_ne-zero, arith, any_to, if_true, if_false, if_eq, if_ne, sum_same}
+use Rattle.refusal.specs.Outcome.{Outcome, Outcome.accepted, Outcome.refused}
+use Rattle.refusal.specs.declared.Place.{Place, TheVariants.Nowhere}
 use Rattle.sizes.specs.Sizes.{parts}
 use Rattle.guideline.specs.Block.{AcceptedBlock, K}
 use Rattle.block.specs.Call.{block_call}

@@ -12,7 +12,10 @@ ghost use Rattle.shares.specs.Steps.{MarginsOf};
 
 use guideline::Block;
 use refusal::{Place, Refusal, Rule};
-use sizes::{BLOCK_NUMBERS, PARTS, RISKS};
+use sizes::{BLOCK_NUMBERS, PARTS, PC_POSITION, RISKS};
+
+// The first part after the risks: PC, then credit, then market.
+const PC_PART: usize = RISKS + 1;
 
 // The margins of the parts, and their sum.
 #[derive(Clone, Copy)]
@@ -80,7 +83,7 @@ fn without_part(b: &[u64; BLOCK_NUMBERS], part: usize) -> [u64; BLOCK_NUMBERS]
 {
     let mut less = *b;
     if RISKS < part {
-        less[part + 6] = 0;
+        less[PC_POSITION + (part - PC_PART)] = 0;
         return less;
     }
     less[2 * part - 2] = 0;

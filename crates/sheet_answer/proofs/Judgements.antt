@@ -1,25 +1,14 @@
 -- The call's text is what judging finds: a refusal is the judgement's own, with a rule's number, and bytes are those of a sound sheet's lines. So each
 -- answer is that of lent room; and with room for the text there is no 14, and what is printed is the text or the refusal. Assumes nothing.
-use mathlib.Core.Path.{◌≡◌, refl, sym, ap, ◌∙◌}
-use mathlib.Core.List.{List}
-use Prim.Native.Nat.{ℕ, ◌≤◌}
-use native.Mathlib.Omega.{arith}
-use lib.ListN.{length}
-use Rattle.basics.proofs.Picks.{never}
-use Rattle.refusal.specs.Outcome.{stated_number}
-use Rattle.refusal.specs.Outcome.Outcome.{refused}
-use Rattle.refusal.specs.declared.Place.{Place}
-use Rattle.refusal.specs.declared.Place.TheVariants.{Nowhere}
+use Rattle.basics.proofs.Common.{◌≡◌, ℕ, ◌≤◌, List, length, Result, sym, refl, ap, ◌∙◌, arith, never}
+use Rattle.refusal.specs.Outcome.{Never0, stated_number, Outcome.refused}
+use Rattle.refusal.specs.declared.Place.{Place, TheVariants.Nowhere}
 use Rattle.sheet_line.specs.declared.Entry.{Entry}
-use Rattle.judgement.specs.Judgement.{Judgement, judgement, findings}
-use Rattle.judgement.specs.Judgement.Judgement.{turned_away, sound}
-use Rattle.judgement.specs.Judgement.Findings.{refusal}
+use Rattle.judgement.specs.Judgement.{Judgement, Judgement.turned_away, Judgement.sound, judgement, findings, Findings.refusal}
 use Rattle.judgement.proofs.Acceptance.{numbered}
 use Rattle.judgement.proofs.Rules.{findings_refusal}
-use Rattle.std.specs.Prelude.{Result}
 use Rattle.refusal.specs.declared.Refusal.{Refusal}
-use Rattle.text_answer.specs.Lent.{Text, Done, TooLong, untouched, lent}
-use Rattle.text_answer.specs.Lent.Text.{no_text, bytes}
+use Rattle.text_answer.specs.Lent.{Text, Text.no_text, Text.bytes, Done, TooLong, untouched, lent}
 use Rattle.text_answer.specs.Printing.{ReadsRefusal, printout, Printed, Shown}
 use Rattle.text_answer.proofs.LentRoom as laws
 use Rattle.text_answer.proofs.LentRoom.{RoomFor, Numbered, filled}
@@ -64,7 +53,7 @@ module _ (f : List Entry → List ℕ) where
     of_lines q e = ap (λ (x : Text). lent x r) (ap bytes e ∙ sym (ap (text_of f) q))
 
     -- a refusal has a number
-    pub never_0 : (p : Place) → (judged_call f s r).outcome ≡ refused 0 p → ⊥
+    pub never_0 : Never0 (judged_call f s r).outcome
     unfolding judged_call
     never_0 = laws.never_0 _ r (right_numbers s)
 

@@ -1,21 +1,10 @@
 -- The blocks worked out one after the other: none yet, one that doesn't exist, one that does; and that the sums fit. Assumes nothing.
-use mathlib.Core.Path.{◌≡◌, refl, sym, ap, ◌∙◌}
-use mathlib.Core.Bool.{Bool, true, false}
-use mathlib.Core.List.{List, [], ◌∷◌, ◌++◌, map}
-use Prim.Native.Nat.{ℕ, ◌+◌, ◌-◌, ◌*◌, ◌≤◌, ◌<◌}
-use native.Mathlib.Omega.{arith}
-use lib.Dec.{ltb}
-use lib.ListN.{length, set, take, drop, length-append}
-use Rattle.std.proofs.lemmas.List.{drop-drop, drop-set-lt, map-append, take_more_set}
-use Rattle.basics.specs.Each.{Each}
-use Rattle.basics.specs.Ascending.{ascending}
-use Rattle.basics.proofs.Ascents.{few, each_ascending, one_more, none_more}
-use Rattle.basics.specs.First.{any_to}
-use Rattle.basics.specs.Pick.{pick}
-use Rattle.basics.specs.Total.{sum_to}
-use Rattle.basics.proofs.Picks.{if_true, if_false}
+-- In order: the blocks that exist, few and accepted; a row put behind others; two stretches of blocks; none yet; block n, after those before it.
+use Rattle.basics.proofs.Common.{◌≡◌, ℕ, ◌+◌, ◌-◌, ◌*◌, ◌<◌, ◌≤◌, Bool, true, false, ltb, List, [], ◌∷◌, ◌++◌, map, length, take, drop, set, sym, refl, ap, ◌∙◌, arith, length-append, drop-drop}
+use Rattle.basics.proofs.Common.{drop-set-lt, map-append, ascending, Each, any_to, pick, sum_to, each_ascending, if_true, if_false, sum_next, sum_most}
+use Rattle.std.proofs.lemmas.List.{take_more_set}
+use Rattle.basics.proofs.Ascents.{few, one_more, none_more}
 use Rattle.basics.proofs.Existence.{any_next}
-use Rattle.basics.proofs.Totals.{sum_next, sum_most}
 use Rattle.amount.specs.Amount.{limit}
 use Rattle.sizes.specs.Sizes.{blocks}
 use Rattle.guideline.specs.Block.{K, figures_of, AcceptedBlock}
@@ -27,6 +16,7 @@ use Rattle.figures.specs.declared.Figures.{Figures}
 use Rattle.figures.specs.declared.NumberedFigures.{NumberedFigures}
 use Rattle.sheet_line.specs.declared.Entry.{Entry}
 use Rattle.sheet_line.specs.Rules.{AcceptedLine}
+use Rattle.codes.specs.Codes.{dividend_class}
 use Rattle.codes.specs.declared.Code.TheVariants.{Crd}
 use Rattle.places.specs.Entries.{has_line, exists}
 use Rattle.ledger.specs.Numbers.{dividend_credit}
@@ -84,7 +74,7 @@ module _ (es : List Entry) {n : ℕ} {w : BlockTotals} {rows : List NumberedFigu
   barred_next : (t : Bool) → t ≡ dividend_barred es n → pick w.barred true t ≡ any_to (dividend_barred es) n
   barred_next t e = (λ i. pick (before.barred i) true (e i)) ∙ sym (any_next (dividend_barred es) n from)
 
-  pub absent : exists es n ≡ false → (d : ℕ) (t : Bool) → d ≡ dividend_credit es n → t ≡ has_line es Crd n 1
+  pub absent : exists es n ≡ false → (d : ℕ) (t : Bool) → d ≡ dividend_credit es n → t ≡ has_line es Crd n dividend_class
       → WorkedOut es n (join w (record { count = 0; sum = 0; dividends = d; barred = t })) rows
   unfolding blocks_to rows_to dividend_barred
   absent e d t p q =
@@ -104,7 +94,7 @@ module _ (es : List Entry) {n : ℕ} {w : BlockTotals} {rows : List NumberedFigu
       omega (
         arith,
         dividends_next (dividend_credit es n) refl,
-        sum_most (dividend_credit es) limit (λ b. first_most es all Crd b 1) n,
+        sum_most (dividend_credit es) limit (λ b. first_most es all Crd b dividend_class) n,
       )
 
   pub fits : n ≤ blocks → Each AcceptedLine es → Covered es → (w.count < blocks) × (w.sum + K (after_credit es n) ≤ 10 * limit * blocks)

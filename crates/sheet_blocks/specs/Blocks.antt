@@ -3,6 +3,7 @@ use Rattle.std.specs.Prelude.{Bool, List, [], ◌∷◌, ℕ, ltb}
 use Rattle.basics.specs.Pick.{pick}
 use Rattle.basics.specs.Ascending.{ascending}
 use Rattle.guideline.specs.Block.{K, figures_of}
+use Rattle.codes.specs.Codes.{dividend_class}
 use Rattle.codes.specs.declared.Code.TheVariants.{Crd}
 use Rattle.sheet_line.specs.declared.Entry.{Entry}
 use Rattle.places.specs.Entries.{has_line, exists}
@@ -19,4 +20,4 @@ rows_to es n = ascending (exists es) (λ b. (b, figures_of (after_credit es b)) 
 
 -- a dividend credit 'above its block's K or for a block that has no RSK or OTH line', whatever its amount
 unfoldable pub dividend_barred : List Entry → ℕ → Bool
-dividend_barred es b = pick (exists es b) (ltb (K (after_credit es b)) (dividend_credit es b)) (has_line es Crd b 1)
+dividend_barred es b = pick (exists es b) (ltb (K (after_credit es b)) (dividend_credit es b)) (has_line es Crd b dividend_class)

@@ -55,18 +55,18 @@ fn work_block(
     ensures rest_kept { (w.count ≤ result.count) × RestKept result.count rows.old rows.new }
 {
     let ledger = credited.ledger;
-    let dividend = credits::dividend_credit(ledger, block);
     if !ledger.block_exists(block) {
         let absent = BlockTotals {
             count: 0,
             sum: 0,
-            dividends: dividend,
+            dividends: credits::dividend_credit(ledger, block),
             barred: credits::has_dividend(ledger, block),
         };
-        return joined(w, absent);
+        return joined_totals(w, absent);
     }
     let numbers = credited.numbers_after_credit(block);
     let figures = figures::figures_of(&numbers);
+    let dividend = credits::dividend_credit(ledger, block);
     rows[w.count] = NumberedFigures {
         block: cast::word(block),
         figures,
@@ -77,11 +77,11 @@ fn work_block(
         dividends: dividend,
         barred: figures.k < dividend,
     };
-    joined(w, present)
+    joined_totals(w, present)
 }
 
-// What is known of some blocks and of those after them.
-fn joined(w: BlockTotals, more: BlockTotals) -> BlockTotals
+// What is known of some blocks and of those after them. Whether one is barred is told without a jump.
+fn joined_totals(w: BlockTotals, more: BlockTotals) -> BlockTotals
     requires { (w.count + more.count < 2 ^ 64) × (w.sum + more.sum < 2 ^ 64) × (w.dividends + more.dividends < 2 ^ 64) }
     ensures { result ≡ join w more }
 {
@@ -89,6 +89,6 @@ fn joined(w: BlockTotals, more: BlockTotals) -> BlockTotals
         count: w.count + more.count,
         sum: w.sum + more.sum,
         dividends: w.dividends + more.dividends,
-        barred: w.barred || more.barred,
+        barred: w.barred | more.barred,
     }
 }

@@ -1,12 +1,5 @@
 -- Demand 3 of what the sheet call leaves: a sound judgement's sheet is accepted, and its report's bytes give its figures back. Assumes nothing.
-use mathlib.Core.Path.{◌≡◌, subst⁻¹}
-use mathlib.Core.Bool.{true}
-use mathlib.Core.List.{List, [], ◌∷◌, ◌++◌}
-use Prim.Native.Nat.{ℕ, ◌-◌, ◌≤◌}
-use native.Mathlib.Omega.{arith}
-use lib.ListN.{length, get_or}
-use Rattle.basics.specs.Each.{Each}
-use Rattle.std.specs.Prelude.{Some}
+use Rattle.basics.proofs.Common.{◌≡◌, ℕ, ◌-◌, ◌≤◌, true, List, [], ◌∷◌, ◌++◌, length, get_or, Some, arith, subst⁻¹, Each}
 use Rattle.sizes.specs.Sizes.{blocks, block_figures, FitsColumns}
 use Rattle.guideline.specs.Block.{D, U, LT, K, figures_of}
 use Rattle.guideline.specs.Operational.{RO}
@@ -22,8 +15,7 @@ use Rattle.report.proofs.Readback.{total_read, figure_read}
 use Rattle.credits.specs.Credits.{after_credit}
 use Rattle.text_answer.specs.Lent.{Done}
 use Rattle.judgement.specs.Sheet.{sheet_of}
-use Rattle.judgement.specs.Judgement.{judgement}
-use Rattle.judgement.specs.Judgement.Judgement.{sound}
+use Rattle.judgement.specs.Judgement.{judgement, Judgement.sound}
 use Rattle.credits.proofs.Acceptance.{credit_accurate, block_accepted, credit_taken}
 use Rattle.judgement.proofs.Acceptance.{exists_within, sound_passed, sound_accepted}
 use Rattle.sheet_answer.proofs.Judgements.{by_answer}

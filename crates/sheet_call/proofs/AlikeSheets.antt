@@ -1,15 +1,11 @@
 -- Two sheets of the same figures look alike (document 02, #105): of two sheets that the call accepts, whatever room each is lent, the same lines
 -- with the same amounts are the same bytes. Assumes nothing.
-use mathlib.Core.Path.{◌≡◌, subst}
-use mathlib.Core.List.{List}
-use Prim.Native.Nat.{ℕ}
-use Rattle.refusal.specs.Outcome.{Outcome}
-use Rattle.refusal.specs.Outcome.Outcome.{accepted, refused}
+use Rattle.basics.proofs.Common.{◌≡◌, ℕ, List, subst}
+use Rattle.refusal.specs.Outcome.{Outcome, Outcome.accepted, Outcome.refused}
 use Rattle.sheet_line.specs.declared.Entry.{Entry}
 use Rattle.order.specs.Order.{SameFigures}
 use Rattle.order.specs.Reading.{reading, entries_of}
-use Rattle.judgement.specs.Judgement.{judgement}
-use Rattle.judgement.specs.Judgement.Judgement.{sound}
+use Rattle.judgement.specs.Judgement.{judgement, Judgement.sound}
 use Rattle.judgement.proofs.Acceptance.{sound_passed}
 use Rattle.judgement.proofs.AlikeSheets.{same_figures_alike}
 use Rattle.sheet_answer.proofs.Judgements.{by_answer}

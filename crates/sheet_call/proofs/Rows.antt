@@ -1,15 +1,6 @@
 -- The lines of the rows that were gathered of the blocks that exist are those blocks' lines. Assumes nothing.
-use mathlib.Core.Path.{◌≡◌, refl, ap, ◌∙◌}
-use mathlib.Core.Bool.{Bool, true, false}
-use mathlib.Core.List.{List, [], ◌∷◌, ◌++◌, append-nil}
-use Prim.Native.Nat.{ℕ, zero, suc, ◌*◌}
-use native.Mathlib.Numerals.{add-one}
-use native.Mathlib.Omega.{arith}
-use lib.ListN.{length, length-append}
-use Rattle.std.proofs.lemmas.Grind.{flat_map-append}
+use Rattle.basics.proofs.Common.{◌≡◌, ℕ, zero, suc, ◌*◌, Bool, true, false, List, [], ◌∷◌, ◌++◌, length, refl, ap, ◌∙◌, append-nil, add-one, arith, length-append, flat_map-append, ascending, pick}
 use Rattle.guideline.proofs.Figures.{figures_long}
-use Rattle.basics.specs.Pick.{pick}
-use Rattle.basics.specs.Ascending.{ascending}
 use Rattle.sizes.specs.Sizes.{blocks, block_figures}
 use Rattle.guideline.specs.Block.{figures_of}
 use Rattle.guideline.specs.Buffer.{count}

@@ -1,25 +1,17 @@
 -- The sheet call's text is what judging finds: what is written of the figures is the report of the sheet's lines, by whose length rule 14 goes, and it
 -- is never longer than the longest report. Assumes nothing.
-use mathlib.Core.Path.{◌≡◌, refl, sym, ap, ◌∙◌}
-use mathlib.Core.List.{List, [], ◌∷◌, ◌++◌}
-use Prim.Native.Nat.{ℕ, ◌≤◌, ◌<◌}
-use native.Mathlib.Omega.{arith}
-use lib.ListN.{length, drop}
+use Rattle.basics.proofs.Common.{◌≡◌, ℕ, ◌<◌, ◌≤◌, List, [], ◌∷◌, ◌++◌, length, drop, sym, refl, ap, ◌∙◌, arith}
 use Rattle.refusal.specs.Outcome.Outcome.{accepted, refused}
-use Rattle.refusal.specs.declared.Place.{Place}
-use Rattle.refusal.specs.declared.Place.TheVariants.{Nowhere}
+use Rattle.refusal.specs.declared.Place.{Place, TheVariants.Nowhere}
 use Rattle.sizes.specs.Sizes.{blocks}
 use Rattle.report_line.specs.Line.{print_rows}
 use Rattle.sheet_line.specs.declared.Entry.{Entry}
-use Rattle.text_answer.specs.Lent.{Done, TooLong, untouched, lent}
+use Rattle.text_answer.specs.Lent.{Done, TooLong, untouched, lent, Text.bytes}
 use Rattle.text_answer.specs.Printing.{ReadsRefusal, printout}
-use Rattle.text_answer.specs.Lent.Text.{bytes}
 use Rattle.text_answer.proofs.LentRoom.{lent_short, lent_filled}
 use Rattle.report.specs.Rows.{total_rows, table_rows, report_bytes, report_length, longest_report}
 use Rattle.judgement.specs.Sheet.{sheet_of}
-use Rattle.judgement.specs.Judgement.{judgement, findings}
-use Rattle.judgement.specs.Judgement.Findings.{figures}
-use Rattle.judgement.specs.Judgement.Judgement.{turned_away}
+use Rattle.judgement.specs.Judgement.{judgement, findings, Findings.figures, Judgement.turned_away}
 use Rattle.sheet_blocks.proofs.WorkedBlocks.{few_blocks}
 use Rattle.judgement.proofs.Rules.{findings_figures}
 use Rattle.sheet_answer.proofs.Judgements as judged

@@ -16,6 +16,7 @@ use report::LONGEST_REPORT;
 use sizes::BLOCKS;
 
 // A sheet of any bytes, and a lent report of any length: nothing is written of it before every rule passes.
+#[tactic(auto, using(sheet_answer::proofs::Judgements::turned, crate::proofs::Rules::few, crate::proofs::Accuracy::promised))]
 pub fn sheet_call(sheet: &[u8], report: &mut [u8]) -> Result<usize, Refusal>
     ensures answer { ◌≡◌ {A = Done} (record { outcome = stated_number result; room = report.new }) (sheet_call sheet.now report.old) }
     ensures demand3 { Demand3 sheet.now (stated_number result) report.new }

@@ -1,12 +1,5 @@
 -- What measuring a sheet gives in each of the four cases, and that it refuses by a rule of the sheet, at a line that there can be. Assumes nothing.
-use Rattle.std.specs.Prelude.{Result, Ok, Err}
-use mathlib.Core.Path.{◌≡◌, refl, ◌∙◌}
-use mathlib.Core.List.{List}
-use Prim.Native.Nat.{ℕ, ◌+◌, ◌%◌, ◌≤◌, ◌<◌}
-use native.Mathlib.Omega.{arith}
-use lib.ListN.{length}
-use borrow.Author.Tests.{ltb-true, ltb-false, eqb-true}
-use Rattle.basics.proofs.Picks.{if_lt, if_ge, if_eq, if_ne, by_test}
+use Rattle.basics.proofs.Common.{◌≡◌, ℕ, ◌+◌, ◌%◌, ◌<◌, ◌≤◌, List, length, Ok, Err, Result, refl, ◌∙◌, arith, ltb-false, ltb-true, eqb-true, if_eq, if_ne, if_lt, if_ge, by_test}
 use Rattle.refusal.specs.declared.Place.TheVariants as place
 use Rattle.refusal.specs.declared.Refusal.{Refusal}
 use Rattle.refusal.specs.declared.Rule.TheVariants as rule

@@ -1,20 +1,12 @@
 -- What a line that no rule turns away guarantees: of its entry what each rule's test leaves, the rules one after the other, and of its columns that
 -- they hold the entry's code and numbers. Assumes nothing.
-use Rattle.std.specs.Prelude.{Option, Some, None, Result, Ok}
-use mathlib.Core.Path.{◌≡◌, refl, sym, ◌∙◌, subst}
-use mathlib.Core.List.{List}
-use mathlib.Core.Bool.{false}
-use Prim.Native.Nat.{ℕ, ◌≤◌}
-use native.Mathlib.Omega.{arith}
-use lib.ListN.{length}
-use borrow.Author.Tests.{ltb-false, eqb-true, not-false}
+use Rattle.basics.proofs.Common.{◌≡◌, ℕ, ◌≤◌, false, List, length, Some, None, Ok, Option, Result, sym, refl, ◌∙◌, subst, arith, ltb-false, eqb-true, not-false, if_true, if_eq, if_lt, by_test, never}
 use Rattle.amount.specs.Amount.{limit}
-use Rattle.basics.proofs.Picks.{if_true, if_eq, if_lt, by_test, never}
 use Rattle.codes.specs.Codes.{Key, code_of}
 use Rattle.layout.specs.Columns.{sheet_line_bytes, layout_of}
 use Rattle.layout.proofs.Columns.{kept_amounts}
 use Rattle.sheet_line.specs.Line.{numbers_of}
-use Rattle.sheet_line.specs.Rules.{outside, block_outside, class_outside, second_barred, trend_above, scalar_outside, rule3, rule5, rule6, rule8, rule9, rule10, entry_of, parse_line, AcceptedLine}
+use Rattle.sheet_line.specs.Rules.{outside, block_outside, class_outside, rule3, rule5, rule6, rule8, rule9, rule10, entry_of, parse_line, AcceptedLine}
 use Rattle.codes.specs.declared.Code.{Code}
 use Rattle.layout.specs.declared.Numbers.{Numbers}
 use Rattle.refusal.specs.declared.Rule.{Rule}
@@ -40,7 +32,7 @@ module _ (e : Entry) (a : e.first ≤ limit) (b : e.second ≤ limit) (d : Entry
   Accepts l = l ≡ Ok d → (e ≡ d) × AcceptedLine e
 
   rules_leave : Accepts (rule5 e)
-  unfolding rule5 rule6 rule8 rule9 rule10 second_barred trend_above scalar_outside
+  unfolding rule5 rule6 rule8 rule9 rule10
   rules_leave =
       by_test Accepts _ _ _ (λ t q. never (cc)) λ r5.
       by_test Accepts _ _ _ (λ t q. never (cc)) λ r6.

@@ -1,22 +1,17 @@
 -- Lines at both ends of what documents 01 and 02 give each code, its blocks, its classes and the scalar's range, and one step past them, with what
 -- reading tells of each: all computed, in one table. A definition that lets a line through which the papers turn away, or the other way round, has
 -- another number there. Assumes nothing.
-use Rattle.std.specs.Prelude.{Result, Ok, Err}
-use mathlib.Core.Path.{◌≡◌, refl}
-use mathlib.Core.List.{List, [], ◌∷◌, ◌++◌}
-use Prim.Native.Nat.{ℕ}
-use Rattle.basics.specs.Pick.{pick}
+use Rattle.basics.proofs.Common.{◌≡◌, ℕ, List, [], ◌∷◌, ◌++◌, map, Ok, Err, Result, refl, pick}
 use Rattle.field.specs.Field.{digits, field, digit_or_space, leading_digits, decimal}
 use Rattle.refusal.specs.Outcome.{rule_number}
 use Rattle.refusal.specs.declared.Rule.{Rule}
 use Rattle.codes.specs.Codes.{is_code, code_among}
-use Rattle.codes.specs.declared.Code.{Code}
-use Rattle.codes.specs.declared.Code.TheVariants.{Rsk, Oth, Mor, Vol, Acq, Gen, Crd}
+use Rattle.codes.specs.declared.Code.{Code, TheVariants.Rsk, TheVariants.Oth, TheVariants.Mor, TheVariants.Vol, TheVariants.Acq, TheVariants.Gen, TheVariants.Crd}
 use Rattle.key_columns.specs.Key.{key}
 use Rattle.layout.specs.Columns.{spaced, layout_of, lettered}
 use Rattle.sheet_line.specs.declared.Entry.{Entry}
 use Rattle.sheet_line.specs.Line.{print_line}
-use Rattle.sheet_line.specs.Rules.{outside, second_barred, trend_above, scalar_outside, rule10, rule9, rule8, rule6, rule5, parse_line}
+use Rattle.sheet_line.specs.Rules.{outside, rule10, rule9, rule8, rule6, rule5, parse_line}
 
 -- a line, and the number of the rule that it is refused by; 0 where it is good
 pub record Limit : Type 0 where
@@ -74,22 +69,13 @@ abbrev pub limits : List Limit
 limits = of_blocks ++ of_classes ++ of_seconds ++ of_scalars
 
 -- the number that reading a line tells
-abbrev pub told : Result Entry Rule → ℕ
-told (Ok e) = 0
-told (Err r) = rule_number r
+abbrev pub refusal_number : Result Entry Rule → ℕ
+refusal_number (Ok e) = 0
+refusal_number (Err r) = rule_number r
 
--- the numbers found, of the lines' bytes
-abbrev pub found : List Limit → List ℕ
-found [] = []
-found (l ∷ ls) = told (parse_line (print_line l.entry)) ∷ found ls
-
--- the numbers wanted
-abbrev pub wanted : List Limit → List ℕ
-wanted [] = []
-wanted (l ∷ ls) = l.number ∷ wanted ls
-
-pub limits_hold : found limits ≡ wanted limits
+-- the numbers found, of the lines' bytes, are those wanted
+pub limits_hold : map (λ (l : Limit). refusal_number (parse_line (print_line l.entry))) limits ≡ map (λ (l : Limit). l.number) limits
 unfolding
-    pick digits field digit_or_space leading_digits decimal is_code code_among spaced layout_of lettered key outside second_barred trend_above
-    scalar_outside rule10 rule9 rule8 rule6 rule5 parse_line
+    pick digits field digit_or_space leading_digits decimal is_code code_among spaced layout_of lettered key outside
+    rule10 rule9 rule8 rule6 rule5 parse_line
 limits_hold = refl

@@ -1,18 +1,7 @@
 -- The line of an entry: its length, that an entry which the rules leave is read back from it, and that a good line is the line of its entry.
 -- Assumes nothing.
-use Rattle.std.specs.Prelude.{Some, Ok}
-use mathlib.Core.Path.{◌≡◌, refl, sym, ap, ◌∙◌}
-use mathlib.Core.Logic.{◌↔◌}
-use mathlib.Core.List.{List, [], ◌∷◌}
-use mathlib.Core.Bool.{Bool, true, false, not}
-use Prim.Native.Nat.{ℕ, ◌≤◌, ◌<◌}
-use native.Mathlib.Omega.{arith}
-use lib.Dec.{eqb}
-use lib.ListN.{length, get_or}
-use borrow.Author.Tests.{eqb-true, eq-eqb, ltb-true, le-ltb}
-use Rattle.basics.specs.Pick.{pick}
-use Rattle.basics.proofs.Picks.{if_false, by_test, never, both}
-use Rattle.basics.proofs.Values.{values, is_values}
+use Rattle.basics.proofs.Common.{◌≡◌, ℕ, ◌<◌, ◌≤◌, Bool, true, false, not, eqb, ◌↔◌, List, [], ◌∷◌, length, get_or, Some, Ok, sym, refl, ap, ◌∙◌, arith, ltb-true, le-ltb, eq-eqb, eqb-true, pick}
+use Rattle.basics.proofs.Common.{if_false, by_test, never, both, is_values, values}
 use Rattle.field.specs.Field.{leading_digits, decimal}
 use Rattle.codes.specs.Codes.{codes, letters_of, Key, is_code, code_among, code_of}
 use Rattle.key_columns.specs.Key.{code_columns, key}
@@ -20,7 +9,7 @@ use Rattle.layout.specs.Columns.{sheet_line_bytes, lettered}
 use Rattle.layout.specs.declared.Numbers.{Numbers}
 use Rattle.layout.proofs.Columns.{length_lettered, printed_layout, kept_printed}
 use Rattle.sheet_line.specs.Line.{numbers_of, print_line}
-use Rattle.sheet_line.specs.Rules.{outside, row_for, is_single, second_barred, trend_above, is_scalar, scalar_outside, rule5, rule6, rule8, rule9, rule10, parse_line, AcceptedLine}
+use Rattle.sheet_line.specs.Rules.{outside, row_for, is_single, is_scalar, rule5, rule6, rule8, rule9, rule10, parse_line, AcceptedLine}
 use Rattle.codes.specs.declared.Code.{Code}
 use Rattle.codes.proofs.Table.{codes_same, each_row, three_letters}
 use Rattle.sheet_line.specs.declared.Entry.{Entry}
@@ -46,7 +35,7 @@ test_passes : (applies : Bool) {test : Bool} → (applies ≡ true → test ≡ 
 test_passes applies h = by_test (λ t. t ≡ false) applies _ _ h (λ s. refl)
 
 rules_pass : (e : Entry) → AcceptedLine e → rule5 e ≡ Ok e
-unfolding rule5 rule6 rule8 rule9 rule10 second_barred trend_above scalar_outside
+unfolding rule5 rule6 rule8 rule9 rule10
 rules_pass e a =
     if_false _ (inside_passes a.key.low a.key.high)
     ∙ if_false _ (inside_passes a.key.one a.key.most)

@@ -1,11 +1,5 @@
 -- The rules that a line is refused by: a step for each rule. Assumes nothing.
-use Rattle.std.specs.Prelude.{Option, Some, None, Result, Err}
-use mathlib.Core.Path.{◌≡◌, refl, subst}
-use mathlib.Core.List.{List}
-use Prim.Native.Nat.{ℕ}
-use mathlib.Core.Bool.{true, false}
-use lib.Dec.{eqb, ltb}
-use Rattle.basics.proofs.Picks.{by_test, never}
+use Rattle.basics.proofs.Common.{◌≡◌, ℕ, true, false, eqb, ltb, List, Some, None, Err, Option, Result, refl, subst, by_test, never}
 use Rattle.refusal.specs.Outcome.{rule_number, Judging, judging}
 use Rattle.refusal.specs.declared.Rule.{Rule}
 use Rattle.refusal.specs.declared.Rule.TheVariants as rule

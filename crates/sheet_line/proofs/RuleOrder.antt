@@ -1,23 +1,14 @@
 -- The order of a line's rules, shown by lines that break two of them: each is refused by the one that comes first, so no program with the two in
 -- the other order meets the contract of `read_line`. Rules 4 and 5 have no such line, since a range is that of a code that is known; nor have
 -- rules 9 and 10, so that rule 10 stands beside rule 8. Assumes nothing.
-use Rattle.std.specs.Prelude.{None, Err}
-use mathlib.Core.Path.{◌≡◌, refl, sym, ◌∙◌}
-use mathlib.Core.Bool.{Bool, true, false}
-use mathlib.Core.List.{List}
-use Prim.Native.Nat.{ℕ, ◌≤◌}
-use native.Mathlib.Omega.{arith}
-use lib.ListN.{replicate}
-use Rattle.basics.specs.Pick.{pick}
-use Rattle.basics.proofs.Picks.{if_true, if_ne, by_test, never}
+use Rattle.basics.proofs.Common.{◌≡◌, ℕ, ◌≤◌, Bool, true, false, List, replicate, None, Err, sym, refl, ◌∙◌, arith, pick, if_true, if_ne, by_test, never}
 use Rattle.field.specs.Field.{digits, field, digit_or_space, leading_digits, decimal}
 use Rattle.codes.specs.Codes.{row_of, is_code, code_among, code_of}
 use Rattle.key_columns.specs.Key.{key}
 use Rattle.layout.specs.Columns.{sheet_line_bytes, spaced, layout_of, lettered}
 use Rattle.sheet_line.specs.Line.{print_line}
 use Rattle.sheet_line.specs.Rules.{row_for, outside, block_outside, class_outside, second_barred, trend_above, scalar_outside, rule5, rule6, rule8, parse_line}
-use Rattle.codes.specs.declared.Code.{Code}
-use Rattle.codes.specs.declared.Code.TheVariants.{Rsk, Oth, Vol, Gen}
+use Rattle.codes.specs.declared.Code.{Code, TheVariants.Rsk, TheVariants.Oth, TheVariants.Vol, TheVariants.Gen}
 use Rattle.codes.proofs.Table.{rows_same}
 use Rattle.refusal.specs.declared.Rule.{Rule}
 use Rattle.refusal.specs.declared.Rule.TheVariants as rule
@@ -42,8 +33,8 @@ pub record InOrder : Type 0 where
 
 pub in_order : InOrder
 unfolding
-    pick digits field digit_or_space leading_digits decimal is_code code_among spaced layout_of lettered key outside second_barred trend_above
-    scalar_outside rule5 rule6 rule8 parse_line
+    pick digits field digit_or_space leading_digits decimal is_code code_among spaced layout_of lettered key outside
+    rule5 rule6 rule8 parse_line
 in_order =
     record {
       rules_3_4 = (replicate sheet_line_bytes 32, refl, refl, refl);
@@ -60,7 +51,6 @@ no_trend_scalar = rows_same (λ r. pick r.trend r.scalar 0) (λ r. 0) refl
 
 -- so no line that rule 6 passes breaks rules 9 and 10
 pub not_both : (e : Entry) → 1 ≤ e.class → trend_above e ≡ true → scalar_outside e ≡ false
-unfolding trend_above scalar_outside
 not_both e h =
     by_test (λ t. t ≡ true → scalar_outside e ≡ false) (row_for e).trend _ _
     (λ t q.

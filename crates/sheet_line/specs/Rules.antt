@@ -10,7 +10,7 @@ use Rattle.sizes.specs.Sizes.{largest_scalar}
 use Rattle.codes.specs.Codes.{row_of, Key, code_of}
 use Rattle.layout.specs.Columns.{layout_of}
 use Rattle.codes.specs.declared.Code.{Code}
-use Rattle.codes.specs.declared.Row.{Row}
+use Rattle.codes.specs.declared.CodeRow.{CodeRow}
 use Rattle.layout.specs.declared.Numbers.{Numbers}
 use Rattle.sheet_line.specs.declared.Entry.{Entry}
 
@@ -21,7 +21,7 @@ unfoldable pub outside : ℕ → ℕ → ℕ → Bool
 outside low high n = pick (ltb n low) true (ltb high n)
 
 -- the row of an entry in the table of codes
-abbrev pub row_for : Entry → Row
+abbrev pub row_for : Entry → CodeRow
 row_for e = row_of e.code e.block
 
 -- rule 5: 'block outside the code's range'
@@ -37,11 +37,11 @@ abbrev pub is_single : Entry → Bool
 is_single e = ltb (row_for e).paired e.class
 
 -- rule 8: 'second amount not 0 for OTH or GEN; LT(7) not 0'
-unfoldable pub second_barred : Entry → Bool
+abbrev pub second_barred : Entry → Bool
 second_barred e = pick (is_single e) (not (eqb e.second 0)) false
 
 -- rule 9: 'LT above IR'
-unfoldable pub trend_above : Entry → Bool
+abbrev pub trend_above : Entry → Bool
 trend_above e = pick (row_for e).trend (ltb e.first e.second) false
 
 -- the line of the scalar g, of a class that rule 6 lets pass
@@ -49,7 +49,7 @@ abbrev pub is_scalar : Entry → Bool
 is_scalar e = eqb e.class (row_for e).scalar
 
 -- rule 10: 'g outside 1–20,000'
-unfoldable pub scalar_outside : Entry → Bool
+abbrev pub scalar_outside : Entry → Bool
 scalar_outside e = pick (is_scalar e) (outside 1 largest_scalar e.first) false
 
 -- ---- the rules, the last one first
@@ -95,7 +95,7 @@ parse_line s = rule3 (layout_of s) (code_of s)
 -- ---- what the rules leave
 
 -- the amounts that a row and a class let pass
-pub record AcceptedAmounts (r : Row) (c first second : ℕ) : Type 0 where
+pub record AcceptedAmounts (r : CodeRow) (c first second : ℕ) : Type 0 where
   pub first_most : first ≤ limit
   pub second_most : second ≤ limit
   pub single : r.paired < c → second ≡ 0

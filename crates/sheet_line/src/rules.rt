@@ -7,7 +7,7 @@ use refusal::Rule;
 use sizes::LARGEST_SCALAR;
 
 // Rules 5 to 10: the entry, where none of them turns it away. Rule 5 is that the block is outside the code's range, rule 6 that the class is.
-#[tactic(auto, unfolding(crate::specs::Rules::rule5, crate::specs::Rules::rule6, crate::specs::Rules::rule8, crate::specs::Rules::rule9, crate::specs::Rules::rule10, crate::specs::Rules::second_barred, crate::specs::Rules::trend_above, crate::specs::Rules::scalar_outside, basics::specs::Pick::pick))]
+#[tactic(auto, unfolding(crate::specs::Rules::rule5, crate::specs::Rules::rule6, crate::specs::Rules::rule8, crate::specs::Rules::rule9, crate::specs::Rules::rule10, basics::specs::Pick::pick))]
 pub(crate) fn judged(e: Entry) -> Result<Entry, Rule>
     ensures { result ≡ rule5 e }
 {

@@ -1,15 +1,11 @@
 -- What a program prints is the text of its input: the bytes read are the input, cut at the room, and where all inputs that are too long have one text,
 -- a room that takes a byte more than the longest shows enough of each. Assumes nothing.
 use native.Mathlib.Decide.{dec_le}
-use Rattle.std.specs.Prelude.{Option, None, Some, Result, Ok, Err}
-use Rattle.std.specs.Borrow.{Bor}
+use Rattle.std.proofs.Common.{◌≡◌, ℕ, ◌<◌, List, ◌++◌, length, take, Some, None, Ok, Err, Option, Result, sym, ap, ◌∙◌, subst, append-nil, arith, length-take-le, take_all, Bor}
 use Rattle.std.specs.Fn.{Once, FnOnceReturnsAt}
 use Rattle.std.specs.Io.KnownBytes.{Appends}
-use Rattle.std.proofs.Common.{◌≡◌, ℕ, ◌<◌, ◌++◌, List, length, take, arith, sym, ap, ◌∙◌, subst, append-nil}
-use Rattle.std.proofs.lemmas.List.{take_all, length-take-le}
 use Rattle.std.proofs.Math.Seq.{take-append_seam}
-use Rattle.stdio.specs.declared.Failure.{Failure}
-use Rattle.stdio.specs.declared.Failure.TheVariants.{Unread, Unwritten}
+use Rattle.stdio.specs.declared.Failure.{Failure, TheVariants.Unread, TheVariants.Unwritten}
 use Rattle.stdio.specs.Answered.{Whole, Answered, Prints}
 
 read_is : (room : ℕ) (xs : List ℕ) (rest : Option (List ℕ)) (s : List ℕ) → Whole room (Some xs) rest s → s ≡ take room xs

@@ -6,7 +6,7 @@ ghost use Rattle.std.specs.Prelude.{◌≤◌, length, take, OnOk, IfErr, ◌≡
 ghost use Rattle.std.specs.Io.KnownBytes.{Appends};
 ghost use Rattle.stdio.specs.Answered.{Answered};
 ghost use Rattle.stdio.specs.Read.{ReadInto, TakesAll, TakesSome};
-ghost use Rattle.stdio.specs.Told.{told};
+ghost use Rattle.stdio.specs.Sentence.{sentence};
 
 use std::io::{Read, Write};
 
@@ -19,8 +19,8 @@ pub enum Failure {
 
 impl Failure {
     // Of a program's two sentences, the one that tells what failed.
-    pub fn told<'a>(self, unread: &'a str, unwritten: &'a str) -> &'a str
-        ensures { result.now ≡ told self unread.now unwritten.now }
+    pub fn sentence<'a>(self, unread: &'a str, unwritten: &'a str) -> &'a str
+        ensures { result.now ≡ sentence self unread.now unwritten.now }
     {
         match self {
             Failure::Unread => unread,
@@ -42,7 +42,7 @@ pub fn answer<'a, R: Read, W: Write, F: FnOnce(&[u8]) -> &'a [u8]>(
 {
     let n = read_all(input, room)?;
     let text = call(&room[..n]);
-    put(output, text, text.len())
+    write_front(output, text, text.len())
 }
 
 // Reads to the end of the input, or until the room is full.
@@ -71,7 +71,7 @@ pub fn read_some<R: Read>(input: &mut R, room: &mut [u8]) -> Result<usize, Failu
 
 // Writes the first n bytes of a text, and fails where not all of them were written: always of a text that has fewer.
 // Kept: the length stands beside the text: that a text with fewer bytes is refused is a promise, which a slice alone can't give.
-pub fn put<W: Write>(output: &mut W, text: &[u8], n: usize) -> Result<(), Failure>
+pub fn write_front<W: Write>(output: &mut W, text: &[u8], n: usize) -> Result<(), Failure>
     ensures whole { OnOk result (n ≤ length text.now) }
     ensures written { OnOk result (Appends (W.contents output.old) (W.contents output.new) (take n text.now)) }
     ensures unwritten { IfErr result (λ e. e ≡ Failure.Unwritten) }

@@ -1,16 +1,9 @@
 -- A summary with a sheet more is that of all sheets; mean and remainder give the total back; what a summary says of its sheets. Assumes nothing.
-use mathlib.Core.Path.{◌≡◌, refl, sym, ap, ◌∙◌}
-use mathlib.Core.List.{List, [], ◌∷◌, ◌++◌}
-use Prim.Native.Nat.{ℕ, suc, ◌+◌, ◌*◌, ◌/◌, ◌%◌, ◌≤◌}
-use native.Mathlib.Nat.{div-add-mod', mod-lt}
-use native.Mathlib.Omega.{arith}
-use lib.ListN.{length, length-append}
-use Rattle.basics.proofs.Picks.{if_eq, if_ne}
-use Rattle.basics.specs.Each.{Each}
-use Rattle.summary.specs.Summaries.{leading, foremost, smaller, larger, total, summary_of, mean, remainder, SummaryIs}
+use Rattle.basics.proofs.Common.{◌≡◌, ℕ, suc, ◌+◌, ◌*◌, ◌/◌, ◌%◌, ◌≤◌, List, [], ◌∷◌, ◌++◌, length, sym, refl, ap, ◌∙◌, mod-lt, div-add-mod', arith, length-append, Each, if_eq, if_ne}
+use Rattle.summary.specs.Summaries.{leading, first_extreme, is_smaller, is_larger, total, summary_of, mean, remainder, SummaryIs}
 use Rattle.summary.specs.declared.Accepted.{Accepted}
 use Rattle.summary.specs.declared.Summary.{Summary}
-use Rattle.summary.proofs.Extremes.{foremost_more, smallest_first, largest_first}
+use Rattle.summary.proofs.Extremes.{first_extreme_more, smallest_first, largest_first}
 
 pub total_more : (xs : List Accepted) (a : Accepted) → total (xs ++ (a ∷ [])) ≡ total xs + a.buffer
 unfolding total
@@ -20,20 +13,20 @@ total_more (b ∷ xs) a = omega (arith, total_more xs a)
 -- the first sheet alone
 pub summary_first : (s : Summary) (a : Accepted) → s.count ≡ 0 → (xs : List Accepted) → s ≡ summary_of xs
     → ◌≡◌ {A = Summary} (record { count = 1; smallest = a; largest = a; total = a.buffer }) (summary_of (xs ++ (a ∷ [])))
-unfolding summary_of foremost total
+unfolding summary_of first_extreme total
 summary_first s a z [] e = let t : a.buffer ≡ a.buffer + 0 = omega arith in (λ i. record { count = 1; smallest = a; largest = a; total = t i })
 summary_first s a z (b ∷ xs) e = let n : s.count ≡ suc (length xs) = ap (λ (u : Summary). u.count) e in absurd (omega arith)
 
 -- one more after others
 pub summary_more : (s : Summary) (a : Accepted) → (s.count ≡ 0 → ⊥) → (xs : List Accepted) → s ≡ summary_of xs → {x y : Accepted}
-    → x ≡ leading smaller s.smallest a → y ≡ leading larger s.largest a
+    → x ≡ leading is_smaller s.smallest a → y ≡ leading is_larger s.largest a
     → ◌≡◌ {A = Summary} (record { count = s.count + 1; smallest = x; largest = y; total = s.total + a.buffer }) (summary_of (xs ++ (a ∷ [])))
 unfolding summary_of
 summary_more s a z [] e p q = absurd (z (ap (λ (u : Summary). u.count) e))
 summary_more s a z (b ∷ xs) e p q =
     let n : s.count + 1 ≡ suc (length (xs ++ (a ∷ []))) = rw (length-append xs (a ∷ [])) (omega (arith, ap (λ (u : Summary). u.count) e)) in
-    let x = p ∙ ap (λ (u : Summary). leading smaller u.smallest a) e ∙ sym (foremost_more smaller b xs a) in
-    let y = q ∙ ap (λ (u : Summary). leading larger u.largest a) e ∙ sym (foremost_more larger b xs a) in
+    let x = p ∙ ap (λ (u : Summary). leading is_smaller u.smallest a) e ∙ sym (first_extreme_more is_smaller b xs a) in
+    let y = q ∙ ap (λ (u : Summary). leading is_larger u.largest a) e ∙ sym (first_extreme_more is_larger b xs a) in
     let t = ap (λ (u : Summary). u.total + a.buffer) e ∙ sym (total_more (b ∷ xs) a) in
     (λ i. record { count = n i; smallest = x i; largest = y i; total = t i })
 

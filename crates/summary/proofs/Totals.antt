@@ -1,12 +1,6 @@
 -- The total of reported buffers against the exact total. A number strictly below a sheet's exact buffer is below the reported one, so a sum of such is
 -- below the total; and each reported buffer less its allowance is strictly below, and these sum up to the total less the allowances. Assumes nothing.
-use mathlib.Core.Path.{◌≡◌, ap}
-use mathlib.Core.List.{List, [], ◌∷◌}
-use Prim.Native.Nat.{ℕ, ◌+◌, ◌*◌, ◌≤◌, ◌<◌}
-use native.Mathlib.Nat.{mul-pos, mul-le-mul_right, mul-lt-mul_of_pos_right}
-use native.Mathlib.Decide.{dec_le}
-use native.Mathlib.Omega.{arith}
-use Rattle.basics.specs.Each.{Each}
+use Rattle.basics.proofs.Common.{◌≡◌, ℕ, ◌+◌, ◌*◌, ◌<◌, ◌≤◌, List, [], ◌∷◌, ap, mul-le-mul_right, mul-lt-mul_of_pos_right, mul-pos, arith, dec_le, Each}
 use Rattle.accuracy.specs.Fraction.{Fraction, ◌≤ᶠ◌, ◌<ᶠ◌, whole, plus}
 use Rattle.guideline.specs.Buffer.{Sheet, buffer, AcceptedSheet}
 use Rattle.accuracy.specs.ExactBuffer.{StrictlyBelowBuffer, buffer_downwards, millionths, allowance, less_allowance}

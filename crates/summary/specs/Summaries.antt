@@ -11,17 +11,17 @@ abbrev pub leading : (ℕ → ℕ → Bool) → Accepted → Accepted → Accept
 leading before a b = pick (before b.buffer a.buffer) b a
 
 -- of a sheet and those after it the first whose buffer none of the others comes before
-unfoldable pub foremost : (ℕ → ℕ → Bool) → Accepted → List Accepted → Accepted
-foremost before a [] = a
-foremost before a (b ∷ bs) = foremost before (leading before a b) bs
+unfoldable pub first_extreme : (ℕ → ℕ → Bool) → Accepted → List Accepted → Accepted
+first_extreme before a [] = a
+first_extreme before a (b ∷ bs) = first_extreme before (leading before a b) bs
 
 -- 'the smallest buffer' comes before larger ones
-abbrev pub smaller : ℕ → ℕ → Bool
-smaller x y = ltb x y
+abbrev pub is_smaller : ℕ → ℕ → Bool
+is_smaller x y = ltb x y
 
 -- 'the largest' before smaller ones
-abbrev pub larger : ℕ → ℕ → Bool
-larger x y = ltb y x
+abbrev pub is_larger : ℕ → ℕ → Bool
+is_larger x y = ltb y x
 
 -- 'the total'
 unfoldable pub total : List Accepted → ℕ
@@ -36,7 +36,7 @@ no_sheet = record { sheet = 0; buffer = 0 }
 unfoldable pub summary_of : List Accepted → Summary
 summary_of [] = record { count = 0; smallest = no_sheet; largest = no_sheet; total = 0 }
 summary_of (a ∷ xs) =
-    record { count = length (a ∷ xs); smallest = foremost smaller a xs; largest = foremost larger a xs; total = total (a ∷ xs) }
+    record { count = length (a ∷ xs); smallest = first_extreme is_smaller a xs; largest = first_extreme is_larger a xs; total = total (a ∷ xs) }
 
 -- 'the mean in whole cents'
 unfoldable pub mean : Summary → ℕ
@@ -53,20 +53,20 @@ items_of s =
 
 -- ---- what the summary of some sheets says of them
 
--- x is among the sheets; its buffer is at least as good as each of theirs, and better than those of all sheets ahead of it
-pub record FirstBest (AtLeast Better : ℕ → ℕ → Type 0) (xs : List Accepted) (x : Accepted) : Type 0 where
-  pub ahead : List Accepted
-  pub behind : List Accepted
-  pub among : xs ≡ ahead ++ (x ∷ behind)
-  pub best : Each (λ y. AtLeast x.buffer y.buffer) xs
-  pub first : Each (λ y. Better x.buffer y.buffer) ahead
+-- x is among the sheets; its buffer is at least as good as each of theirs, and better than those of all sheets before it
+pub record FirstExtreme (AtLeast Better : ℕ → ℕ → Type 0) (xs : List Accepted) (x : Accepted) : Type 0 where
+  pub earlier : List Accepted
+  pub later : List Accepted
+  pub among : xs ≡ earlier ++ (x ∷ later)
+  pub extreme : Each (λ y. AtLeast x.buffer y.buffer) xs
+  pub first : Each (λ y. Better x.buffer y.buffer) earlier
 
 -- of the summary s of the sheets xs, one at least
 pub record SummaryIs (xs : List Accepted) (s : Summary) : Type 0 where
   pub count_is : s.count ≡ length xs
   -- no buffer is smaller, and no earlier sheet has it; no buffer is larger, and no earlier sheet has it
-  pub smallest_is : FirstBest (λ x y. x ≤ y) (λ x y. x < y) xs s.smallest
-  pub largest_is : FirstBest (λ x y. y ≤ x) (λ x y. y < x) xs s.largest
+  pub smallest_is : FirstExtreme (λ x y. x ≤ y) (λ x y. x < y) xs s.smallest
+  pub largest_is : FirstExtreme (λ x y. y ≤ x) (λ x y. y < x) xs s.largest
   pub total_is : s.total ≡ total xs
   -- mean × count + remainder is the total, and the remainder is below the count
   pub mean_is : mean s * s.count + remainder s ≡ total xs

@@ -1,11 +1,9 @@
 -- The answers in small, computed: a refusal of the input is the call's whatever the room, 14 comes after it, and a room of the text's length is
 -- enough. Assumes nothing.
-use Rattle.std.specs.Prelude.{◌≡◌, refl, List, [], ◌∷◌, ℕ}
-use Rattle.basics.specs.Pick.{pick}
+use Rattle.basics.proofs.Common.{◌≡◌, ℕ, List, [], ◌∷◌, refl, pick}
 use Rattle.refusal.specs.Outcome.Outcome.{accepted}
 use Rattle.refusal.specs.declared.Place.TheVariants.{Line, Nowhere}
-use Rattle.text_answer.specs.Lent.{Done, untouched, lent}
-use Rattle.text_answer.specs.Lent.Text.{no_text, bytes}
+use Rattle.text_answer.specs.Lent.{Done, untouched, lent, Text.no_text, Text.bytes}
 
 -- no room and one of two bytes to an input that 12 turns away and to one that 3 does; rooms of 0, 1, 2 and 3 bytes to a text of two; none to an
 -- empty one

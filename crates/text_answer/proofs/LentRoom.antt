@@ -1,26 +1,18 @@
 -- A call with lent room has three answers: its input is turned away, the room is too short, or there is the text. What holds of each holds of the
 -- call; and with room for the text, what is printed is the text or the line of the refusal. Assumes nothing.
-use mathlib.Core.Path.{◌≡◌, refl, sym, ap, subst, subst⁻¹, ◌∙◌}
-use mathlib.Core.List.{List, [], ◌∷◌, ◌++◌}
-use Prim.Native.Nat.{ℕ, ◌^◌, ◌≤◌, ◌<◌}
-use native.Mathlib.Omega.{arith}
-use lib.ListN.{length, drop, length-append, length-drop}
-use borrow.Author.Tests.{ltb-true, ltb-false}
-use Rattle.basics.proofs.Picks.{if_lt, if_ge, by_test, never}
-use Rattle.std.specs.Prelude.{Result, Ok, Err}
-use Rattle.refusal.specs.Outcome.{Outcome, Judging, printed, rule_number, stated_number}
-use Rattle.refusal.specs.Outcome.Outcome.{accepted, refused}
-use Rattle.refusal.specs.declared.Place.{Place}
+-- In order: the three answers; the numbers of its refusals; what is printed, with room for the text.
+use Rattle.basics.proofs.Common.{◌≡◌, ℕ, ◌^◌, ◌<◌, ◌≤◌, List, [], ◌∷◌, ◌++◌, length, drop, Ok, Err, Result, sym, refl, ap, ◌∙◌, subst, arith, length-append, length-drop, ltb-false, ltb-true, subst⁻¹}
+use Rattle.basics.proofs.Common.{if_lt, if_ge, by_test, never}
+use Rattle.refusal.specs.Outcome.{Outcome, Outcome.accepted, Outcome.refused, Never0, Judging, printed, rule_number, stated_number}
+use Rattle.refusal.specs.declared.Place.{Place, TheVariants.Nowhere}
 use Rattle.refusal.specs.declared.Refusal.{Refusal}
-use Rattle.refusal.specs.declared.Place.TheVariants.{Nowhere}
 use Rattle.sizes.specs.Sizes.{number_columns, FitsColumns}
 use Rattle.field.specs.Field.{leading_digits, decimal}
 use Rattle.field.proofs.Inverse.{read_back}
 use Rattle.key_columns.specs.Key.{key}
 use Rattle.report_line.specs.Line.{line_in}
 use Rattle.report_line.proofs.Readback.{PrintableIn, Printable}
-use Rattle.text_answer.specs.Lent.{Text, Done, TooLong, untouched, lent}
-use Rattle.text_answer.specs.Lent.Text.{no_text, bytes}
+use Rattle.text_answer.specs.Lent.{Text, Text.no_text, Text.bytes, Done, TooLong, untouched, lent}
 use Rattle.text_answer.specs.Printing.{refusal_row, refusal_line, ReadsRefusal, printout, Printed, Shown}
 
 -- a text in front of the room
@@ -111,7 +103,7 @@ module _ (x : Text) (r : List ℕ) (numbered : Numbered x) where
   unfolding RightNumber
   never_14 room p e = (subst RightNumber e call_numbered).1 room refl
 
-  pub never_0 : (p : Place) → (lent x r).outcome ≡ refused 0 p → ⊥
+  pub never_0 : Never0 (lent x r).outcome
   unfolding RightNumber
   never_0 p e = (subst RightNumber e call_numbered).0 refl
 
@@ -134,26 +126,26 @@ refusal_read x numbered n p e =
 
 module _ (x : Text) (r : List ℕ) (room : RoomFor x r) where
   -- by the answer and the room that the call left: the text stands there, or nothing was written and the line comes in front
-  record Arms (d : Done) : Type 0 where
-    text_arm : (n : ℕ) → d.outcome ≡ accepted (n ∷ []) → Printed (printout x) n r d.room
-    refusal_arm : (n : ℕ) (p : Place) → d.outcome ≡ refused n p → (d.room ≡ r) × (printout x ≡ refusal_line n p)
+  record PrintedByAnswer (d : Done) : Type 0 where
+    of_text : (n : ℕ) → d.outcome ≡ accepted (n ∷ []) → Printed (printout x) n r d.room
+    of_refusal : (n : ℕ) (p : Place) → d.outcome ≡ refused n p → (d.room ≡ r) × (printout x ≡ refusal_line n p)
 
-  arms : Arms (lent x r)
+  printed_by_answer : PrintedByAnswer (lent x r)
   unfolding printout
-  arms =
-      by_answer x r Arms (λ k q e. record { text_arm = λ n o. never (cc); refusal_arm = λ n p o. (refl, ap printout e ∙ cc) })
+  printed_by_answer =
+      by_answer x r PrintedByAnswer (λ k q e. record { of_text = λ n o. never (cc); of_refusal = λ n p o. (refl, ap printout e ∙ cc) })
       (λ t e h. absurd (omega (arith, h, room t e)))
       (λ t e.
       record {
-        text_arm = λ n o.
+        of_text = λ n o.
             let k : length t ≡ n = cc in
             rw e (record { count = sym k; bytes = ap (λ (m : ℕ). t ++ drop m r) k });
-        refusal_arm = λ n p o. never (cc);
+        of_refusal = λ n p o. never (cc);
       })
 
   pub printed_answer : (a : Result ℕ Refusal) {r' r'' : List ℕ} {g : ℕ} → ◌≡◌ {A = Done} (record { outcome = stated_number a; room = r' }) (lent x r) → Shown a g r' r''
       → Printed (printout x) g r r''
-  printed_answer (Ok n) e h = rw (h.0, h.1) ((subst⁻¹ Arms e arms).text_arm n refl)
+  printed_answer (Ok n) e h = rw (h.0, h.1) ((subst⁻¹ PrintedByAnswer e printed_by_answer).of_text n refl)
   printed_answer (Err r) {g} e h =
-      let w = (subst⁻¹ Arms e arms).refusal_arm (rule_number r.0) r.1 refl in
+      let w = (subst⁻¹ PrintedByAnswer e printed_by_answer).of_refusal (rule_number r.0) r.1 refl in
       rw w.1 (record { count = h.count; bytes = h.bytes ∙ ap (λ (q : List ℕ). refusal_line (rule_number r.0) r.1 ++ drop g q) w.0 })

@@ -2,19 +2,21 @@
 // or a write that fails is said on standard error; a sheet that could not be read gets neither.
 #![tactic(auto)]
 
+ghost use Rattle.std.specs.Prelude.{◌≡◌};
 ghost use Rattle.text_answer.specs.Printing.{printout};
 ghost use Rattle.convert.specs.Call.{conversion};
 ghost use Rattle.stdio.specs.Answered.{Prints};
 
+use sheet_length::{LONGEST_SHEET, SHEET_ROOM};
 use std::io;
 use std::io::{Read, Write};
 use stdio::Failure;
 
 // Has the sheet answered, or says what kept it from its answer.
-// Kept: in each program, as the two sentences differ; which of them is told is `Failure::told`'s. No contract speaks of the system's streams.
+// Kept: in each program, as the two sentences differ; which of them is told is `Failure::sentence`'s. No contract speaks of the system's streams.
 fn main(rt: HostRuntime) {
     if let Err(failure) = answer(&mut rt.stdin(), &mut io::writer(&rt)) {
-        let _ = rt.eprintln(failure.told(
+        let _ = rt.eprintln(failure.sentence(
             "tsav-convert: the sheet cannot be read",
             "tsav-convert: the converted sheet cannot be written",
         ));
@@ -22,9 +24,21 @@ fn main(rt: HostRuntime) {
 }
 
 // Of a sheet of any bytes and any length, the converted sheet or the line of its refusal.
-// Kept: a call of a function that promises the same, so that this program promises its own text.
+// Kept: in each program, as the rooms, the call and its text differ; what they share is `stdio::answer`.
 fn answer<R: Read, W: Write>(input: &mut R, output: &mut W) -> Result<(), Failure>
     ensures { Prints (λ s. printout (conversion s)) (R.remaining input.old) (W.contents output.old) (W.contents output.new) result }
 {
-    program_answers::convert_sheet(input, output)
+    let mut sheet = [0u8; SHEET_ROOM];
+    let mut converted = [0u8; LONGEST_SHEET];
+    stdio::answer(
+        input,
+        output,
+        &mut sheet,
+        |sheet: &[u8]| -> &[u8]
+            ensures { result.now ≡ printout (conversion sheet.now) }
+        {
+            let length = convert::print_converted(sheet, &mut converted);
+            &converted[..length]
+        },
+    )
 }

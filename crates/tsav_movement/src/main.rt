@@ -2,19 +2,25 @@
 // of the refusal. A read or a write that fails is said on standard error; an input that could not be read gets neither.
 #![tactic(auto)]
 
+ghost use Rattle.std.specs.Prelude.{◌≡◌};
 ghost use Rattle.text_answer.specs.Printing.{printout};
 ghost use Rattle.movement.specs.Call.{movements};
 ghost use Rattle.stdio.specs.Answered.{Prints};
 
+use movement::MOVEMENT_BYTES;
+use movement_input::INPUT_BYTES;
 use std::io;
 use std::io::{Read, Write};
 use stdio::Failure;
 
+// One byte more than a movement's input has, so that one that is too long is seen to be.
+const INPUT_ROOM: usize = INPUT_BYTES + 1;
+
 // Has the input answered, or says what kept it from its answer.
-// Kept: in each program, as the two sentences differ; which of them is told is `Failure::told`'s. No contract speaks of the system's streams.
+// Kept: in each program, as the two sentences differ; which of them is told is `Failure::sentence`'s. No contract speaks of the system's streams.
 fn main(rt: HostRuntime) {
     if let Err(failure) = answer(&mut rt.stdin(), &mut io::writer(&rt)) {
-        let _ = rt.eprintln(failure.told(
+        let _ = rt.eprintln(failure.sentence(
             "tsav-movement: the input cannot be read",
             "tsav-movement: the movements cannot be written",
         ));
@@ -22,9 +28,21 @@ fn main(rt: HostRuntime) {
 }
 
 // Of an input of any bytes and any length, the lines of the movements or the line of its refusal.
-// Kept: a call of a function that promises the same, so that this program promises its own text.
+// Kept: in each program, as the rooms, the call and its text differ; what they share is `stdio::answer`.
 fn answer<R: Read, W: Write>(input: &mut R, output: &mut W) -> Result<(), Failure>
     ensures { Prints (λ s. printout (movements s)) (R.remaining input.old) (W.contents output.old) (W.contents output.new) result }
 {
-    program_answers::report_movement(input, output)
+    let mut numbers = [0u8; INPUT_ROOM];
+    let mut lines = [0u8; MOVEMENT_BYTES];
+    stdio::answer(
+        input,
+        output,
+        &mut numbers,
+        |numbers: &[u8]| -> &[u8]
+            ensures { result.now ≡ printout (movements numbers.now) }
+        {
+            let length = movement::print_movement(numbers, &mut lines);
+            &lines[..length]
+        },
+    )
 }

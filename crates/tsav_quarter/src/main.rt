@@ -15,10 +15,10 @@ use stdio::Failure;
 const CHUNK: usize = 4096;
 
 // Has the sheets answered, or says what kept them from their answer.
-// Kept: in each program, as the two sentences differ; which of them is told is `Failure::told`'s. No contract speaks of the system's streams.
+// Kept: in each program, as the two sentences differ; which of them is told is `Failure::sentence`'s. No contract speaks of the system's streams.
 fn main(rt: HostRuntime) {
     if let Err(failure) = answer(&mut rt.stdin(), &mut io::writer(&rt)) {
-        let _ = rt.eprintln(failure.told(
+        let _ = rt.eprintln(failure.sentence(
             "tsav-quarter: the sheets cannot be read",
             "tsav-quarter: the lines cannot be written",
         ));
@@ -33,7 +33,7 @@ fn answer<R: Read, W: Write>(input: &mut R, output: &mut W) -> Result<(), Failur
     let mut out = [0u8; OUTPUT_ROOM];
     let q = take_input(input, &mut room, &mut out)?;
     let n = quarter::finish(&mut out, q);
-    stdio::put(output, &out, n)
+    stdio::write_front(output, &out, n)
 }
 
 // Takes the input a chunk at a time: to its end, or until it has too many sheets, whatever follows. One that does not end within as many reads as a

@@ -77,11 +77,13 @@ def _converted(name: str, finder: Finder) -> Answer:
 
 
 def _refused(said: str, name: str, finder: Finder, value: dict, kind: Optional[str] = None) -> Answer:
-    """What the file is, where it isn't what was meant, stands before its faults, which then don't name the converter again."""
+    """What the file is, where it isn't what was meant, stands before its faults, which then don't say again what is to be done with it."""
     head = said.format(file=visible(files.shown(name)), refusal=telling.refusal_place(finder.first), faults=telling.count_of(finder.faults))
     told, faults = kinds.told(kind, name), finder.faults
     heads = [head + "\n"] + ([told + "\n"] if told else [])
     if kind == kinds.THOUSANDS:
         again = _(lines.CONVERT_FIRST) + " "
         faults = [fault._replace(advice=fault.advice.removeprefix(again)) for fault in faults]
+    if kind == kinds.QUARTER:
+        faults = [fault._replace(advice="") if fault.cause == "closing-line" else fault for fault in faults]
     return Answer(REFUSED, "\n".join([*heads, *telling.paragraphs(faults, finder.not_tested)]), value)

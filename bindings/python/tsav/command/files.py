@@ -20,6 +20,13 @@ _WHYS = {
     errno.ENOSPC: N_("the disk is full"),
     errno.EPIPE: N_("nobody reads it"),
     errno.ENODEV: N_("it is no file, but a device or a pipe"),
+    errno.ENOTDIR: N_("there is no such file or folder"),
+    errno.ENAMETOOLONG: N_("its name is too long"),
+    errno.ELOOP: N_("its links lead nowhere"),
+    errno.EFBIG: N_("the disk is full"),
+    errno.EDQUOT: N_("the disk is full"),
+    errno.EBADF: N_("it is closed"),
+    errno.EIO: N_("the device fails"),
 }
 
 
@@ -32,11 +39,18 @@ def read(name: str, most: int) -> bytes:
     """The file's bytes, or standard input's; of a longer one only the first `most` and one more, which tells that it is longer."""
     try:
         if name == STANDARD_INPUT:
-            return _whole(sys.stdin.buffer, most + 1)
+            return _whole(opened(sys.stdin).buffer, most + 1)
         with open(name, "rb") as file:
             return _whole(file, most + 1)
     except OSError as error:
         raise Failure(_("{file} can't be read: {why}").format(file=shown(name), why=why(error))) from error
+
+
+def opened(stream):
+    """A standard stream, which Python hasn't where it is closed."""
+    if stream is None:
+        raise OSError(errno.EBADF, os.strerror(errno.EBADF))
+    return stream
 
 
 def _whole(file, most: int) -> bytes:

@@ -8,6 +8,7 @@ from tsav.command import columns, lines, totals, whole
 from tsav.command.faults import Fault, NotTested, key_of, shown
 from tsav.command.labels import line_name
 from tsav.command.rows import Row, Rows
+from tsav.command.visible import decoded
 
 
 def refused(call, data: bytes) -> Optional[tsav.Refused]:
@@ -85,15 +86,21 @@ class Finder:
             more = {"line": row.number, "name": name, "lines": (shown(row),), "set_right": row.set_right, **more}
         self.faults.append(Fault(refusal.number, cause, title, **more))
 
+    def thousands(self) -> bool:
+        """Whether it is a sheet in thousands of dollars: the convert call has it by the letters of line 1; for the sheet call, which takes no
+        such sheet, every code that there is has small letters."""
+        codes = [decoded(row.now[: columns.CODE]) for row in self.rows.current]
+        if self.call is tsav.convert:
+            return codes[0].islower()
+        known = [code for code in codes if code.upper() in columns.CODES]
+        return bool(known) and all(code.islower() for code in known)
+
     def letters(self):
-        """As a sheet's codes are to be written: those of line 1 tell, for the convert call."""
-        first = self.rows.current[0].now[:3]
-        small = self.call is tsav.convert and first.decode("latin-1").islower()
-        return str.lower if small else str.upper
+        """As the sheet's codes are to be written."""
+        return str.lower if self.thousands() else str.upper
 
     def cents(self, amount: int) -> int:
-        small = self.call is tsav.convert and self.letters() is str.lower
-        return amount * lines.THOUSANDS if small else amount
+        return amount * lines.THOUSANDS if self.thousands() else amount
 
     def touched(self, *wanted) -> tuple:
         """The touched lines that may be one of these: a code, its blocks and its class, None for any."""

@@ -15,7 +15,7 @@ NAME = "fluctuation"
 
 
 class Row(NamedTuple):
-    """What it is called; and how it is typed, in English and in French, whatever language is spoken."""
+    """What it is called; and how it is typed, in English and in French, short and written out, whatever language is spoken."""
 
     name: str
     typed: tuple
@@ -23,12 +23,12 @@ class Row(NamedTuple):
 
 ROWS = {
     1: Row(N_("disability, level"), ("disability-level", "invalidite-niveau")),
-    2: Row(N_("long-term care, level"), ("long-term-care-level", "sld-niveau")),
+    2: Row(N_("long-term care, level"), ("long-term-care-level", "sld-niveau", "soins-de-longue-duree-niveau")),
     3: Row(N_("disability, volatility"), ("disability-volatility", "invalidite-volatilite")),
-    4: Row(N_("long-term care, volatility"), ("long-term-care-volatility", "sld-volatilite")),
+    4: Row(N_("long-term care, volatility"), ("long-term-care-volatility", "sld-volatilite", "soins-de-longue-duree-volatilite")),
     5: Row(N_("travel and credit, volatility"), ("travel-and-credit", "voyages-et-credit")),
     6: Row(N_("medical and dental, volatility"), ("medical-and-dental", "medicale-et-dentaire")),
-    7: Row(N_("critical illness, level or volatility"), ("critical-illness", "mg")),
+    7: Row(N_("critical illness, level or volatility"), ("critical-illness", "mg", "maladies-graves")),
 }
 # Its base is the face amount.
 _OF_FACE = 7
@@ -61,7 +61,8 @@ def _plain(text: str) -> str:
 
 
 def _row(text: str) -> int:
-    found = [number for number, row in ROWS.items() if _plain(text) in (str(number), *row.typed)]
+    plain = _plain(text)
+    found = [number for number, row in ROWS.items() if plain in (str(number), *row.typed, _plain(row.name), _plain(_(row.name)))]
     if not found:
         known = ", ".join(f"{number} {_typed(row)}" for number, row in ROWS.items())
         raise argparse.ArgumentTypeError(_("there is no such row; there are {rows}").format(rows=known))

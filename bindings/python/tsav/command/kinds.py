@@ -1,16 +1,16 @@
-"""What a file is that was taken for a sheet in cents, and what makes one of it; and whether one that was taken for figures is a sheet."""
+"""What a file is that was taken for a sheet in cents, and what takes it or makes one of it; and whether one that was taken for figures is a sheet."""
 
 import re
 import shlex
 from collections import Counter
 from typing import Optional
 
-from tsav.command import columns, files, workbook
+from tsav.command import columns, files, layout, workbook
 from tsav.command.messages import N_, _
 from tsav.command.visible import decoded, visible
 from tsav.command.whole import narrow
 
-WORKBOOK, ROWS, THOUSANDS, SHEET = "workbook", "rows", "thousands", "sheet"
+WORKBOOK, ROWS, THOUSANDS, QUARTER, SHEET = "workbook", "rows", "thousands", "quarter", "sheet"
 
 # A code and what text is split at; a tab may have been put between the columns of a sheet too.
 _SPLIT = re.compile(r'"?([A-Za-z]{3})"?\s*[,;|]')
@@ -22,8 +22,17 @@ _SAID = {
     WORKBOOK: N_("It is a workbook. If its amounts are in dollars, this makes a sheet of it: {command}"),
     ROWS: N_("It is a file of rows (CSV). If its amounts are in dollars, this makes a sheet of it: {command}"),
     THOUSANDS: N_("It is a sheet in thousands of dollars. This makes one in cents of it: {command}"),
+    QUARTER: N_(
+        "It is the file of a quarter, sheets that are each closed by 39 minus signs, and one sheet is read here. "
+        "This makes a page of all of them: {command}; and tsav explain --quarter says what is refused of them."
+    ),
 }
-_COMMANDS = {WORKBOOK: "tsav import {file} -o {sheet}", ROWS: "tsav import {file} -o {sheet}", THOUSANDS: "tsav-convert {file} -o {sheet}"}
+_COMMANDS = {
+    WORKBOOK: "tsav import {file} -o {sheet}",
+    ROWS: "tsav import {file} -o {sheet}",
+    THOUSANDS: "tsav-convert {file} -o {sheet}",
+    QUARTER: "tsav report --quarter {file} -o page.html",
+}
 
 
 def of(data: bytes) -> Optional[str]:
@@ -31,19 +40,26 @@ def of(data: bytes) -> Optional[str]:
     if workbook.is_one(data):
         return WORKBOOK
     text = decoded(narrow(data) or data).removeprefix("\ufeff")
-    lines = [line for line in text.splitlines() if line.strip()][:_LOOKED_AT]
-    counted = Counter(filter(None, map(_line, lines)))
-    return counted.most_common(1)[0][0] if counted else None
+    lines = [line for line in text.splitlines() if line.strip()]
+    counted = Counter(filter(None, map(_line, lines[:_LOOKED_AT])))
+    kind = counted.most_common(1)[0][0] if counted else None
+    if kind == ROWS:
+        return kind
+    if any(map(layout.closes, lines)) and any(line[: columns.CODE].upper() in columns.CODES for line in lines):
+        return QUARTER
+    # With one code that isn't in small letters it is none in thousands.
+    return SHEET if SHEET in map(_line, lines) else kind
 
 
 def _line(line: str) -> Optional[str]:
+    """What it is a line of."""
     split, fixed = _SPLIT.match(line), _COLUMNS.fullmatch(line)
     code = (split or fixed or [None, ""])[1]
     if code.upper() not in columns.CODES:
         return None
     if split:
         return ROWS
-    return SHEET if code in columns.CODES else THOUSANDS
+    return THOUSANDS if code.islower() else SHEET
 
 
 def told(kind: Optional[str], name: str) -> str:

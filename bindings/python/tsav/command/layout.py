@@ -94,12 +94,18 @@ class Word(NamedTuple):
         return self.start + len(self.text)
 
 
-def read(text: str) -> Reading:
-    """Of a line without its line feed and without a carriage return at its end."""
+def closes(text: str) -> bool:
+    """Whether a line was meant to close a sheet of a quarter: as many dashes, whatever blanks stand beside them."""
+    dashes = text.strip()
+    return len(dashes) == len(CLOSING) and set(dashes) <= set(DASHES)
+
+
+def read(text: str, thousands: bool = False) -> Reading:
+    """Of a line without its line feed and without a carriage return at its end, of a sheet in cents or in thousands."""
     without = "".join(" " if _control(character) else character for character in text)
     words = _split_columns(_split_code([Word(found.start(), found.group()) for found in _WORD.finditer(without)]))
     aside = _no_figures(text, without, words)
-    reading = aside if aside else _figures(without, words)
+    reading = aside if aside else _figures(without, words, thousands)
     controls = [_control_cause(text, at) for at, character in enumerate(text) if _control(character)][:1]
     # What stood in place of such a character isn't known.
     line = None if controls else reading.line
@@ -215,6 +221,19 @@ def _quoted(character: str) -> str:
     return _("a narrow space") if character in BLANKS else _("the character {character}").format(character=visible(character))
 
 
+class Unit(NamedTuple):
+    """What a sheet's number counts: as many decimals as people write of what it is a part of, and what is wanted."""
+
+    decimals: int
+    wanted: str
+
+
+_NUMBER = Unit(0, N_("digits alone"))
+_CENTS = Unit(2, N_("whole cents, digits alone"))
+_TEN_THOUSANDTHS = Unit(4, N_("ten-thousandths, digits alone: 10000 is 1"))
+_OF_A_THOUSAND = Unit(0, N_("whole thousands of dollars, digits alone"))
+
+
 class _Number(NamedTuple):
     """What a word is as a number: its causes, with their offsets; and its value, None where it can't be told."""
 
@@ -223,13 +242,13 @@ class _Number(NamedTuple):
     advice: str = ""
 
 
-def _figures(text: str, words: list) -> Reading:
+def _figures(text: str, words: list, thousands: bool = False) -> Reading:
     """Of a line that has a code and figures."""
     code = words[0].text
     fields = words[1:3] + _amounts(words[3:])
     klass = _klass(fields)
     numbers = [
-        _number(field.text, columns.WIDTHS[end], _decimals(code, klass, end), _name(code, klass, end))
+        _number(field.text, columns.WIDTHS[end], _unit(code, klass, end, thousands), _name(code, klass, end))
         for field, end in zip(fields, _FIELDS)
     ]
     causes = [
@@ -239,7 +258,7 @@ def _figures(text: str, words: list) -> Reading:
     ]
     causes += _blanks(text, fields) + _lacking(text, code, klass, fields)
     causes = causes or _places(text, words[0], fields, code, klass)
-    numbers = _one_unit(numbers, fields)
+    numbers = numbers if thousands else _one_unit(numbers, fields)
     values = [number.value for number in numbers[:4]]
     if len(values) == 3:
         values.append(0)
@@ -303,11 +322,13 @@ def _joined(words: list) -> Word:
     return Word(words[0].start, text)
 
 
-def _decimals(code: str, klass: Optional[int], end: int) -> int:
-    """What people's decimals make of a number that is written without: cents, or the scalar's ten-thousandths."""
+def _unit(code: str, klass: Optional[int], end: int, thousands: bool) -> Unit:
+    """The scalar is the same in a sheet in thousands."""
     if end < columns.FIRST:
-        return 0
-    return 4 if (code.upper(), klass, end) == ("GEN", 4, columns.FIRST) else 2
+        return _NUMBER
+    if (code.upper(), klass, end) == ("GEN", 4, columns.FIRST):
+        return _TEN_THOUSANDTHS
+    return _OF_A_THOUSAND if thousands else _CENTS
 
 
 def _name(code: str, klass: Optional[int], end: int) -> str:
@@ -325,7 +346,7 @@ def _name(code: str, klass: Optional[int], end: int) -> str:
     return _("the second amount, {name}").format(name=names[1]) if names[1] else _("the second amount")
 
 
-def _number(text: str, width: int, decimals: int, name: str) -> _Number:
+def _number(text: str, width: int, unit: Unit, name: str) -> _Number:
     bad = _no_number(text, name)
     if bad:
         return _Number([bad], None)
@@ -333,12 +354,12 @@ def _number(text: str, width: int, decimals: int, name: str) -> _Number:
     for sign, cause, found in ((_PLUS, "plus", N_("a plus in {name}")), (_DOLLAR, "dollar-sign", N_("a dollar sign in {name}"))):
         if sign in text:
             causes.append((cause, text.index(sign), _(found).format(name=name), _("digits alone")))
-    whole, fraction, marks = _parts(text, decimals)
-    wanted = {0: _("digits alone"), 2: _("whole cents, digits alone"), 4: _("ten-thousandths, digits alone: 10000 is 1")}[decimals]
+    whole, fraction, marks = _parts(text, unit.decimals)
+    wanted = _(unit.wanted)
     for mark, at in marks:
         found = _("a decimal sign in {name}: {mark}") if mark == "decimal-sign" else _("a thousands separator in {name}: {mark}")
         causes.append((mark, at, found.format(name=name, mark=_quoted(text[at])), wanted))
-    digits = _in_units(whole, fraction, decimals, _DOLLAR in text)
+    digits = _in_units(whole, fraction, unit.decimals, _DOLLAR in text)
     if not causes and len(whole) > 1 and whole.startswith("0"):
         causes.append(("leading-zero", 0, _("a leading zero in {name}").format(name=name), _("no zero before another digit")))
     if digits is not None and len(digits) > width:
@@ -346,7 +367,9 @@ def _number(text: str, width: int, decimals: int, name: str) -> _Number:
         wanted = ngettext("at most {count} digit", "at most {count} digits", width).format(count=width)
         return _Number(causes + [("too-many-digits", 0, found, wanted)], None)
     value = None if digits is None else int(digits)
-    return _Number(causes, *_in_dollars(text, marks, value, width, decimals))
+    if unit == _OF_A_THOUSAND:
+        return _Number(causes, *_in_thousands(text, whole, fraction, marks, value))
+    return _Number(causes, *_in_dollars(text, marks, value, width, unit.decimals))
 
 
 def read_amount(text: str, name: str) -> Tuple[list, Optional[int]]:
@@ -357,7 +380,7 @@ def read_amount(text: str, name: str) -> Tuple[list, Optional[int]]:
     if not words:
         return [Cause("empty-line", 1, _("an empty line"), _("an amount; 0 where there is none"))], None
     word = _joined(words)
-    number = _number(word.text, columns.WIDTHS[columns.FIRST], 2, name)
+    number = _number(word.text, columns.WIDTHS[columns.FIRST], _CENTS, name)
     causes = [Cause(cause, word.start + offset + 1, found, wanted) for cause, offset, found, wanted in number.causes]
     causes += controls + _blanks(without, [word])
     width = columns.WIDTHS[columns.FIRST]
@@ -433,6 +456,23 @@ def _in_dollars(text: str, marks: list, value: Optional[int], width: int, decima
     if value and len(str(value * 100)) <= width:
         said += " " + _("If that many dollars are meant, type {cents}.").format(cents=value * 100)
     return value, said
+
+
+def _in_thousands(text: str, whole: str, fraction: Optional[str], marks: list, value: Optional[int]) -> tuple:
+    """The same in a sheet in thousands. What has decimals or a dollar sign may be meant in dollars: none is proposed, and both are said."""
+    if fraction is None and _DOLLAR not in text:
+        if not marks or value is None:
+            return value, ""
+        said = _("{number} is {dollars}, since amounts are in thousands of dollars.").format(number=value, dollars=money.dollars(value * 100_000))
+        return (None if _three(text, [at for _mark, at in marks]) else value), said
+    said = [_("The codes are in small letters, so that amounts are whole thousands of dollars.")]
+    read = N_("In thousands, {text} is {dollars}, in a sheet in cents {cents}."), N_("In dollars, {text} is {dollars}, in a sheet in cents {cents}.")
+    for places, way in zip((5, 2), read):
+        cents = _in_units(whole, fraction or "", places, False)
+        if cents and len(cents) <= columns.WIDTHS[columns.FIRST]:
+            said.append(_(way).format(text=visible(text), dollars=money.dollars(int(cents)), cents=cents))
+    said.append(_("Type whole thousands, rounded up or down as it must be; or type the sheet in cents, with its codes in capitals."))
+    return None, " ".join(said)
 
 
 def _blanks(text: str, fields: list) -> list:

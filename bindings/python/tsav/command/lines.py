@@ -15,23 +15,25 @@ from tsav.command.whole import of_file, return_mark
 # The unit of a sheet in thousands, in cents, and its largest amount.
 THOUSANDS = 100_000
 LARGEST_THOUSANDS = 999_999_999
+# Said of a code in small letters, where others have capitals.
+_OF_SMALL = N_("Codes in small letters throughout are those of a sheet in thousands of dollars.")
 # Said of a sheet in thousands, unless the command stands above its faults.
 CONVERT_FIRST = N_("Convert the sheet first: tsav-convert < FILE > cents.sheet.")
 
 
-def broken(finder, refusal) -> None:
+def broken(finder, refusal) -> Optional[bool]:
     row = finder.rows.unsound()
     named = finder.rows.current[refusal.line - 1] if refusal.line and refusal.line <= len(finder.rows.current) else None
     row = row or named or finder.rows.current[-1]
     body = row.now[:-1] if row.now.endswith(b"\n") else row.now
     if body.endswith(b"\r"):
         _carriage_returns(finder, refusal, row)
-        return
-    reading = layout.read(decoded(body))
+        return None
+    reading = layout.read(decoded(body), finder.thousands())
     counted = refusal.line if refusal.line and row is not named else None
     if not reading.causes and not row.now.endswith(b"\n"):
         _no_line_feed(finder, refusal, row)
-        return
+        return None
     marks = tuple(Mark(cause.column, cause.name, cause.found, cause.wanted) for cause in reading.causes)
     cause = reading.causes[0].name
     row.figures = reading.figures
@@ -49,7 +51,17 @@ def broken(finder, refusal) -> None:
         counted=counted,
         name=line_name(*key_of(known)) if known.key else "",
     )
+    if _ends_a_sheet(finder, row):
+        finder.not_tested.append(NotTested(None, ()))
+        return False
     _set_layout_right(finder, row, reading)
+    return None
+
+
+def _ends_a_sheet(finder, row: Row) -> bool:
+    """Of a quarter, with others behind it: what they have in common is no fault of a sheet."""
+    rows = finder.rows.current
+    return layout.closes(decoded(row.now)) and any(other.now.strip() for other in rows[rows.index(row) + 1 :])
 
 
 def _until(finder, row: Row, cause: str) -> Row:
@@ -139,7 +151,7 @@ def code(finder, refusal) -> Optional[bool]:
         return None
     there = decoded(row.now[: columns.CODE])
     known = there.upper() in columns.CODES
-    if finder.call is tsav.sheet and known and _all_small(finder):
+    if finder.call is tsav.sheet and known and finder.thousands():
         return _thousands(finder, refusal, row)
     letters = finder.letters()
     near = there.upper() if known else next(iter(difflib.get_close_matches(there.upper(), columns.CODES, 1, 0.5)), None)
@@ -152,18 +164,13 @@ def code(finder, refusal) -> Optional[bool]:
         row,
         marks=(Mark(1, cause, _("the code {code}").format(code=visible(there)), wanted),),
         instead=letters(near) + row.now[columns.CODE : -1].decode("ascii") if near else None,
+        advice=_(_OF_SMALL) if known and there.islower() else "",
     )
     if known:
         row.put(row.line._replace(code=letters(near)))
     else:
         finder.rows.take_out(row)
     return None
-
-
-def _all_small(finder) -> bool:
-    """No line has a code in capitals, and the first has one in small letters."""
-    codes = [decoded(row.now)[:3] for row in finder.rows.current]
-    return codes[0].islower() and not any(code in columns.CODES for code in codes)
 
 
 def _thousands(finder, refusal, row: Row) -> Optional[bool]:

@@ -5,7 +5,6 @@ gives an Answer or raises Failure. Add the module to SUBCOMMANDS; `--lang` and `
 """
 
 import argparse
-import errno
 import json
 import os
 import sys
@@ -28,7 +27,7 @@ from tsav.command import (
     versions,
     warn,
 )
-from tsav.command.answer import FAILED, Answer, Failure
+from tsav.command.answer import FAILED, Failure
 from tsav.command.messages import _
 
 SUBCOMMANDS = (explain, imports, template, exports, warn, compare, reports, block, shares, movement, operational, fluctuation)
@@ -43,17 +42,32 @@ def main(arguments=None) -> int:
         stream.reconfigure(errors="replace")
     try:
         _choose_language(given)
-        if sys.stdout is None:
-            raise Failure(_("the answer can't be written: {why}").format(why=os.strerror(errno.EBADF)))
-        options = _parser().parse_args(given)
+        _write("")
+        try:
+            options = _parser().parse_args(given)
+        except SystemExit:
+            # After a help or the versions; or after an error, which went to the other stream.
+            _write("")
+            raise
+        except OSError as error:
+            raise _unwritten(error) from error
         answer = options.run(options)
-        _write(answer, options.json)
+        _write(json.dumps(answer.value, indent=2) + "\n" if options.json else answer.text)
         return answer.status
     except Failure as failure:
-        print(f"tsav: {failure}", file=sys.stderr)
+        _complain(failure)
         return FAILED
     except KeyboardInterrupt:
         return 130
+
+
+def _complain(failure: Failure) -> None:
+    """The status tells where nothing else can."""
+    try:
+        print(f"tsav: {failure}", file=sys.stderr, flush=True)
+    except OSError:
+        # Python would try again at its end, and end with another status.
+        os.dup2(os.open(os.devnull, os.O_WRONLY), sys.stderr.fileno())
 
 
 def _choose_language(arguments) -> None:
@@ -65,7 +79,7 @@ def _choose_language(arguments) -> None:
     try:
         messages.choose(messages.of_locale(os.environ))
     except Failure as failure:
-        print(f"tsav: {failure}", file=sys.stderr)
+        _complain(failure)
         messages.choose("en")
 
 
@@ -99,13 +113,17 @@ def _add_language(parser, default) -> None:
     )
 
 
-def _write(answer: Answer, as_json: bool) -> None:
-    """All at once, at the end."""
-    text = json.dumps(answer.value, indent=2) + "\n" if as_json else answer.text
+def _write(text: str) -> None:
+    """All at once, behind what was written before."""
     try:
-        sys.stdout.write(text)
+        files.opened(sys.stdout).write(text)
         sys.stdout.flush()
     except OSError as error:
         # Nothing is left for Python to write at its end, where it would fail again.
-        os.dup2(os.open(os.devnull, os.O_WRONLY), sys.stdout.fileno())
-        raise Failure(_("the answer can't be written: {why}").format(why=files.why(error))) from error
+        if sys.stdout is not None:
+            os.dup2(os.open(os.devnull, os.O_WRONLY), sys.stdout.fileno())
+        raise _unwritten(error) from error
+
+
+def _unwritten(error: OSError) -> Failure:
+    return Failure(_("the answer can't be written: {why}").format(why=files.why(error)))

@@ -29,6 +29,8 @@ def _why_long(data: bytes) -> str:
     """What is seen in it that no sheet has."""
     if data.startswith(_WORKBOOK):
         return _("A workbook with figures in dollars is read by tsav import.")
+    if any(layout.closes(decoded(line)) for line in data.split(b"\n")):
+        return _("It has lines that close the sheets of a quarter, which is explained by tsav explain --quarter.")
     if narrow(data) is not None:
         return _("Save it as plain text, in ASCII or in UTF-8 without a byte order mark.")
     if _no_text(data):

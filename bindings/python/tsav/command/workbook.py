@@ -7,6 +7,7 @@ when it was last worked out may be of another day, and isn't read.
 
 import io
 import re
+import sys
 import warnings
 import zipfile
 from datetime import date, time, timedelta
@@ -16,6 +17,7 @@ from xml.etree import ElementTree
 from tsav.command import amounts, tables
 from tsav.command.answer import Failure
 from tsav.command.messages import _
+from tsav.command.visible import visible
 
 # Of the file; of all that it unpacks to, the parts in it, the elements in these; of the worksheet's rows that have something, its columns and
 # its merged cells: many times what 629 lines have.
@@ -42,7 +44,8 @@ def library():
     try:
         import openpyxl
     except ImportError as error:
-        raise Failure(_("for workbooks openpyxl is needed, and isn't installed (Debian: apt-get install python3-openpyxl); CSV needs none")) from error
+        said = _("for workbooks openpyxl is needed, and {python} hasn't it (Debian's python3: apt-get install python3-openpyxl); CSV needs none")
+        raise Failure(said.format(python=visible(sys.executable))) from error
     return openpyxl
 
 

@@ -1,21 +1,9 @@
 -- Whenever the loop's test is reached, the first parts are divided, and what is left of K is K less their quotients. Assumes nothing.
-use mathlib.Core.Path.{◌≡◌, refl}
-use native.Mathlib.Omega.{arith}
+use Rattle.basics.proofs.Common.{◌≡◌, arith, listed_more, listed_all}
 use Rattle.std.proofs.lemmas.List.{map-set}
-use Rattle.basics.specs.Total.{sum_to}
-use Rattle.basics.proofs.Ascents.{listed_start, listed_more, listed_all}
 use Rattle.sizes.specs.Sizes.{parts}
-use Rattle.apportion.proofs.Parts.{margin_within, base_is, remainder_is, takes, left_after, left_all}
+use Rattle.apportion.proofs.Parts.{base_is, remainder_is, takes, left_after, left_all}
 use Rattle.apportion.proofs.divided.Goals as goal
-
-pub loop-part-init : goal.loop-part-init
-unfolding sum_to
-loop-part-init c = (listed_start _ _ _ refl, listed_start _ _ _ refl, omega arith)
-
-pub part_of-by-requires : goal.part_of-by-requires
-part_of-by-requires c =
-    let p = c.requires in
-    (p.some, p.fits, margin_within _ _ _ p _ c.loop-part-test.true)
 
 pub overflow_sub-left : goal.overflow_sub-left
 overflow_sub-left c =

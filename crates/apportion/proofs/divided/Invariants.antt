@@ -1,7 +1,4 @@
-use mathlib.Core.Path.{◌≡◌}
-use Prim.Native.Nat.{◌+◌}
-use Rattle.basics.specs.Total.{sum_to}
-use Rattle.basics.proofs.Ascents.{Listed}
+use Rattle.basics.proofs.Common.{◌≡◌, ◌+◌, sum_to, Listed}
 use Rattle.sizes.specs.Sizes.{parts}
 use Rattle.apportion.specs.Shares.{value_of_part, base, remainder}
 use Rattle.apportion.specs.Steps.{quotients, rests}

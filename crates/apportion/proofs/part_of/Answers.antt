@@ -1,7 +1,5 @@
 -- The quotient fits a word, so it is its lower word; a quotient and its rest that add up are the definition's. Assumes nothing.
-use mathlib.Core.Path.{◌≡◌, ap, ◌∙◌}
-use Prim.Native.Nat.{ℕ, ◌/◌, ◌%◌}
-use native.Mathlib.Omega.{arith}
+use Rattle.basics.proofs.Common.{◌≡◌, ℕ, ◌/◌, ◌%◌, ap, ◌∙◌, arith}
 use Rattle.wide.specs.Value.{value}
 use Rattle.division.proofs.Quotients.{quotient_below}
 use Rattle.apportion.proofs.Parts.{quotient_is, rest_is, product_fits}

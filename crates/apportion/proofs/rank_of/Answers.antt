@@ -1,19 +1,10 @@
 -- Whenever the loop's test is reached, those of the first parts that come before this one are counted. Assumes nothing.
-use mathlib.Core.Path.{◌≡◌, refl}
-use Prim.Native.Nat.{◌+◌}
-use native.Mathlib.Omega.{arith}
-use Rattle.basics.specs.Total.{sum_to, one, count_to}
-use Rattle.basics.proofs.Totals.{sum_step, count_most}
-use Rattle.sizes.specs.Sizes.{parts}
-use Rattle.apportion.specs.Shares.{value_of_part, before, rank}
+use Rattle.basics.proofs.Common.{◌≡◌, ◌+◌, arith, count_to, one, sum_step, count_most}
+use Rattle.apportion.specs.Shares.{value_of_part, before}
 use Rattle.apportion.specs.Steps.{rests}
 use Rattle.apportion.proofs.Parts.{counted}
 use Rattle.apportion.proofs.rank_of.Goals.{After-one_if_before-before}
 use Rattle.apportion.proofs.rank_of.Goals as goal
-
-pub loop-other-init : goal.loop-other-init
-unfolding sum_to
-loop-other-init c = refl
 
 -- with the next part
 next : (c : After-one_if_before-before) →
@@ -30,10 +21,3 @@ overflow_add-before c =
 
 pub loop-other-preserved : goal.loop-other-preserved
 loop-other-preserved c = next c
-
-pub returns : goal.returns
-unfolding rank
-returns c =
-    let l = c.loop-other in
-    let e : l.other ≡ parts = omega (arith, c.loop-other-test.false, l.auto.other-end) in
-    rw e at l.invariant

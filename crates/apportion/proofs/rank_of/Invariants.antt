@@ -1,5 +1,4 @@
-use mathlib.Core.Path.{◌≡◌}
-use Rattle.basics.specs.Total.{count_to}
+use Rattle.basics.proofs.Common.{◌≡◌, count_to}
 use Rattle.apportion.specs.Shares.{value_of_part, before}
 use Rattle.apportion.specs.Steps.{rests}
 use Rattle.apportion.proofs.rank_of.Given as goal

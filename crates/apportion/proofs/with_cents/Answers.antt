@@ -1,10 +1,5 @@
 -- Whenever the loop's test is reached, the first parts have their cents. Assumes nothing.
-use mathlib.Core.Path.{refl, sym}
-use Prim.Native.Nat.{◌+◌}
-use native.Mathlib.Omega.{arith}
-use lib.Dec.{ltb}
-use Rattle.basics.proofs.Totals.{one_most}
-use Rattle.basics.proofs.Ascents.{listed_start, listed_more}
+use Rattle.basics.proofs.Common.{◌+◌, ltb, sym, refl, arith, listed_start, listed_more, one_most}
 use Rattle.sizes.specs.Sizes.{parts}
 use Rattle.apportion.specs.Shares.{value_of_part, rank}
 use Rattle.apportion.specs.Steps.{quotients, rests}

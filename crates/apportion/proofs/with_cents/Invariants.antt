@@ -1,7 +1,4 @@
-use Prim.Native.Nat.{◌+◌}
-use lib.Dec.{ltb}
-use Rattle.basics.specs.Total.{one}
-use Rattle.basics.proofs.Ascents.{Listed}
+use Rattle.basics.proofs.Common.{◌+◌, ltb, one, Listed}
 use Rattle.sizes.specs.Sizes.{parts}
 use Rattle.apportion.specs.Shares.{value_of_part, rank}
 use Rattle.apportion.specs.Steps.{quotients, rests}

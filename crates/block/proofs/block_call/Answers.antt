@@ -1,6 +1,5 @@
 -- What is worked out of the block is what the call is to give. Demand 3 and the bound of the steps are laws of that outcome. Assumes nothing.
-use mathlib.Core.Path.{◌≡◌, ◌∙◌}
-use mathlib.Core.List.{◌++◌}
+use Rattle.basics.proofs.Common.{◌≡◌, ◌++◌, ◌∙◌}
 use Rattle.refusal.specs.Outcome.Outcome.{accepted}
 use Rattle.guideline.specs.Block.{figures_of}
 use Rattle.figures.specs.RootSteps.{steps_of}
@@ -16,7 +15,7 @@ given : (c : After-worked_out) →
 given c =
     (λ j. accepted (c.worked_out.ensures.0 j ++ c.worked_out.ensures.1 j))
     ∙ (λ j. accepted (figures_of (c.new.ensures j) ++ steps_of (c.new.ensures j)))
-    ∙ c.in_ok-tested.ensures.outcome
+    ∙ c.in_ok-rules_7_to_9.ensures.outcome
 
 pub returns-clause-demand3 : goal.returns-clause-demand3
 returns-clause-demand3 c = block_demanded _ _ (given c)

@@ -1,9 +1,6 @@
 -- What `find` gives of the seven pairs is the first that passes, and none where none does. Assumes nothing.
-use mathlib.Core.Path.{◌≡◌, refl}
-use mathlib.Core.Bool.{true, false}
-use borrow.Author.Rules.{rules}
-use borrow.Author.Tests.{tests}
-use Rattle.std.proofs.lemmas.Iterator.{first_from_find, YieldsList-from_range}
+use Rattle.basics.proofs.Common.{◌≡◌, true, false, refl, rules, tests, YieldsList-from_range}
+use Rattle.std.proofs.lemmas.Iterator.{first_from_find}
 use Rattle.sizes.specs.Sizes.{risks}
 use Rattle.block.specs.Call.{lt_above}
 use Rattle.block.proofs.Rules.{first_pair}

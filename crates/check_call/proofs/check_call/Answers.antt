@@ -1,6 +1,5 @@
 -- What judging tells is what the judgement has to tell, so each way out is the call's: a refusal, or what is made of the ledger. Assumes nothing.
-use mathlib.Core.Path.{◌∙◌}
-use Rattle.std.proofs.lemmas.Result.{err_from_is_err_and}
+use Rattle.basics.proofs.Common.{◌∙◌, err_from_is_err_and}
 use Rattle.sheet_answer.proofs.Judgements.{turned}
 use Rattle.check_call.proofs.Calls.{off_tables, promised}
 use Rattle.check_call.proofs.check_call.Goals as goal

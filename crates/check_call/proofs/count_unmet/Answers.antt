@@ -1,8 +1,5 @@
 -- Before each turn the count is that of the lines before the n-th. Assumes nothing.
-use mathlib.Core.Path.{◌≡◌, refl, sym, ap, ◌∙◌}
-use Prim.Native.Nat.{ℕ, ◌+◌, ◌-◌}
-use native.Mathlib.Omega.{arith}
-use Rattle.basics.specs.Ascending.{ascending}
+use Rattle.basics.proofs.Common.{◌≡◌, ℕ, ◌+◌, ◌-◌, sym, refl, ap, ◌∙◌, arith, ascending}
 use Rattle.needs.specs.Needing.{most_listed}
 use Rattle.check_call.specs.Tabled.{unmet_at}
 use Rattle.check_call.proofs.Listing.{count_more, count_same, count_most}

@@ -1,5 +1,4 @@
-use mathlib.Core.Path.{◌≡◌}
-use Prim.Native.Nat.{◌-◌}
+use Rattle.basics.proofs.Common.{◌≡◌, ◌-◌}
 use Rattle.check_call.specs.Tabled.{counted_to}
 use Rattle.check_call.proofs.count_unmet.Given as goal
 

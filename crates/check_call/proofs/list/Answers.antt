@@ -1,9 +1,5 @@
 -- What is counted is the listing's length, by which rule 14 goes; then it is written. Assumes nothing.
-use mathlib.Core.Path.{◌≡◌, refl, sym, ap, ◌∙◌}
-use mathlib.Core.List.{List, [], ◌∷◌, ◌++◌}
-use Prim.Native.Nat.{ℕ, ◌*◌, ◌≤◌, ◌<◌}
-use native.Mathlib.Omega.{arith}
-use lib.ListN.{length, drop}
+use Rattle.basics.proofs.Common.{◌≡◌, ℕ, ◌*◌, ◌<◌, ◌≤◌, List, [], ◌∷◌, ◌++◌, length, drop, sym, refl, ap, ◌∙◌, arith}
 use Rattle.needs.specs.Listing.{listed_bytes}
 use Rattle.needs.specs.Needing.{most_listed}
 use Rattle.text_answer.proofs.LentRoom.{lent_short, lent_filled}

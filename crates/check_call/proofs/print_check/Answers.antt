@@ -1,5 +1,5 @@
 -- With room for the longest listing, what is printed is what the judgement has to say. Assumes nothing.
-use native.Mathlib.Omega.{arith}
+use Rattle.basics.proofs.Common.{arith}
 use Rattle.sheet_answer.proofs.Judgements.{printed_text}
 use Rattle.check_call.proofs.Calls.{never_longer}
 use Rattle.check_call.proofs.print_check.Goals as goal

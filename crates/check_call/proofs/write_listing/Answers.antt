@@ -1,8 +1,5 @@
 -- Before each turn the lines of those before the n-th stand in front. Assumes nothing.
-use Prim.Native.Nat.{◌+◌, ◌≤◌}
-use lib.ListN.{length}
-use Rattle.basics.specs.Ascending.{ascending}
-use Rattle.basics.proofs.Stretches.{nothing}
+use Rattle.basics.proofs.Common.{◌+◌, ◌≤◌, length, ascending, nothing}
 use Rattle.check_call.specs.Tabled.{one_at}
 use Rattle.check_call.proofs.Listing.{room_left, next_put}
 use Rattle.check_call.proofs.write_listing.Goals.{In-loop-n}
@@ -17,9 +14,9 @@ left : (c : In-loop-n) → c.loop-n.at + length (one_at c.args.ledger.now.firsts
 left c =
     room_left c.args.ledger.now.firsts c.args.ledger.now.seconds c.loop-n.n c.loop-n.auto.n c.loop-n.invariant c.loop-n-test.true c.requires
 
-pub write_one-at-requires : goal.write_one-at-requires
-write_one-at-requires c = (c.loop-n.auto.n, c.loop-n-test.true, left (goal.at.write_one-at-requires c).In-loop-n)
+pub write_unmet-at-requires : goal.write_unmet-at-requires
+write_unmet-at-requires c = (c.loop-n.auto.n, c.loop-n-test.true, left (goal.at.write_unmet-at-requires c).In-loop-n)
 
 pub loop-n-preserved : goal.loop-n-preserved
 loop-n-preserved c =
-    next_put c.args.ledger.now.firsts c.args.ledger.now.seconds c.loop-n.n c.loop-n.auto.n c.loop-n.invariant (left (goal.at.loop-n-preserved c).In-loop-n) c.write_one-at.ensures
+    next_put c.args.ledger.now.firsts c.args.ledger.now.seconds c.loop-n.n c.loop-n.auto.n c.loop-n.invariant (left (goal.at.loop-n-preserved c).In-loop-n) c.write_unmet-at.ensures

@@ -1,5 +1,4 @@
-use Prim.Native.Nat.{◌-◌}
-use Rattle.basics.proofs.Stretches.{Wrote}
+use Rattle.basics.proofs.Common.{◌-◌, Wrote}
 use Rattle.check_call.specs.Tabled.{tabled_listing_to}
 use Rattle.check_call.proofs.write_listing.Given as goal
 

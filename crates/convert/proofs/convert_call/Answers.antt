@@ -1,6 +1,5 @@
 -- A sheet that its length turns away is refused; any other is what its lines give, and what was written converts back. Assumes nothing.
-use mathlib.Core.Path.{sym, ap, ◌∙◌}
-use Rattle.std.proofs.lemmas.Result.{err_from_is_err_and}
+use Rattle.basics.proofs.Common.{sym, ap, ◌∙◌, err_from_is_err_and}
 use Rattle.convert.specs.Steps.{lines_call}
 use Rattle.scaled_line.specs.declared.Scale.{Scale}
 use Rattle.convert.proofs.Calls.{whole_lines_lem, call_turned, call_lines, promised}

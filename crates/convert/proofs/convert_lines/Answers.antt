@@ -1,7 +1,5 @@
 -- The lines that were tested tell which arm it is: refused, no room, or written. Assumes nothing.
-use mathlib.Core.Path.{refl, sym, ap, ◌∙◌}
-use native.Mathlib.Omega.{arith}
-use Rattle.std.proofs.lemmas.Result.{err_from_is_err_and}
+use Rattle.basics.proofs.Common.{sym, refl, ap, ◌∙◌, arith, err_from_is_err_and}
 use Rattle.refusal.specs.Outcome.{stated_number}
 use Rattle.places.specs.Marks.{marks_of}
 use Rattle.convert.proofs.Calls.{lines_turned, lines_short, lines_written}

@@ -1,5 +1,5 @@
 -- With room for the longest sheet, what is printed is the conversion. Assumes nothing.
-use borrow.Author.Rules.{rules}
+use Rattle.basics.proofs.Common.{rules}
 use Rattle.convert.proofs.Calls.{printed_sheet}
 use Rattle.convert.proofs.print_converted.Goals as goal
 

@@ -1,12 +1,11 @@
 -- Whenever the loop's test is reached, the lines before have been tested, and what is left to read gives what all lines give. Assumes nothing.
-use mathlib.Core.Path.{◌≡◌, ap, ◌∙◌}
-use native.Mathlib.Omega.{arith}
+use Rattle.basics.proofs.Common.{◌≡◌, ap, ◌∙◌, arith}
 use Rattle.layout.specs.Whole.{line_at}
 use Rattle.layout.proofs.WholeLines.{count_lines, within, line_is}
 use Rattle.order.proofs.Lines.{line_keyed}
 use Rattle.scaled_line.specs.Scale.{parse_in}
 use Rattle.convert.proofs.Reading.{reads}
-use Rattle.convert.proofs.Passes.{test_done, test_turned, test_key, test_again}
+use Rattle.convert.proofs.TwoPasses.{test_done, test_turned, test_key, test_again}
 use Rattle.convert.proofs.test_lines.Goals.{After-read-read}
 use Rattle.convert.proofs.test_lines.Goals as goal
 

@@ -1,4 +1,4 @@
-use Rattle.convert.proofs.Passes.{TestedTo}
+use Rattle.convert.proofs.TwoPasses.{TestedTo}
 use Rattle.convert.proofs.test_lines.Given as goal
 
 abbrev pub invariant-loop-i : goal.invariant-loop-i

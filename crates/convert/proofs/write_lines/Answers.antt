@@ -1,8 +1,7 @@
 -- Whenever the loop's test is reached, the lines before stand in front of the room as the other sort has them. Assumes nothing.
-use native.Mathlib.Omega.{arith}
+use Rattle.basics.proofs.Common.{arith, rules}
 use Rattle.layout.proofs.WholeLines.{count_lines, within, line_is}
-use Rattle.convert.proofs.Passes.{write_start, write_again, write_done}
-use borrow.Author.Rules.{rules}
+use Rattle.convert.proofs.TwoPasses.{write_start, write_again, write_done}
 use Rattle.convert.proofs.write_lines.Goals as goal
 
 pub loop-i-init : goal.loop-i-init

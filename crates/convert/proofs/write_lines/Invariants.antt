@@ -1,4 +1,4 @@
-use Rattle.convert.proofs.Passes.{Writing}
+use Rattle.convert.proofs.TwoPasses.{Writing}
 use Rattle.convert.proofs.write_lines.Given as goal
 
 abbrev pub invariant-loop-i : goal.invariant-loop-i

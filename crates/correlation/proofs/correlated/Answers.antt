@@ -1,6 +1,5 @@
 -- The sum over all i, j is never below 0. Assumes nothing.
-use native.Mathlib.Omega.{arith}
-use Rattle.std.proofs.lemmas.Int.{to_z-of_z}
+use Rattle.basics.proofs.Common.{arith, to_z-of_z}
 use Rattle.guideline.proofs.Table.{quarter_natural}
 use Rattle.correlation.proofs.correlated.Goals as goal
 

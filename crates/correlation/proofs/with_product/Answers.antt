@@ -1,9 +1,6 @@
 -- One product more, by the factor of its place. A signed local holds bits, and each read gives  to_z w128 (of_z w128 x),  which is x.
 -- Assumes nothing.
-use Prim.Native.Nat.{◌+◌, ◌*◌, ◌≤◌, ◌^◌}
-use native.Mathlib.Omega.{arith}
-use lib.IntN.{pos, nat_abs, ◌*ℤ◌}
-use Rattle.std.proofs.lemmas.Int.{to_z-of_z}
+use Rattle.basics.proofs.Common.{◌+◌, ◌*◌, ◌^◌, ◌≤◌, pos, ◌*ℤ◌, nat_abs, arith, to_z-of_z}
 use Rattle.sizes.specs.Sizes.{risks}
 use Rattle.correlation.proofs.RunningSum.{product, term_small, next}
 use Rattle.correlation.proofs.with_product.Goals.{After-from-3}

@@ -1,15 +1,10 @@
 -- Whenever the loop's test is reached, the sum is that of the first i credits. Assumes nothing.
-use mathlib.Core.Path.{◌≡◌, refl}
-use Prim.Native.Nat.{◌+◌}
-use native.Mathlib.Omega.{arith}
-use Rattle.basics.specs.Total.{sum_to}
-use Rattle.basics.proofs.Totals.{sum_most}
+use Rattle.basics.proofs.Common.{◌≡◌, ◌+◌, refl, arith, props, sum_to, sum_most}
 use Rattle.amount.specs.Amount.{limit}
 use Rattle.sizes.specs.Sizes.{adjustable_products}
 use Rattle.codes.specs.declared.Code.TheVariants.{Crd}
 use Rattle.ledger.specs.Numbers.{adjustable_credit}
 use Rattle.ledger.proofs.Bounds.{first_most}
-use Rattle.std.proofs.Props.{props}
 use Rattle.ledger.proofs.Tables.{of_lines}
 use Rattle.credits.proofs.Credits.{adjustable_key, next_adjustable}
 use Rattle.credits.proofs.adjustable_credits.Goals as goal

@@ -1,5 +1,4 @@
-use mathlib.Core.Path.{◌≡◌}
-use Rattle.basics.specs.Total.{sum_to}
+use Rattle.basics.proofs.Common.{◌≡◌, sum_to}
 use Rattle.ledger.specs.Numbers.{adjustable_credit}
 use Rattle.ledger.specs.Lines.{OfLines}
 use Rattle.credits.proofs.adjustable_credits.Given as goal

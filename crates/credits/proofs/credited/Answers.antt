@@ -1,5 +1,5 @@
 -- Where the test finds no credit above its block's LT(1), all are covered. Assumes nothing.
-use mathlib.Core.Path.{sym, ◌∙◌}
+use Rattle.basics.proofs.Common.{sym, ◌∙◌}
 use Rattle.credits.proofs.Acceptance.{all_covered}
 use Rattle.credits.proofs.credited.Goals as goal
 

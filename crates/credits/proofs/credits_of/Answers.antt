@@ -1,7 +1,5 @@
 -- Whenever the loop's test is reached, the first i credits are those of blocks 1 to i. Assumes nothing.
-use mathlib.Core.Path.{refl}
-use native.Mathlib.Omega.{arith}
-use Rattle.std.proofs.Props.{props}
+use Rattle.basics.proofs.Common.{refl, arith, props}
 use Rattle.ledger.proofs.Tables.{of_lines}
 use Rattle.credits.proofs.Credits.{mortality_key, sums_most, next_credit}
 use Rattle.credits.proofs.credits_of.Goals as goal

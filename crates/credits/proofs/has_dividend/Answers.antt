@@ -1,5 +1,6 @@
 -- A block without participation has none; a participating one's mark is at its CRD place. Assumes nothing.
-use mathlib.Core.Path.{sym, ◌∙◌}
+use Rattle.basics.proofs.Common.{sym, ◌∙◌}
+use Rattle.codes.specs.Codes.{dividend_class}
 use Rattle.codes.specs.declared.Code.TheVariants.{Crd}
 use Rattle.ledger.proofs.Tables.{mark_is}
 use Rattle.places.proofs.Keys.{dividend_key}
@@ -14,4 +15,4 @@ has_line-requires c = dividend_key _ c.if-block-le-NON_PARTICIPATING.false c.req
 
 pub returns : goal.returns
 returns c es H =
-    c.has_line.ensures ∙ mark_is H Crd _ 1 (dividend_key _ c.if-block-le-NON_PARTICIPATING.false c.requires.block_number.1)
+    c.has_line.ensures ∙ mark_is H Crd _ dividend_class (dividend_key _ c.if-block-le-NON_PARTICIPATING.false c.requires.block_number.1)

@@ -1,4 +1,4 @@
-use Prim.Native.Nat.{◌+◌, ◌*◌, ◌^◌, ◌≤◌}
+use Rattle.basics.proofs.Common.{◌+◌, ◌*◌, ◌^◌, ◌≤◌}
 use Rattle.division.proofs.Quotients.{Between}
 use Rattle.division.proofs.divide_lower.Given as goal
 

@@ -1,9 +1,5 @@
 -- The quotient of the rest and the digits brought down is a digit, for which the quotient so far has room. Assumes nothing.
-use mathlib.Core.Path.{ap, ◌∙◌}
-use Prim.Native.Nat.{ℕ, ◌+◌, ◌*◌, ◌/◌, ◌%◌, ◌^◌, ◌≤◌, ◌<◌}
-use native.Mathlib.Nat.{mod-lt}
-use native.Mathlib.Omega.{arith}
-use lib.Pow.{pow_pos}
+use Rattle.basics.proofs.Common.{ℕ, ◌+◌, ◌*◌, ◌/◌, ◌%◌, ◌^◌, ◌<◌, ◌≤◌, ap, ◌∙◌, mod-lt, arith, pow_pos}
 use Rattle.division.proofs.Quotients.{digit_below, stepped}
 use Rattle.division.proofs.divide_step.Goals.{After-divide_word-by}
 use Rattle.division.proofs.divide_step.Goals as goal

@@ -1,24 +1,13 @@
 -- The upper word is below d, as the quotient fits a word; the quotient is rounded up by its rest. Assumes nothing.
-use mathlib.Core.Path.{◌≡◌}
-use Prim.Native.Nat.{◌+◌, ◌*◌}
-use native.Mathlib.Omega.{arith}
+use Rattle.basics.proofs.Common.{◌≡◌, ◌+◌, ◌*◌, arith}
 use Rattle.wide.specs.Value.{value}
-use Rattle.division.proofs.Quotients.{up_room, up_more, up_exact}
+use Rattle.division.proofs.Quotients.{up_more, up_exact}
 use Rattle.division.proofs.divide_up.Goals.{After-divide_lower-by}
 use Rattle.division.proofs.divide_up.Goals as goal
-
-pub divide_lower-by-requires : goal.divide_lower-by-requires
-unfolding value
-divide_lower-by-requires c = omega (arith, c.requires)
 
 whole : (c : After-divide_lower-by) → c.divide_lower-by.result.quotient * c.args.d + c.divide_lower-by.result.rest ≡ value c.args.n
 unfolding value
 whole c = c.divide_lower-by.ensures.1
-
-pub overflow_add-result : goal.overflow_add-result
-overflow_add-result c =
-    let w = whole (goal.at.overflow_add-result c).After-divide_lower-by in
-    omega (arith, up_room _ _ _ _ w c.divide_lower-by.ensures.0 c.requires.2 (omega (arith, c.if-rest-gt0.true)))
 
 pub returns-then-rest-gt0 : goal.returns-then-rest-gt0
 returns-then-rest-gt0 c =

@@ -1,6 +1,5 @@
 -- A rest leaves its leading zeros free, or fewer where fewer digits are left. Assumes nothing.
-use native.Mathlib.Omega.{arith}
-use lib.Count.{count_leading_zeros}
+use Rattle.basics.proofs.Common.{arith, count_leading_zeros}
 use Rattle.division.proofs.Quotients.{Width, width_of, fewer}
 use Rattle.division.proofs.step_width.Goals as goal
 

@@ -1,5 +1,5 @@
 -- The columns from `at` on are written, and what is left of the number belongs into the columns before them. Assumes nothing.
-use lib.ListN.{length}
+use Rattle.basics.proofs.Common.{length}
 use Rattle.field.proofs.WrittenColumns.{Written}
 use Rattle.field.proofs.write_field.Given as goal
 

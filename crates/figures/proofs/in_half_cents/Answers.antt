@@ -1,7 +1,5 @@
 -- A quotient by 100, rounded up. Assumes nothing.
-use mathlib.Core.Path.{◌≡◌, ◌∙◌}
-use Prim.Native.Nat.{◌+◌, ◌-◌, ◌/◌}
-use native.Mathlib.Omega.{arith}
+use Rattle.basics.proofs.Common.{◌≡◌, ◌+◌, ◌-◌, ◌/◌, ◌∙◌, arith}
 use Rattle.sizes.specs.Sizes.{fineness}
 use Rattle.figures.proofs.JointRadicand.{reported_is}
 use Rattle.figures.proofs.in_half_cents.Goals as goal

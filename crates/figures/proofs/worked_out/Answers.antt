@@ -1,8 +1,6 @@
 -- Each figure is found from those before it: I from the block, D from A and I, U and LT from the block, K from U, LT and D, whose bounds hold of every
 -- accepted block; I and D are then rounded up to half cents. Assumes nothing.
-use mathlib.Core.Path.{◌≡◌, ap, ◌∙◌}
-use mathlib.Core.List.{[], ◌∷◌}
-use native.Mathlib.Omega.{arith}
+use Rattle.basics.proofs.Common.{◌≡◌, [], ◌∷◌, ap, ◌∙◌, arith}
 use Rattle.guideline.specs.Block.{fine_d, figures_of}
 use Rattle.root.specs.Steps.{steps}
 use Rattle.figures.specs.RootSteps.{steps_of}
@@ -20,9 +18,9 @@ joined : (c : After-diversified-joint) → c.diversified-joint.result.root ≡ f
 joined c =
     joint_found _ _ _ _ c.credit_and_market.ensures.0 c.insurance-insurance.ensures.0 c.diversified-joint.ensures.0
 
-pub adjusted-k-requires : goal.adjusted-k-requires
-adjusted-k-requires c =
-    bounded _ c.args.b.now.accepted _ _ _ c.undiversified-u.ensures c.level_and_trend-lt.ensures (joined (goal.at.adjusted-k-requires c).After-diversified-joint)
+pub adjusted_requirement-k-requires : goal.adjusted_requirement-k-requires
+adjusted_requirement-k-requires c =
+    bounded _ c.args.b.now.accepted _ _ _ c.undiversified-u.ensures c.level_and_trend-lt.ensures (joined (goal.at.adjusted_requirement-k-requires c).After-diversified-joint)
 
 pub in_half_cents-requires : goal.in_half_cents-requires
 in_half_cents-requires c =
@@ -38,7 +36,7 @@ returns c =
     let diversified_joint = (goal.at.returns c).After-diversified-joint in
     let u = c.undiversified-u.ensures in
     let t = c.level_and_trend-lt.ensures in
-    let k = adjusted_found _ _ _ _ _ u t (joined diversified_joint) c.adjusted-k.ensures in
+    let k = adjusted_found _ _ _ _ _ u t (joined diversified_joint) c.adjusted_requirement-k.ensures in
     let i = c.insurance-insurance.ensures in
     let h = i_found _ _ _ i.0 c.in_half_cents.ensures in
     let e = d_found _ _ _ (joined diversified_joint) c.in_half_cents-2.ensures in (

@@ -1,8 +1,5 @@
 -- The product is the radicand of a base that is the requirement. Assumes nothing.
-use mathlib.Core.Path.{◌∙◌}
-use Prim.Native.Nat.{◌*◌}
-use lib.Dec.{leb}
-use Rattle.basics.specs.Least.{least}
+use Rattle.basics.proofs.Common.{◌*◌, leb, ◌∙◌, least}
 use Rattle.fluctuation.proofs.Radicand.{own_root_same}
 use Rattle.fluctuation.proofs.over_own_root.Goals as goal
 

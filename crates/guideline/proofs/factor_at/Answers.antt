@@ -1,13 +1,8 @@
 -- The constant is the list of the table's factors, row by row, as it computes; each is at most 4 in size, so that its byte and its word read back
 -- as it is. Assumes nothing.
-use mathlib.Core.Path.{◌≡◌, ap, ◌∙◌}
-use Prim.Native.Nat.{ℕ, ◌<◌}
-use lib.ListN.{get_or}
-use lib.IntN.{ℤ, pos}
-use mir.Syntax.{w8, w64}
+use Rattle.basics.proofs.Common.{◌≡◌, ℕ, ◌<◌, get_or, ℤ, pos, ap, ◌∙◌, w8, w64, to_z-of_z, values}
 use mir.Val.{to_z, of_z}
-use mir.ValLaws.{to_z-of_z}
-use Rattle.basics.proofs.Values.{values, values_at}
+use Rattle.basics.proofs.Values.{values_at}
 use Rattle.sizes.specs.Sizes.{products}
 use Rattle.guideline.specs.Factors.{factors, factor}
 use Rattle.guideline.proofs.Table.{factor_small, small_fits}

@@ -1,9 +1,6 @@
 -- The sum over all pairs of the y(i) is four times Q, and 2,500 of it 10,000 × Q. With the largest y(i) as its floor and 2 × PC the root of that is
 -- I, and none of it passes a word, since I is at most V. Assumes nothing.
-use mathlib.Core.Path.{◌≡◌, sym, ap, ◌∙◌, subst}
-use mathlib.Core.List.{List}
-use Prim.Native.Nat.{ℕ, max, ◌+◌, ◌*◌, ◌≤◌}
-use native.Mathlib.Omega.{arith}
+use Rattle.basics.proofs.Common.{◌≡◌, ℕ, ◌+◌, ◌*◌, ◌≤◌, max, List, sym, ap, ◌∙◌, subst, arith}
 use Rattle.sizes.specs.Sizes.{fineness}
 use Rattle.guideline.specs.Block.{largest_of, largest, root, fine_i}
 use Rattle.wide.specs.Value.{value}

@@ -1,11 +1,5 @@
 -- The fold is of the seven numbers, from 0. Assumes nothing.
-use mathlib.Core.Path.{◌≡◌, ap, ◌∙◌}
-use mathlib.Core.List.{List, [], ◌∷◌}
-use Prim.Native.Nat.{ℕ, max}
-use native.Mathlib.Omega.{arith}
-use lib.ListN.{length}
-use borrow.Author.Rules.{rules}
-use Rattle.std.specs.List.{fold}
+use Rattle.basics.proofs.Common.{◌≡◌, ℕ, max, List, [], ◌∷◌, length, fold, ap, ◌∙◌, arith, rules}
 use Rattle.std.proofs.iter.runs.Made.{chains}
 use Rattle.guideline.specs.Block.{largest_of}
 use Rattle.insurance.proofs.largest_of.Goals as goal

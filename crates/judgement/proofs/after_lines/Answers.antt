@@ -1,7 +1,5 @@
 -- Rules 12 and 16 in turn; past both, rules 17 and 13 are told of lines whose credits none of its blocks' LT(1) falls short of. Assumes nothing.
-use mathlib.Core.Path.{◌≡◌, sym, ◌∙◌}
-use mathlib.Core.List.{List}
-use mathlib.Core.Bool.{true}
+use Rattle.basics.proofs.Common.{◌≡◌, true, List, sym, ◌∙◌}
 use Rattle.codes.specs.Codes.{scalar_class}
 use Rattle.codes.specs.declared.Code.TheVariants.{Gen}
 use Rattle.sheet_line.specs.declared.Entry.{Entry}

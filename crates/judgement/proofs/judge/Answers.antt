@@ -1,8 +1,5 @@
 -- The length and the lines in turn; the ledger holds good lines, and rules 12 and 13 are told of these. Assumes nothing.
-use mathlib.Core.Path.{◌≡◌, ◌∙◌}
-use Rattle.std.proofs.Common.{rules}
-use Rattle.std.specs.Prelude.{Ok, Err}
-use Rattle.std.proofs.lemmas.Result.{err_from_is_err_and}
+use Rattle.basics.proofs.Common.{◌≡◌, Ok, Err, ◌∙◌, rules, err_from_is_err_and}
 use Rattle.sheet_length.specs.Measured.{measured}
 use Rattle.judgement.proofs.Rules.{length_refused, bad_line, holds, good_lines, no_lines, lines_held}
 use Rattle.judgement.proofs.judge.Goals as goal

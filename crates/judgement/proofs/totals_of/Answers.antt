@@ -1,17 +1,11 @@
 -- Rules 17 and 13 in turn; past both, each number that is worked out is the lines' own. Assumes nothing.
-use mathlib.Core.Path.{◌≡◌, sym, ◌∙◌}
-use mathlib.Core.List.{List}
-use mathlib.Core.Bool.{false}
-use Prim.Native.Nat.{◌+◌, ◌-◌, ◌≤◌}
-use native.Mathlib.Omega.{arith}
-use Rattle.basics.specs.First.{any_to}
+use Rattle.basics.proofs.Common.{◌≡◌, ◌+◌, ◌-◌, ◌≤◌, false, List, sym, ◌∙◌, arith, props, any_to}
 use Rattle.sizes.specs.Sizes.{blocks}
 use Rattle.guideline.specs.Buffer.{free, available, most_available}
 use Rattle.sheet_line.specs.declared.Entry.{Entry}
 use Rattle.judgement.specs.Sheet.{sheet_of}
 use Rattle.sheet_blocks.specs.Blocks.{dividend_barred}
 use Rattle.ledger.specs.Lines.{Holds}
-use Rattle.std.proofs.Props.{props}
 use Rattle.ledger.proofs.Tables.{of_lines, general_is}
 use Rattle.judgement.proofs.Acceptance.{dividends_most, available_small, free_small, scalar_most}
 use Rattle.judgement.proofs.TotalParts.{available_is, buffer_is}
@@ -81,9 +75,9 @@ scalar_is_g : (c : After-general_amount-3) (es : List Entry) → Lines (goal.at.
 unfolding sheet_of
 scalar_is_g c es H = c.general_amount-3.ensures ∙ general_is H 4 (omega arith, omega arith)
 
-pub scaled-buffer-requires : goal.scaled-buffer-requires
-scaled-buffer-requires c =
-    let general_amount = (goal.at.scaled-buffer-requires c).After-general_amount in
+pub times_scalar-buffer-requires : goal.times_scalar-buffer-requires
+times_scalar-buffer-requires c =
+    let general_amount = (goal.at.times_scalar-buffer-requires c).After-general_amount in
     of_lines c.args.credited.now.ledger.now (hlevel props)
     (λ es H. (omega (arith, scalar_is_g c es H, scalar_most es H.lines), omega (arith, small general_amount)))
 
@@ -101,7 +95,7 @@ returns-clause-findings c es H =
       rows_are = worked.front;
       sum_is = worked.sum;
       ro_is = c.operational_figure-ro.ensures es H;
-      buffer_is = buffer_is es _ _ _ _ g bracket credits c.scaled-buffer.ensures;
+      buffer_is = buffer_is es _ _ _ _ g bracket credits c.times_scalar-buffer.ensures;
     })
     ∙ passes es (none_barred at_w es H) (omega (arith, c.if-available-free.false, bracket, credits))
 

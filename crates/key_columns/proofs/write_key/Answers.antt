@@ -1,7 +1,6 @@
 -- The code and the two numbers are copied into their columns, and the stores put the spaces between them. Assumes nothing.
-use mathlib.Core.Path.{◌∙◌}
+use Rattle.basics.proofs.Common.{◌∙◌, rules}
 use Rattle.key_columns.proofs.Columns.{key_filled}
-use borrow.Author.Rules.{rules}
 use Rattle.key_columns.proofs.write_key.Goals as goal
 
 pub returns : goal.returns

@@ -1,8 +1,5 @@
 -- Digits in all bytes are digits in the upper eight and in the lower eight, and their number is that of both. Assumes nothing.
-use mathlib.Core.Path.{◌≡◌, ap, ◌∙◌}
-use Prim.Native.Nat.{ℕ, ◌+◌, ◌*◌, ◌/◌, ◌%◌, ◌^◌, ◌<◌}
-use native.Mathlib.Omega.{arith}
-use Rattle.std.proofs.lemmas.Nat.{div-add-mod'}
+use Rattle.basics.proofs.Common.{◌≡◌, ℕ, ◌+◌, ◌*◌, ◌/◌, ◌%◌, ◌^◌, ◌<◌, ap, ◌∙◌, div-add-mod', arith}
 use Rattle.line_fields.specs.Words.{AllDigits, number}
 use Rattle.line_fields.proofs.Bytes.{within_parts, number_parts}
 use Rattle.line_fields.proofs.number_of.Goals as goal

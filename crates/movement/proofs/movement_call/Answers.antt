@@ -1,10 +1,6 @@
 -- Each return is the chain of the tests that led to it: the length, the lines, what the block call says. Past the last one the lines are written, and
 -- what the theorem says of them is a law of that outcome. Assumes nothing.
-use mathlib.Core.Path.{◌≡◌, sym, ap, ◌∙◌}
-use native.Mathlib.Omega.{arith}
-use lib.ListN.{length}
-use Rattle.std.specs.Prelude.{Result}
-use Rattle.std.proofs.lemmas.Result.{err_from_is_err_and}
+use Rattle.basics.proofs.Common.{◌≡◌, length, Result, sym, ap, ◌∙◌, arith, err_from_is_err_and}
 use Rattle.refusal.specs.declared.Refusal.{Refusal}
 use Rattle.guideline.specs.declared.Block.{Block}
 use Rattle.sizes.specs.Sizes.{block_numbers}
@@ -12,7 +8,7 @@ use Rattle.figures.specs.Parts.{figures_are}
 use Rattle.block.specs.Call.{stated_block, block_call}
 use Rattle.movement_input.specs.Reading.{block_of}
 use Rattle.movement_input.proofs.Numbers.{length_numbers}
-use Rattle.movement.proofs.Calls.{wrong_length, broken_line, block_refused, no_room, all_told, promised}
+use Rattle.movement.proofs.Calls.{wrong_length, broken_line, block_refused, no_room, lines_answered, promised}
 use Rattle.movement.proofs.movement_call.Goals.{After-accepted_block}
 use Rattle.movement.proofs.movement_call.Goals as goal
 
@@ -56,5 +52,5 @@ returns c =
     let w = c.in-Some.ensures.cases in
     rw (← w.same)
     (promised _ _ _
-    (all_told _ _ (ap length w.same ∙ w.long) c.in_default-first_broken.ensures (said (goal.at.returns c).After-accepted_block _ c.in_ok-block.was)
+    (lines_answered _ _ (ap length w.same ∙ w.long) c.in_default-first_broken.ensures (said (goal.at.returns c).After-accepted_block _ c.in_ok-block.was)
     (omega (arith, c.if-room-lt-MOVEMENT_BYTES.false)) (c.in_ok-block.ensures.numbers ∙ c.block_of.ensures) c.number_at-raise.ensures c.write_movements.ensures))

@@ -1,5 +1,5 @@
 -- The room has the length of the lines, so what is printed is what the input gives. Assumes nothing.
-use native.Mathlib.Omega.{arith}
+use Rattle.basics.proofs.Common.{arith}
 use Rattle.movement.proofs.Calls.{printed_movements}
 use Rattle.movement.proofs.print_movement.Goals as goal
 

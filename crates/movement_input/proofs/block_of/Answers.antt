@@ -1,6 +1,5 @@
 -- Whenever the loop's test is reached, the numbers of the first i lines stand in front. Assumes nothing.
-use mathlib.Core.Path.{refl}
-use Rattle.basics.proofs.Stretches.{nothing}
+use Rattle.basics.proofs.Common.{refl, nothing}
 use Rattle.movement_input.specs.Reading.{numbers_to}
 use Rattle.movement_input.proofs.Numbers.{next_number}
 use Rattle.movement_input.proofs.block_of.Goals as goal

@@ -1,8 +1,5 @@
 -- What `position` gives of the lines is the first that is broken, and none where none is. Assumes nothing.
-use borrow.Author.Rules.{rules}
-use borrow.Author.Tests.{tests}
-use mathlib.Core.Path.{◌≡◌}
-use mathlib.Core.Bool.{true, false}
+use Rattle.basics.proofs.Common.{◌≡◌, true, false, rules, tests}
 use Rattle.std.proofs.lemmas.Iterator.{IsFirst-from_position, YieldsList-from_slice}
 use Rattle.movement_input.proofs.Lines.{bad, broken_found}
 use Rattle.movement_input.proofs.first_broken.Goals as goal

@@ -1,6 +1,5 @@
 -- The line that is read is the one behind i others. Assumes nothing.
-use mathlib.Core.Path.{◌≡◌, ◌∙◌}
-use borrow.Author.Rules.{rules}
+use Rattle.basics.proofs.Common.{◌≡◌, ◌∙◌, rules}
 use Rattle.movement_input.specs.Reading.{amount_at}
 use Rattle.movement_input.proofs.Lines.{held}
 use Rattle.movement_input.proofs.number_at.Goals as goal

@@ -1,6 +1,5 @@
 -- Each arm is that of the number, and its companion what the line needs. Assumes nothing.
-use mathlib.Core.Path.{sym, ◌∙◌}
-use native.Mathlib.Omega.{arith}
+use Rattle.basics.proofs.Common.{sym, ◌∙◌, arith}
 use Rattle.needs.proofs.LineNumbers.{keyed, is_mor, is_vol, is_acq, is_crd, segregated_need, block_need}
 use Rattle.needs.proofs.needing.Goals as goal
 

@@ -1,5 +1,5 @@
 -- A label is columns 1–9 of a line, with the letters of its code. Assumes nothing.
-use mathlib.Core.Path.{◌∙◌}
+use Rattle.basics.proofs.Common.{◌∙◌}
 use Rattle.needs.specs.Listing.{label_of}
 use Rattle.needs_line.proofs.write_label.Goals as goal
 

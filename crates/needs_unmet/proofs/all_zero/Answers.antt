@@ -1,5 +1,5 @@
 -- The tests go as the definition's do. Assumes nothing.
-use Rattle.basics.proofs.Sides.{tests}
+use Rattle.basics.proofs.Branches.{tests}
 use Rattle.needs.specs.Needs.{all_zero}
 use Rattle.needs_unmet.proofs.all_zero.Goals as goal
 

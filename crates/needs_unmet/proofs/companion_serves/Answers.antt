@@ -1,8 +1,5 @@
 -- Class 0 asks for the block's RSK lines, every other class for one line. Assumes nothing.
-use mathlib.Core.Path.{ap, sym, ◌∙◌}
-use Prim.Native.Nat.{ℕ}
-use lib.Dec.{ltb}
-use Rattle.basics.proofs.Picks.{if_eq, if_ne}
+use Rattle.basics.proofs.Common.{ℕ, ltb, sym, ap, ◌∙◌, if_eq, if_ne}
 use Rattle.needs.specs.Needs.{companion_serves}
 use Rattle.needs_unmet.proofs.companion_serves.Goals as goal
 

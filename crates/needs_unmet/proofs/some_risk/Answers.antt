@@ -1,12 +1,8 @@
 -- The test of i is that of class i + 1, so the chain tells whether one of the classes passes it. Assumes nothing.
-use Rattle.std.proofs.Common.{rules, ◌≡◌, ℕ, ◌+◌, Bool, true, false, refl, add-one}
-use Rattle.std.proofs.lemmas.Iterator.{cases_from_any, YieldsList-from_range}
-use borrow.Author.Tests.{tests}
-use lib.Dec.{ltb}
+use Rattle.basics.proofs.Common.{◌≡◌, ℕ, ◌+◌, Bool, true, false, ltb, refl, add-one, rules, tests, YieldsList-from_range, cases_from_any, any_below}
 use Rattle.codes.specs.Codes.{risk_classes}
 use Rattle.codes.specs.declared.Code.TheVariants.{Rsk}
 use Rattle.places.specs.Places.{tabled}
-use Rattle.basics.proofs.Ranges.{any_below}
 use Rattle.needs.specs.Needs.{some_risk}
 use Rattle.needs_unmet.proofs.some_risk.Goals as goal
 

@@ -1,8 +1,5 @@
 -- The tests go as the definition's do: the amounts, then whether what is needed is there. Assumes nothing.
-use mathlib.Core.Path.{◌≡◌, sym, ap, ◌∙◌}
-use mathlib.Core.List.{List}
-use Prim.Native.Nat.{ℕ}
-use lib.ListN.{get_or}
+use Rattle.basics.proofs.Common.{◌≡◌, ℕ, List, get_or, sym, ap, ◌∙◌}
 use Rattle.places.specs.Places.{tabled}
 use Rattle.needs_unmet.proofs.Companions.{companion_placed, all_zero_met, companion_met}
 use Rattle.needs_unmet.proofs.unmet.Goals.{After-index_of-at}

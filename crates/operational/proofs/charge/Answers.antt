@@ -1,7 +1,5 @@
 -- Current volume and excess come to at most ten times the limit, and the largest factor times that fits a word. Assumes nothing.
-use Prim.Native.Nat.{◌+◌, ◌*◌, ◌≤◌}
-use native.Mathlib.Nat.{mul-le-mul}
-use native.Mathlib.Omega.{arith}
+use Rattle.basics.proofs.Common.{◌+◌, ◌*◌, ◌≤◌, mul-le-mul, arith}
 use Rattle.amount.specs.Amount.{limit}
 use Rattle.operational.proofs.charge.Goals as goal
 

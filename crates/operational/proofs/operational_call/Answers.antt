@@ -1,10 +1,6 @@
 -- Each return is the chain of the tests that led to it: rule 15, then rule 7 over the volumes and over the general figures after them.
 -- Assumes nothing.
-use mathlib.Core.Path.{◌≡◌, sym, ap, ◌∙◌}
-use mathlib.Core.List.{[], ◌∷◌, ◌++◌}
-use Prim.Native.Nat.{ℕ}
-use native.Mathlib.Omega.{arith}
-use Rattle.basics.proofs.Picks.{if_lt, if_ge, if_ne}
+use Rattle.basics.proofs.Common.{◌≡◌, ℕ, [], ◌∷◌, ◌++◌, sym, ap, ◌∙◌, arith, if_ne, if_lt, if_ge}
 use Rattle.refusal.specs.Outcome.Outcome.{accepted}
 use Rattle.amount.specs.Rule7.{rule7}
 use Rattle.guideline.specs.Operational.{RO}

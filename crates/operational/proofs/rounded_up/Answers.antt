@@ -1,7 +1,5 @@
 -- The quotient rounded up reaches the numerator, and less than one denominator above it. Assumes nothing.
-use mathlib.Core.Path.{sym}
-use native.Mathlib.Omega.{arith}
-use Rattle.basics.proofs.LeastOf.{ceil_eq}
+use Rattle.basics.proofs.Common.{sym, arith, ceil_eq}
 use Rattle.guideline.specs.Operational.{operational_denominator}
 use Rattle.operational.proofs.rounded_up.Goals as goal
 

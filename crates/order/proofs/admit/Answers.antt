@@ -1,12 +1,7 @@
 -- A good line's mark is read at its entry's index, and its key is compared with the last one. Assumes nothing.
-use mathlib.Core.Path.{refl}
-use native.Mathlib.Omega.{arith}
-use Rattle.order.proofs.Admission.{stands_marked, comes_before, comes_after}
+use Rattle.basics.proofs.Common.{arith}
+use Rattle.order.proofs.Admission.{comes_before, comes_after}
 use Rattle.order.proofs.admit.Goals as goal
-
-pub returns-then-marks-at : goal.returns-then-marks-at
-returns-then-marks-at c =
-    stands_marked c.in_ok-e.was _ _ c.index_for-at.ensures.0 refl c.if-marks-at.true
 
 pub returns-then-key_of-last : goal.returns-then-key_of-last
 returns-then-key_of-last c =

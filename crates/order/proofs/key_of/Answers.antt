@@ -1,6 +1,5 @@
 -- A rank, a block and a class are below the base, so no sum or product on the way to the key wraps. Assumes nothing.
-use Prim.Native.Nat.{◌<◌}
-use native.Mathlib.Omega.{arith}
+use Rattle.basics.proofs.Common.{◌<◌, arith}
 use Rattle.codes.proofs.Table.{each_row, rank_of_row}
 use Rattle.order.specs.Order.{order_base, key_of}
 use Rattle.order.proofs.Ascent.{below_base}

@@ -1,13 +1,8 @@
 -- The marks of a code's classes stand beside one another, within the table. Assumes nothing.
-use mathlib.Core.Path.{◌≡◌, ◌∙◌}
-use mathlib.Core.Bool.{false, ◌||◌}
-use lib.ListN.{take, drop}
-use Prim.Native.Nat.{◌+◌, ◌-◌, ◌≤◌}
-use Rattle.std.specs.List.{fold}
+use Rattle.basics.proofs.Common.{◌≡◌, ◌+◌, ◌-◌, ◌≤◌, false, ◌||◌, take, drop, fold, ◌∙◌, rules}
 use Rattle.std.proofs.iter.runs.Made.{chains}
 use Rattle.places.specs.Places.{places}
 use Rattle.places.proofs.Marks.{classes_most, classes_marked}
-use borrow.Author.Rules.{rules}
 use Rattle.places.proofs.any_class.Goals.{After-index_of-first}
 use Rattle.places.proofs.any_class.Goals as goal
 

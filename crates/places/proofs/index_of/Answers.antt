@@ -1,5 +1,5 @@
 -- The index is the definition's, and so it is within the table. Assumes nothing.
-use mathlib.Core.Path.{refl}
+use Rattle.basics.proofs.Common.{refl}
 use Rattle.places.specs.Places.{index_of}
 use Rattle.places.proofs.Indexes.{index_most}
 use Rattle.places.proofs.index_of.Goals as goal

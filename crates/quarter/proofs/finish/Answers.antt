@@ -1,8 +1,5 @@
 -- The last lines go behind those of the sheets: that of 24 or 25, or the summary. Assumes nothing.
-use mathlib.Core.Path.{◌≡◌}
-use Prim.Native.Nat.{◌+◌, ◌≤◌}
-use native.Mathlib.Omega.{arith}
-use lib.ListN.{length}
+use Rattle.basics.proofs.Common.{◌≡◌, ◌+◌, ◌≤◌, length, arith}
 use Rattle.quarter.specs.Steps.{lines_long, longest_output}
 use Rattle.quarter.proofs.InputEnd.{room_left, finished_24, finished_25, finished_summary}
 use Rattle.quarter.proofs.finish.Goals.{Start}

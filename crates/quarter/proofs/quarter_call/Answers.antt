@@ -1,10 +1,6 @@
 -- The input is one chunk, taken from nothing on; what `finish` leaves in front of the output is its text, and goes into the room where it has its
 -- length. Assumes nothing.
-use mathlib.Core.List.{[]}
-use mathlib.Core.Path.{sym, ◌∙◌}
-use native.Mathlib.Omega.{arith}
-use lib.Seq.{length-take-le}
-use borrow.Author.Rules.{rules}
+use Rattle.basics.proofs.Common.{[], sym, ◌∙◌, arith, length-take-le, rules}
 use Rattle.text_answer.specs.Printing.{Printed}
 use Rattle.quarter_text.specs.Printout.{quarter_text}
 use Rattle.quarter.proofs.Calls.{at_once, text_within, no_room, taken_over, promised}

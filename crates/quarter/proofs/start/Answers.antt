@@ -1,5 +1,5 @@
 -- Of no bytes there is no sheet, closed or not; the rooms are as long as the paper's numbers ask. Assumes nothing.
-use native.Mathlib.Omega.{arith}
+use Rattle.basics.proofs.Common.{arith}
 use Rattle.quarter.proofs.SheetsSoFar.{at_start}
 use Rattle.quarter.proofs.start.Goals as goal
 

@@ -1,9 +1,5 @@
 -- Whenever the loop's test is reached, the chunk is taken up to a place, whichever bytes came before it; more than 60 sheets stay more. Assumes nothing.
-use mathlib.Core.Path.{◌≡◌}
-use Prim.Native.Nat.{◌+◌, ◌≤◌}
-use native.Mathlib.Omega.{arith}
-use lib.ListN.{length}
-use Rattle.basics.proofs.Stretches.{stretch_long}
+use Rattle.basics.proofs.Common.{◌≡◌, ◌+◌, ◌≤◌, length, arith, stretch_long}
 use Rattle.report_line.specs.Line.{line_bytes}
 use Rattle.quarter_text.specs.Printout.{columns}
 use Rattle.quarter.specs.Steps.{lines_long, longest_output}

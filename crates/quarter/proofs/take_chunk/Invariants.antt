@@ -1,5 +1,4 @@
-use Prim.Native.Nat.{◌-◌}
-use lib.ListN.{length}
+use Rattle.basics.proofs.Common.{◌-◌, length}
 use Rattle.quarter.proofs.Chunks.{ChunkSoFar}
 use Rattle.quarter.proofs.take_chunk.Given as goal
 

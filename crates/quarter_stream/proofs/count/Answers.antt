@@ -1,5 +1,5 @@
 -- Minus signs are counted up to 39; anything else is none of them, and stays so. Assumes nothing.
-use mathlib.Core.Path.{sym}
+use Rattle.basics.proofs.Common.{sym}
 use Rattle.quarter_stream.proofs.Room.{no_minus, minus_more, minus_past, other_counted}
 use Rattle.quarter_stream.proofs.count.Goals as goal
 

@@ -1,5 +1,5 @@
 -- The sheet's answer is its line, and a buffer more in the summary. Assumes nothing.
-use mathlib.Core.Path.{sym, ◌∙◌}
+use Rattle.basics.proofs.Common.{sym, ◌∙◌}
 use Rattle.report_line.proofs.LineBytes.{in_columns}
 use Rattle.quarter_text.specs.Printout.{columns}
 use Rattle.quarter_text.proofs.ClosedSheets.{accepted_line, accepted_fits, accepted_with, refused_line, refused_with}

@@ -1,5 +1,5 @@
 -- Whenever the loop's test is reached, the lines of the first i rows stand in front. Assumes nothing.
-use native.Mathlib.Omega.{arith}
+use Rattle.basics.proofs.Common.{arith}
 use Rattle.report.proofs.Tables.{no_row, next_row}
 use Rattle.report.proofs.write_blocks.Goals as goal
 

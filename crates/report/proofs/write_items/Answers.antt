@@ -1,6 +1,6 @@
 -- Whenever the loop's test is reached, the lines of the first k numbers stand in front. Assumes nothing.
 use Rattle.report.proofs.Items.{no_item, next_item}
-use borrow.Author.Rules.{rules}
+use Rattle.basics.proofs.Common.{rules}
 use Rattle.report.proofs.write_items.Goals as goal
 
 pub loop-k-init : goal.loop-k-init

@@ -1,9 +1,8 @@
 -- Moved up by a word and more, the lower word alone is left of a short number; moved up by less, the lower word's upper digits cross. Assumes
 -- nothing.
-use Prim.Native.Nat.{◌-◌, ◌*◌, ◌^◌, ◌<◌}
-use native.Mathlib.Omega.{arith}
+use Rattle.basics.proofs.Common.{◌-◌, ◌*◌, ◌^◌, ◌<◌, arith}
 use Rattle.wide.specs.Value.{value}
-use Rattle.root.proofs.Windows.{start_fits, far_moved, near_room, near_moved}
+use Rattle.root.proofs.Windows.{start_fits, near_room}
 use Rattle.root.proofs.aligned.Goals.{Start}
 use Rattle.root.proofs.aligned.Goals as goal
 
@@ -11,23 +10,9 @@ use Rattle.root.proofs.aligned.Goals as goal
 fits : (c : Start) → value c.args.n * 4 ^ (63 - c.args.count) < 2 ^ 128
 fits c = omega (arith, start_fits (value c.args.n) c.args.count (63 - c.args.count) c.requires.2 (omega (arith, c.requires.1)))
 
-pub returns-then-count-le31 : goal.returns-then-count-le31
-unfolding value
-returns-then-count-le31 c =
-    let n = c.args.n in
-    let bound = fits (goal.at.returns-then-count-le31 c).Start in
-    far_moved n.high n.low c.args.count _ (omega (arith, c.if-count-le31.true)) bound
-
 pub overflow_add-result : goal.overflow_add-result
 unfolding value
 overflow_add-result c =
     let n = c.args.n in
     let bound = fits (goal.at.overflow_add-result c).Start in
     record { fits = near_room n.high n.low c.args.count _ _ (omega (arith, c.requires.1)) (omega (arith, c.if-count-le31.false)) bound }
-
-pub returns-else-count-le31 : goal.returns-else-count-le31
-unfolding value
-returns-else-count-le31 c =
-    let n = c.args.n in
-    let bound = fits (goal.at.returns-else-count-le31 c).Start in
-    near_moved n.high n.low c.args.count _ _ (omega (arith, c.requires.1)) (omega (arith, c.if-count-le31.false)) bound

@@ -1,12 +1,9 @@
 -- Whatever radicand stands in the first window, after step j the held value is the root of its leading 2j digits (`After`). After
 -- the last step these are all its digits, and the root is rounded up by what is left. Assumes nothing.
-use mathlib.Core.Path.{◌≡◌, sym, ◌∙◌}
-use Prim.Native.Nat.{ℕ, ◌+◌, ◌*◌, ◌^◌, ◌≤◌, ◌<◌}
-use native.Mathlib.Omega.{arith}
+use Rattle.basics.proofs.Common.{◌≡◌, ℕ, ◌+◌, ◌*◌, ◌^◌, ◌<◌, ◌≤◌, sym, ◌∙◌, arith}
 use Rattle.wide.specs.Value.{value}
 use Rattle.root.specs.Steps.{steps, After, Aligned}
-use Rattle.root.proofs.Lengths.{has_digits}
-use Rattle.root.proofs.Roots.{few, small, window_small, at_start, root_small, exact_root, next_root, root_of_none}
+use Rattle.root.proofs.Roots.{small, window_small, at_start, root_small, exact_root, next_root, root_of_none}
 use Rattle.root.proofs.root_and_steps.Goals.{After-aligned-window, After-loop-j, At-loop-j, In-loop-j}
 use Rattle.root.proofs.root_and_steps.Goals as goal
 
@@ -15,12 +12,6 @@ returns-then-count-eq0 c =
     let e = c.count_steps-count.ensures in
     let z : steps (value c.args.n) ≡ 0 = omega (arith, c.if-count-eq0.true) in
     (root_of_none _ z, omega arith)
-
-pub aligned-window-requires : goal.aligned-window-requires
-aligned-window-requires c =
-    let n = value c.args.n in
-    let e = c.count_steps-count.ensures in
-    (omega (arith, c.if-count-eq0.false), omega (arith, few n c.requires), rw e (has_digits n).no_more)
 
 -- n stands two binary digits below the top of the first window
 aligned_at : (c : After-aligned-window) →
@@ -52,9 +43,6 @@ step-held-requires c =
     let n_fits = c.requires in
     let go = to_go ((goal.at.step-held-requires c).In-loop-j) in
     (small _ n_fits _ _ _ _ before, root_small _ n_fits _ _ _ _ go before, free _ _ (window_small _ n_fits _ _ _ _ before))
-
-pub loop-j-preserved : goal.loop-j-preserved
-loop-j-preserved c = λ n a. c.step-held.ensures n _ a.fits (omega (arith, a.count_is, c.loop-j-test.true)) (c.loop-j.invariant n a)
 
 -- no step is to go
 gone : (c : After-loop-j) → steps (value c.args.n) ≤ c.loop-j._j

@@ -1,4 +1,4 @@
-use Prim.Native.Nat.{ℕ}
+use Rattle.basics.proofs.Common.{ℕ}
 use Rattle.wide.specs.Value.{value}
 use Rattle.root.specs.Steps.{After, Aligned}
 use Rattle.root.proofs.root_and_steps.Given as goal

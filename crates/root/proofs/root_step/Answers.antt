@@ -1,5 +1,5 @@
 -- The digit is 0 or 1, as a number, and the law of one digit more says what it leaves. Assumes nothing.
-use native.Mathlib.Omega.{arith}
+use Rattle.basics.proofs.Common.{arith}
 use Rattle.root.proofs.Roots.{Digit, digit}
 use Rattle.root.proofs.root_step.Goals.{After-left_above-left}
 use Rattle.root.proofs.root_step.Goals as goal

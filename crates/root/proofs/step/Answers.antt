@@ -1,8 +1,5 @@
 -- The window's next two digits are brought down, and the law of one step says what is held then. Assumes nothing.
-use mathlib.Core.Path.{◌≡◌}
-use Prim.Native.Nat.{◌+◌, ◌*◌, ◌^◌, ◌<◌}
-use native.Mathlib.Omega.{arith}
-use lib.Arith.{digits_lt}
+use Rattle.basics.proofs.Common.{◌≡◌, ◌+◌, ◌*◌, ◌^◌, ◌<◌, arith, digits_lt}
 use Rattle.wide.specs.Value.{value}
 use Rattle.root.proofs.Roots.{step}
 use Rattle.root.proofs.step.Goals.{After-bring_down-moved}

@@ -1,7 +1,5 @@
 -- The block without the part is accepted, and K is the fifth of its figures. Assumes nothing.
-use mathlib.Core.Path.{◌≡◌, ap, subst, sym, ◌∙◌}
-use mathlib.Core.List.{List}
-use Prim.Native.Nat.{ℕ}
+use Rattle.basics.proofs.Common.{◌≡◌, ℕ, List, sym, ap, ◌∙◌, subst}
 use Rattle.guideline.specs.Block.{AcceptedBlock, K}
 use Rattle.figures.specs.Parts.{figures_are}
 use Rattle.shares.specs.Margins.{without, k_without}

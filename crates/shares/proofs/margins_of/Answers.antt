@@ -1,7 +1,5 @@
 -- Whenever the loop's test is reached, the first margins are found and none of them is negative. Assumes nothing.
-use mathlib.Core.Path.{refl}
-use Prim.Native.Nat.{◌+◌}
-use native.Mathlib.Omega.{arith}
+use Rattle.basics.proofs.Common.{◌+◌, refl, arith}
 use Rattle.shares.proofs.Margins.{sum_fits, found_start, found_negative, next_sum, found_more, found_all}
 use Rattle.shares.proofs.margins_of.Goals as goal
 

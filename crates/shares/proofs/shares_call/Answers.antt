@@ -1,6 +1,5 @@
 -- What rules 7, 8 and 9 refuse stays refused; what they leave goes on to rule 23. What the shares promise is a law of the outcome. Assumes nothing.
-use mathlib.Core.Path.{◌≡◌, ap, ◌∙◌}
-use Rattle.std.proofs.lemmas.Result.{err_from_is_err_and}
+use Rattle.basics.proofs.Common.{◌≡◌, ap, ◌∙◌, err_from_is_err_and}
 use Rattle.refusal.specs.Outcome.{stated_numbers}
 use Rattle.shares.specs.Call.{rule23, shares_call}
 use Rattle.shares.proofs.Rules.{refused_call, accepted_call}

@@ -1,6 +1,5 @@
 -- A negative margin, a sum of zero, or neither: then the shares. Assumes nothing.
-use mathlib.Core.Path.{◌≡◌, sym}
-use native.Mathlib.Omega.{arith}
+use Rattle.basics.proofs.Common.{◌≡◌, sym, arith}
 use Rattle.guideline.specs.Block.{K}
 use Rattle.figures.specs.Parts.{figures_are}
 use Rattle.shares.proofs.Rules.{some_negative, all_zero_lem, shareable, answered}

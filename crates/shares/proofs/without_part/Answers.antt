@@ -1,6 +1,5 @@
 -- The part is a risk or not, as the definition tests it. Assumes nothing.
-use mathlib.Core.Path.{sym}
-use Rattle.basics.proofs.Picks.{if_lt, if_ge}
+use Rattle.basics.proofs.Common.{sym, if_lt, if_ge}
 use Rattle.shares.specs.Margins.{without}
 use Rattle.shares.proofs.without_part.Goals as goal
 

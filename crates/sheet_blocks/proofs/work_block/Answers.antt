@@ -1,9 +1,5 @@
 -- A block that doesn't exist adds its dividend credit alone; the row of one that does goes behind those before it. Assumes nothing.
-use mathlib.Core.Path.{◌≡◌, sym, ap, ◌∙◌}
-use mathlib.Core.List.{List}
-use Prim.Native.Nat.{◌+◌, ◌*◌, ◌≤◌, ◌<◌}
-use native.Mathlib.Omega.{arith}
-use lib.ListN.{length}
+use Rattle.basics.proofs.Common.{◌≡◌, ◌+◌, ◌*◌, ◌<◌, ◌≤◌, List, length, sym, ap, ◌∙◌, arith, props}
 use Rattle.amount.specs.Amount.{limit}
 use Rattle.sizes.specs.Sizes.{blocks}
 use Rattle.guideline.specs.Block.{K, figures_of}
@@ -13,7 +9,6 @@ use Rattle.places.specs.Entries.{exists}
 use Rattle.ledger.specs.Numbers.{dividend_credit}
 use Rattle.credits.specs.Credits.{after_credit}
 use Rattle.ledger.specs.Lines.{Holds}
-use Rattle.std.proofs.Props.{props}
 use Rattle.ledger.proofs.Tables.{of_lines, exists_is}
 use Rattle.sheet_blocks.proofs.WorkedBlocks.{absent, present, fits, dividends_fit}
 use Rattle.sheet_blocks.proofs.work_block.Goals.{After-block_exists, After-figures_of-figures, Start}
@@ -37,18 +32,18 @@ existence : (c : After-block_exists) (es : List Entry) →
     Lines (goal.at.After-block_exists c).Start es → c.block_exists.result ≡ exists es c.args.block
 existence c es H = c.block_exists.ensures ∙ exists_is H _ c.requires.block_number.0 c.requires.block_number.1
 
-pub joined-requires : goal.joined-requires
-joined-requires c =
+pub joined_totals-requires : goal.joined_totals-requires
+joined_totals-requires c =
     of_lines c.args.credited.now.ledger.now (hlevel props)
-    (λ es H. omega (arith, room (goal.at.joined-requires c).Start es H, c.dividend_credit-dividend.ensures es H))
+    (λ es H. omega (arith, room (goal.at.joined_totals-requires c).Start es H, c.dividend_credit.ensures es H))
 
 pub returns-then-not-block_exists-clause-worked_out : goal.returns-then-not-block_exists-clause-worked_out
 returns-then-not-block_exists-clause-worked_out c es H =
     let block_exists = (goal.at.returns-then-not-block_exists-clause-worked_out c).After-block_exists in
     let s = c.requires in
-    rw c.joined.ensures
+    rw c.joined_totals.ensures
     (absent es s.block_number.0 (s.worked_before es H) (sym (existence block_exists es H) ∙ c.if-not-block_exists.true) _ _
-    (c.dividend_credit-dividend.ensures es H) (c.has_dividend.ensures es H))
+    (c.dividend_credit.ensures es H) (c.has_dividend.ensures es H))
 
 -- the block's numbers are those of the lines, and so are its figures
 figured : (c : After-figures_of-figures) →
@@ -59,10 +54,10 @@ figured c es H =
     let f = c.figures_of-figures.ensures ∙ ap figures_of (c.numbers_after_credit-numbers.ensures es H) in
     (f, (figures_are _ _ f).4)
 
-pub joined-requires-2 : goal.joined-requires-2
-joined-requires-2 c =
-    let start = (goal.at.joined-requires-2 c).Start in
-    let figures_of_figures = (goal.at.joined-requires-2 c).After-figures_of-figures in
+pub joined_totals-requires-2 : goal.joined_totals-requires-2
+joined_totals-requires-2 c =
+    let start = (goal.at.joined_totals-requires-2 c).Start in
+    let figures_of_figures = (goal.at.joined_totals-requires-2 c).After-figures_of-figures in
     of_lines c.args.credited.now.ledger.now (hlevel props)
     (λ es H. omega (arith, room start es H, (figured figures_of_figures es H).1, c.dividend_credit-dividend.ensures es H))
 
@@ -71,7 +66,7 @@ returns-clause-worked_out c es H =
     let start = (goal.at.returns-clause-worked_out c).Start in
     let block_exists = (goal.at.returns-clause-worked_out c).After-block_exists in
     let fits : c.args.w.count < length c.args.rows.now = omega (arith, (room start es H).0, c.told-rows) in
-    rw (c.joined-2.ensures, c.word.ensures)
+    rw (c.joined_totals-2.ensures, c.word.ensures)
     (present es c.requires.block_number.0 (c.requires.worked_before es H) fits
     (sym (existence block_exists es H) ∙ c.if-not-block_exists.false) _ _
     (figured (goal.at.returns-clause-worked_out c).After-figures_of-figures es H).0 (c.dividend_credit-dividend.ensures es H))

@@ -1,5 +1,5 @@
 -- Whenever the loop's test is reached, the first i blocks are worked out, and behind their rows the table is as it was. Assumes nothing.
-use mathlib.Core.Path.{refl, ◌∙◌}
+use Rattle.basics.proofs.Common.{refl, ◌∙◌}
 use Rattle.sheet_blocks.proofs.WorkedBlocks.{no_block, kept_further}
 use Rattle.sheet_blocks.proofs.work_out.Goals as goal
 

@@ -1,5 +1,5 @@
 -- With room for the longest report, what is printed is what the judgement has to say. Assumes nothing.
-use native.Mathlib.Omega.{arith}
+use Rattle.basics.proofs.Common.{arith}
 use Rattle.sheet_answer.proofs.Judgements.{printed_text}
 use Rattle.sheet_call.proofs.Rules.{never_longer}
 use Rattle.sheet_call.proofs.print_sheet.Goals as goal

@@ -1,7 +1,6 @@
 -- Whenever the loop's test is reached, the ledger holds the entries of the i lines before, last is the key of the last one, and what is left to
 -- read gives what all lines give. Assumes nothing.
-use mathlib.Core.Path.{◌≡◌, ap, ◌∙◌}
-use native.Mathlib.Omega.{arith}
+use Rattle.std.proofs.Common.{◌≡◌, ap, ◌∙◌, arith}
 use Rattle.layout.specs.Whole.{line_at}
 use Rattle.layout.proofs.WholeLines.{count_lines, within, line_is}
 use Rattle.sheet_line.specs.Rules.{parse_line}

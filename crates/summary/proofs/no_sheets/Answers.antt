@@ -1,5 +1,5 @@
 -- With no sheet all are zeros. Assumes nothing.
-use mathlib.Core.Path.{refl}
+use Rattle.basics.proofs.Common.{refl}
 use Rattle.summary.specs.Summaries.{summary_of}
 use Rattle.summary.proofs.no_sheets.Goals as goal
 

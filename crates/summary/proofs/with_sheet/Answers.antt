@@ -1,5 +1,5 @@
 -- The first sheet is all that there is; any other is compared with the smallest and the largest so far. Assumes nothing.
-use mathlib.Core.Path.{◌∙◌}
+use Rattle.basics.proofs.Common.{◌∙◌}
 use Rattle.std.proofs.lemmas.List.Sorted.{answers_always}
 use Rattle.summary.proofs.Extremes.{smaller_is, larger_is}
 use Rattle.summary.proofs.Summaries.{summary_first, summary_more}

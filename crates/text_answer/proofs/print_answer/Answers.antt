@@ -1,11 +1,5 @@
 -- The line of a refusal goes in front of the room. Assumes nothing.
-use borrow.Rule.Slice.PartMut.{put_mid}
-use mathlib.Core.Path.{◌≡◌, refl, sym}
-use mathlib.Core.List.{List}
-use Prim.Native.Nat.{ℕ, ◌-◌, ◌≤◌}
-use lib.ListN.{length, take}
-use lib.Seq.{length-take-le}
-use Rattle.std.specs.Prelude.{Result, Err}
+use Rattle.basics.proofs.Common.{◌≡◌, ℕ, ◌-◌, ◌≤◌, List, length, take, Err, Result, sym, refl, length-take-le, put_mid}
 use Rattle.refusal.specs.Outcome.{rule_number}
 use Rattle.refusal.specs.declared.Refusal.{Refusal}
 use Rattle.sizes.specs.Sizes.{number_columns}

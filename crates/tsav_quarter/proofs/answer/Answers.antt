@@ -1,10 +1,7 @@
 -- What is written is what `finish` left in front, the text of the bytes that were taken, and its demand is of them. Assumes nothing.
-use Rattle.std.proofs.Common.{List, ℕ, take, drop, subst, sym, ap, ◌∙◌}
-use lib.Seq.{take_at}
-use Rattle.std.specs.Prelude.{Option, None, Some, Result, Ok, Err, OnOk, IfErr, ◌≡◌}
+use Rattle.std.proofs.Common.{◌≡◌, ℕ, List, take, drop, IfErr, OnOk, Some, None, Ok, Err, Option, Result, sym, ap, ◌∙◌, subst, take_at}
 use Rattle.std.specs.Io.KnownBytes.{Appends}
-use Rattle.stdio.specs.declared.Failure.{Failure}
-use Rattle.stdio.specs.declared.Failure.TheVariants.{Unread, Unwritten}
+use Rattle.stdio.specs.declared.Failure.{Failure, TheVariants.Unread, TheVariants.Unwritten}
 use Rattle.quarter.specs.declared.Quarter.{Quarter}
 use Rattle.quarter.specs.Steps.{After, Finished}
 use Rattle.quarter_text.specs.Printout.{quarter_text}
@@ -32,4 +29,4 @@ prints left before after (Err Unread) room out out' q n taken finished written u
 prints left before after (Err Unwritten) room out out' q n taken finished written u' = tt
 
 pub returns : goal.returns
-returns g c = prints _ _ _ _ _ _ _ _ _ c.in_ok-q.ensures c.finish-n.ensures c.put.ensures.written c.put.ensures.unwritten
+returns g c = prints _ _ _ _ _ _ _ _ _ c.in_ok-q.ensures c.finish-n.ensures c.write_front.ensures.written c.write_front.ensures.unwritten

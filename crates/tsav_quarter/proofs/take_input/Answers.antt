@@ -1,7 +1,6 @@
 -- What is known is that of no bytes at first, and of a chunk's bytes more once it is taken; at the end of the input these are all of its bytes, and after
 -- too many sheets the bytes that follow change nothing. Assumes nothing.
-use Rattle.std.proofs.Common.{◌≡◌, ℕ, List, [], ◌++◌, refl, sym, ap, ◌∙◌, subst, append-nil, rules, arith}
-use Rattle.std.specs.Prelude.{Option, None, Some, Ok, IsNone}
+use Rattle.std.proofs.Common.{◌≡◌, ℕ, List, [], ◌++◌, IsNone, Some, None, Ok, Option, sym, refl, ap, ◌∙◌, subst, append-nil, arith, rules}
 use Rattle.std.specs.Io.KnownBytes.{Consumes, IsAtEnd}
 use Rattle.std.proofs.KnownBytes.{Consumes-nil, Consumes-trans}
 use Rattle.quarter.specs.declared.Quarter.{Quarter}

@@ -1,5 +1,5 @@
 -- A participating block has no credit; another's is at its place. Assumes nothing.
-use mathlib.Core.Path.{sym}
+use Rattle.basics.proofs.Common.{sym}
 use Rattle.credits.proofs.Credits.{participating_none}
 use Rattle.credits.proofs.CreditedLedger.credit_of.Goals as goal
 

@@ -1,12 +1,10 @@
 -- The block's numbers are those of the lines, and so is the credit that lowers them, which rule 16 lets pass. Assumes nothing.
-use mathlib.Core.Path.{◌≡◌, ◌∙◌}
-use mathlib.Core.List.{List}
+use Rattle.basics.proofs.Common.{◌≡◌, List, ◌∙◌, props}
 use Rattle.mortality.specs.Credit.{lowered}
 use Rattle.sheet_line.specs.declared.Entry.{Entry}
 use Rattle.ledger.specs.Numbers.{block_of}
 use Rattle.credits.specs.Credits.{credit_of, after_credit}
 use Rattle.ledger.specs.Lines.{Holds}
-use Rattle.std.proofs.Props.{props}
 use Rattle.ledger.proofs.Tables.{of_lines, numbers_are}
 use Rattle.credits.proofs.Acceptance.{entered_accepted, block_accepted}
 use Rattle.credits.proofs.CreditedLedger.numbers_after_credit.Goals.{After-credit_of, After-lowered}

@@ -1,7 +1,6 @@
 -- The tables of an admitted line hold it before those that they held; those of a line that isn't admitted are as they were. Assumes nothing.
 use Rattle.std.proofs.Math.Logic.{∥∥₁_map}
-use mathlib.Core.List.{◌∷◌}
-use native.Mathlib.Omega.{arith}
+use Rattle.basics.proofs.Common.{◌∷◌, arith}
 use Rattle.ledger.proofs.Tables.{admitted_sound, more_held, more_first, same_held}
 use Rattle.ledger.proofs.Ledger.admit.Goals as goal
 

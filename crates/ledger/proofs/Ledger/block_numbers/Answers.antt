@@ -1,8 +1,6 @@
 -- Whenever the loop's test is reached, the first i pairs are those of the block's RSK lines; after it the three other amounts follow. Assumes nothing.
-use mathlib.Core.Path.{refl}
-use native.Mathlib.Omega.{arith}
+use Rattle.basics.proofs.Common.{refl, arith, rules}
 use Rattle.ledger.proofs.Numbers.{no_pair, next_pair, block_written}
-use borrow.Author.Rules.{rules}
 use Rattle.ledger.proofs.Ledger.block_numbers.Goals as goal
 
 pub loop-i-preserved : goal.loop-i-preserved

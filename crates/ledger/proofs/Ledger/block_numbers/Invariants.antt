@@ -1,4 +1,4 @@
-use Prim.Native.Nat.{◌+◌}
+use Rattle.basics.proofs.Common.{◌+◌}
 use Rattle.codes.specs.declared.Code.TheVariants.{Rsk}
 use Rattle.places.specs.Places.{tabled}
 use Rattle.ledger.proofs.Numbers.{Copied}

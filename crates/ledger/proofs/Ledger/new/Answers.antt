@@ -1,5 +1,5 @@
 -- Tables of zeros hold no line. Assumes nothing.
-use mathlib.Core.List.{[]}
+use Rattle.basics.proofs.Common.{[]}
 use Rattle.ledger.proofs.Tables.{none_held}
 use Rattle.ledger.proofs.Ledger.new.Goals as goal
 

@@ -1,8 +1,5 @@
 -- The component within the limit, the block is accepted with it. Assumes nothing.
-use mathlib.Core.Path.{◌≡◌, sym, subst, ◌∙◌}
-use Prim.Native.Nat.{suc, ◌+◌, ◌*◌}
-use native.Mathlib.Omega.{arith}
-use lib.ListN.{get_or, set}
+use Rattle.basics.proofs.Common.{◌≡◌, suc, ◌+◌, ◌*◌, get_or, set, sym, ◌∙◌, subst, arith}
 use Rattle.guideline.specs.Block.{AcceptedBlock}
 use Rattle.sensitivity.specs.Movement.{raised}
 use Rattle.sensitivity.proofs.Movement.{raised_accepted}

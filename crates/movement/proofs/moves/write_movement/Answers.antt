@@ -1,6 +1,5 @@
 -- The raise passes the limit, or the raised block is accepted and its K is told beside k. Assumes nothing.
-use mathlib.Core.Path.{ap, ◌∙◌}
-use native.Mathlib.Omega.{arith}
+use Rattle.basics.proofs.Common.{ap, ◌∙◌, arith}
 use Rattle.sizes.specs.Sizes.{number_columns}
 use Rattle.guideline.specs.Block.{K}
 use Rattle.figures.specs.Parts.{figures_are}

@@ -1,6 +1,6 @@
 -- Whenever the loop's test is reached, the lines of the first i risks stand in front. Assumes nothing.
 use Rattle.movement.proofs.Lines.{no_line, next_line, all_lines}
-use borrow.Author.Rules.{rules}
+use Rattle.basics.proofs.Common.{rules}
 use Rattle.movement.proofs.moves.write_movements.Goals as goal
 
 pub loop-i-init : goal.loop-i-init

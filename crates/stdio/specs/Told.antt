@@ -1,9 +1,0 @@
--- What tells a failure. Assumes nothing.
-use Rattle.std.specs.Prelude.{List, ℕ}
-use Rattle.stdio.specs.declared.Failure.{Failure}
-use Rattle.stdio.specs.declared.Failure.TheVariants.{Unread, Unwritten}
-
--- of two sentences, that of an input that could not be read, and that of an answer that could not be written
-abbrev pub told : Failure → List ℕ → List ℕ → List ℕ
-told Unread unread unwritten = unread
-told Unwritten unread unwritten = unwritten
