@@ -74,6 +74,9 @@ LAYOUTS = [
     ("a space too few", 2, "RSK 1  2         300000         300000", "too-short", 5, SECOND),
     ("single spaces", 2, "RSK 1 2 300000 300000", "not-right-justified", 5, SECOND),
     ("no second amount", 8, "OTH  1  1        2500000", "too-short", 25, EIGHTH),
+    ("no second amount, 39 characters", 8, "OTH  1  1        2500000".ljust(39), "missing-number", 25, EIGHTH),
+    ("no second amount, 38 characters", 8, "OTH  1  1        2500000".ljust(38), "too-short", 25, EIGHTH),
+    ("no second amount, 41 characters", 8, "OTH  1  1        2500000".ljust(41), "missing-number", 25, EIGHTH),
     ("a remark behind", 8, "OTH  1  1        2500000              0 of the subsidiaries", "too-long", 41, None),
     ("code moved", 2, " RSK  1  2         300000        300000", "not-in-column-1", 2, SECOND),
     ("code and block joined", 2, "RSK1  2         300000         300000", "too-short", 4, SECOND),
@@ -206,6 +209,38 @@ class Lines(Explain):
             self.assertEqual(bool(fault["advice"]), bool(said))
             for part in said:
                 self.assertIn(part, fault["advice"])
+
+    def test_finer_than_a_cent(self):
+        """Nothing is cut: only readings that are whole cents are said, and otherwise that it is to be rounded."""
+        finer = "is finer than a cent: round it", "plus fin qu'un cent"
+        grouped = "its digits aren't grouped by three", "ne sont pas group\u00e9s par trois"
+        for text, cause, ways, why in (
+            ("1,005", "thousands-separator", [1005, 100500], finer),
+            ("2,345", "thousands-separator", [2345, 234500], finer),
+            ("2.345", "thousands-separator", [2345, 234500], finer),
+            ("1000.505", "thousands-separator", [1000505, 100050500], finer),
+            ("1,000", "thousands-separator", [100, 1000, 100000], None),
+            ("0.125", "decimal-sign", [], finer),
+            ("0,125", "decimal-sign", [], finer),
+            ("12.3456", "decimal-sign", [], finer),
+            ("1234,5678", "decimal-sign", [], finer),
+            ("1,000.005", "thousands-separator", [], finer),
+            ("1,00,000", "thousands-separator", [], grouped),
+            ("1.00.000,00", "thousands-separator", [], grouped),
+            ("1000 000", "thousands-separator", [], grouped),
+        ):
+            with self.subTest(text):
+                given = changed(8, f"OTH  1  1 {text:>14}              0")
+                fault = self.one(self.explained(given))
+                self.assertEqual((fault["cause"], fault["instead"]), (cause, None))
+                self.assertEqual([int(way) for way in re.findall(r"(\d+) is \$", fault["advice"])], ways)
+                for at, language in enumerate(LANGUAGES):
+                    out = run("explain", "--lang", language, given=given).out
+                    self.assertEqual([said[at] in out for said in (finer, grouped)], [why is finer, why is grouped])
+        # What is exact with more decimals is whole cents.
+        for text, cents in (("0.120", 12), ("12.3400", 1234), ("1,000.500", 100050), ("1 000\u00a0000", 1000000), ("1'000\u2019000", 1000000)):
+            fault = self.one(self.explained(changed(8, f"OTH  1  1 {text:>14}              0")))
+            self.assertEqual(fault["instead"], line("OTH", 1, 1, cents))
 
     def test_one_unit_in_a_line(self):
         """An amount beside one in dollars is read as dollars too, and what it is in cents is said."""
@@ -387,6 +422,26 @@ class Lines(Explain):
         faults = self.explained(sheet(*many, mixed))["faults"]
         self.assertEqual({fault["cause"] for fault in faults}, {"letters"})
 
+    def test_thousands_to_mend(self):
+        """What the converter refuses as it stands isn't said to be converted, and a line for which nothing was proposed isn't set right."""
+        small = THOUSANDS.decode().splitlines()
+        once = "Once it is mended, ", "Une fois corrig\u00e9e, "
+        right = "As it is set right above:", "Comme elle est corrig\u00e9e ci-dessus"
+        for text, proposed in (("rsk  1  1         1000.5              7", False), ("rsk  1  1       1000,500              7", False), (small[0] + " ", True)):
+            given = sheet(text, *small[1:])
+            self.assertIsNotNone(finder.refused(tsav.convert, given))
+            self.assertEqual(self.explained(given)["faults"][1]["cause"], "thousands-of-dollars")
+            for at, language in enumerate(LANGUAGES):
+                out = run("explain", "--lang", language, given=given).out
+                self.assertIn(once[at], out.splitlines()[2])
+                self.assertEqual((out.count("tsav-convert"), right[at] in out), (1, proposed))
+                for arguments in (("warn", "-"), ("export", "-", "-o", "/nowhere/rows.csv")):
+                    self.assertIn(once[at], run("--lang", language, *arguments, given=given).out)
+                told = run("--lang", language, "explain", "--json", given=given).out
+                self.assertIn(once[at], json.loads(told)["faults"][1]["advice"])
+        for at, language in enumerate(LANGUAGES):
+            self.assertNotIn(once[at], run("explain", "--lang", language, given=THOUSANDS).out)
+
     def test_the_converter_is_named_once(self):
         """Above the faults with the file, otherwise in what is to be done: of a sheet of a quarter, in JSON, and beside another command."""
         closed = THOUSANDS + CLOSING
@@ -476,7 +531,8 @@ class Totals(Explain):
             ("13, any line", both, 1, line("OTH", 1, 1, 7, 7), [8], [(13, [1])]),
             ("13, not the scalar's", both, 2, line("GEN", 0, 4, 0), [10, 13], []),
             ("12, its own line", both, 2, "GEN  0  6          10000              0", [6], [(12, [2]), (13, [2])]),
-            ("12, a line without a code", both, 2, "0 4 10000 0", [3], [(12, [2]), (16, [2]), (17, [2]), (13, [2])]),
+            ("12, a line without a code", both, 2, "0 4 10000 0", [3], [(12, [2]), (13, [2])]),
+            ("16 and 17 have no line", both, 1, "RSX  1  1              7              0", [4], [(13, [1])]),
             ("12, a title", both, 2, "Scalar of this year", [3, 12, 13], []),
             ("12, another line", both[:1] + both[2:], 1, line("OTH", 1, 1, 7, 7), [8, 12], [(13, [1])]),
         ):
@@ -543,6 +599,7 @@ class Others(Explain):
             ("the last not closed", EXAMPLE + CLOSING + EXAMPLE, [(3, "closing-line", 14)]),
             ("a fault before", changed(2, SECOND[:-1]) + CLOSING + EXAMPLE, [(3, "too-short", 2), (3, "closing-line", 14)]),
             ("long dashes", EXAMPLE + ("\u2014" * 39 + "\n").encode() + EXAMPLE, [(3, "closing-line", 14)]),
+            ("spaces behind", (EXAMPLE + CLOSING[:-1] + b"  \n") * 2, [(3, "trailing-spaces", 14)]),
             ("long", (EXAMPLE + CLOSING) * 46, [(1, "too-long-sheet", None)]),
         ):
             with self.subTest(name):
@@ -601,6 +658,8 @@ class Others(Explain):
             ("a sheet without one", EXAMPLE[:-1] + CLOSING, 1, 13, "no-line-feed", 40),
             ("a carriage return", EXAMPLE + dashes.encode() + b"\r", 1, 14, "carriage-return", 40),
             ("carriage returns", (EXAMPLE + CLOSING).replace(b"\n", b"\r\n") * 2, 2, 14, "carriage-return", 40),
+            ("a space behind", EXAMPLE + CLOSING[:-1] + b" \n", 1, 14, "trailing-spaces", 40),
+            ("spaces behind, no line feed", EXAMPLE + CLOSING[:-1] + b"  ", 1, 14, "trailing-spaces", 40),
             ("UTF-16", (EXAMPLE + CLOSING).decode().encode("utf-16"), 1, 1, "utf-16", 1),
         ):
             with self.subTest(name):
@@ -609,6 +668,35 @@ class Others(Explain):
                 self.assertEqual((answer["refusal"], fault["refusal"], fault["line"]), (25, 25, place))
                 self.assertEqual((fault["cause"], fault["marks"][0]["column"]), (cause, column))
                 self.assertEqual([part["refusal"] for part in answer["sheets"]], [None] * count)
+
+    def test_quarter_with_returns(self):
+        """They are told once, of all lines, with the command that takes them out."""
+        given = (EXAMPLE + CLOSING) * 2
+        returned = given.replace(b"\n", b"\r\n")
+        fault = self.one(self.explained(returned, "--quarter"))
+        self.assertIn("28 lines of 28", fault["marks"][0]["found"])
+        self.assertIn("tr -d '\\r' < FILE", fault["advice"])
+        self.assertEqual(len(self.explained(returned.replace(b"\r", b""), "--quarter", status=0)["sheets"]), 2)
+        for language, said in zip(LANGUAGES, ("28 lines of 28", "28 lignes sur 28")):
+            out = run("explain", "--lang", language, "--quarter", given=returned).out
+            self.assertEqual((out.count(said), out.count("tr -d '\\r'")), (1, 1))
+        # One closing line of two.
+        fault = self.one(self.explained(given[:-1] + b"\r\n", "--quarter"))
+        self.assertEqual((fault["line"], fault["cause"]), (28, "carriage-return"))
+        self.assertIn("1 line of 28", fault["marks"][0]["found"])
+
+    def test_quarter_with_spaces_behind_a_closing_line(self):
+        closing = CLOSING[:-1] + b" \n"
+        answer = self.explained(EXAMPLE + closing + EXAMPLE + CLOSING, "--quarter")
+        fault = self.one(answer["sheets"][0])
+        self.assertEqual((fault["refusal"], fault["line"], fault["cause"], fault["marks"][0]["column"]), (3, 14, "trailing-spaces", 40))
+        self.assertIn("Each sheet is closed by", fault["advice"])
+        given = (EXAMPLE + closing) * 2
+        for language, said in zip(LANGUAGES, ("1 space after the closing line", "1 espace apr\u00e8s la ligne qui ferme")):
+            self.assertEqual(run("explain", "--lang", language, "--quarter", given=given).out.count(said), 2)
+        # 40 minus signs with a space behind are no closing line with a space.
+        fault = self.explained(EXAMPLE + b"-" + closing + EXAMPLE)["faults"][0]
+        self.assertEqual((fault["cause"], fault["marks"][0]["found"]), ("closing-line", "40 minus signs"))
 
     def test_quarter_too_many(self):
         for extra, place in ((b"\n", 841), (EXAMPLE, 841), (EXAMPLE + CLOSING, 841)):

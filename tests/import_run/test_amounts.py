@@ -84,13 +84,13 @@ class Amounts(unittest.TestCase):
             self.assertEqual(amounts.cents(amounts.number(cents / 100)), cents)
 
     def test_scalar(self):
-        for text, found in {"1": 10000, "1.05": 10500, "1,05": 10500, " 0.95 ": 9500, "1,050": 10500, "0.0001": 1, "2.0000": 20000, "10000": 10**8}.items():
+        for text, found in {"1": 10000, "1.05": 10500, "1,05": 10500, " 0.95 ": 9500, "1,050": 10500, "0.0001": 1, "2.0000": 20000, "1.05000": 10500, "1,0500000": 10500, "10000": 10**8}.items():
             with self.subTest(text=text):
                 self.assertEqual(amounts.ten_thousandths(text), found)
         for value, found in ((1, 10000), (1.05, 10500), (0.0001, 1), (10000, 10**8)):
             with self.subTest(value=value):
                 self.assertEqual(amounts.ten_thousandths(amounts.number(value)), found)
-        self.refused(amounts.ten_thousandths, ["1.00001", "0,00005", "1.05000", amounts.number(1.00001)], "finer than 0.0001")
+        self.refused(amounts.ten_thousandths, ["1.00001", "0,00005", "1.05001", amounts.number(1.00001)], "finer than 0.0001")
         self.refused(amounts.ten_thousandths, ["", "1 000", "$1", "105 %", "1,000.5", "1.0.5", "x", "9" * 10, amounts.number(1e300)], "the scalar is")
         self.refused(amounts.ten_thousandths, ["-1", amounts.number(-1)], "below zero")
         self.refused(amounts.ten_thousandths, ["01", "00.5"], "begins with a zero")

@@ -61,9 +61,9 @@ def ten_thousandths(value) -> int:
     if not plain or len(plain[1]) > _SCALAR_DIGITS:
         raise Unreadable(other)
     whole, decimals = _no_leading_zero(plain[1]), plain[2] or ""
-    if len(decimals) > 4:
+    if decimals[4:].strip("0"):
         raise Unreadable(finer)
-    return int(whole) * 10_000 + int(decimals.ljust(4, "0"))
+    return int(whole) * 10_000 + int(decimals[:4].ljust(4, "0"))
 
 
 def decimal_sign() -> str:

@@ -6,7 +6,7 @@ import argparse
 from typing import Optional
 
 import tsav
-from tsav.command import files, kinds, lines, money, movements, quarters, refusals, telling
+from tsav.command import files, kinds, layout, lines, money, movements, quarters, refusals, telling
 from tsav.command.answer import DONE, REFUSED, Answer
 from tsav.command.compared import figures
 from tsav.command.finder import Finder
@@ -81,9 +81,9 @@ def _refused(said: str, name: str, finder: Finder, value: dict, kind: Optional[s
     head = said.format(file=visible(files.shown(name)), refusal=telling.refusal_place(finder.first), faults=telling.count_of(finder.faults))
     told, faults = kinds.told(kind, name), finder.faults
     heads = [head + "\n"] + ([told + "\n"] if told else [])
-    if kind == kinds.THOUSANDS:
-        again = _(lines.CONVERT_FIRST) + " "
-        faults = [fault._replace(advice=fault.advice.removeprefix(again)) for fault in faults]
+    if kind in (kinds.THOUSANDS, kinds.TO_MEND):
+        for again in (lines.CONVERT_FIRST, lines.MEND_FIRST):
+            faults = [fault._replace(advice=fault.advice.removeprefix(_(again) + " ")) for fault in faults]
     if kind == kinds.QUARTER:
-        faults = [fault._replace(advice="") if fault.cause == "closing-line" else fault for fault in faults]
+        faults = [fault._replace(advice="") if fault.advice == _(layout.TAKE_OUT) else fault for fault in faults]
     return Answer(REFUSED, "\n".join([*heads, *telling.paragraphs(faults, finder.not_tested)]), value)

@@ -63,6 +63,7 @@ def _only_a_sheet(name: str) -> None:
 _SHEETS = {
     kinds.SHEET: N_("it is a sheet already, in fixed columns; tsav explain says what the sheet call says of it, and tsav export makes rows of it"),
     kinds.THOUSANDS: N_("it is a sheet already, in thousands of dollars; tsav-convert makes one in cents of it"),
+    kinds.TO_MEND: N_("it is a sheet already, in thousands of dollars; once it is mended, tsav-convert makes one in cents of it"),
     kinds.QUARTER: N_("it is the file of a quarter, which has sheets already; tsav report --quarter makes a page of them"),
 }
 

@@ -5,12 +5,15 @@ import shlex
 from collections import Counter
 from typing import Optional
 
+import tsav
 from tsav.command import columns, files, layout, workbook
 from tsav.command.messages import N_, _
 from tsav.command.visible import decoded, visible
 from tsav.command.whole import narrow
 
 WORKBOOK, ROWS, THOUSANDS, QUARTER, SHEET = "workbook", "rows", "thousands", "quarter", "sheet"
+# One in thousands that the converter refuses.
+TO_MEND = "thousands-to-mend"
 
 # A code and what text is split at; a tab may have been put between the columns of a sheet too.
 _SPLIT = re.compile(r'"?([A-Za-z]{3})"?\s*[,;|]')
@@ -22,6 +25,7 @@ _SAID = {
     WORKBOOK: N_("It is a workbook. If its amounts are in dollars, this makes a sheet of it: {command}"),
     ROWS: N_("It is a file of rows (CSV). If its amounts are in dollars, this makes a sheet of it: {command}"),
     THOUSANDS: N_("It is a sheet in thousands of dollars. This makes one in cents of it: {command}"),
+    TO_MEND: N_("It is a sheet in thousands of dollars. Once it is mended, this makes one in cents of it: {command}"),
     QUARTER: N_(
         "It is the file of a quarter, sheets that are each closed by 39 minus signs, and one sheet is read here. "
         "This makes a page of all of them: {command}; and tsav explain --quarter says what is refused of them."
@@ -31,6 +35,7 @@ _COMMANDS = {
     WORKBOOK: "tsav import {file} -o {sheet}",
     ROWS: "tsav import {file} -o {sheet}",
     THOUSANDS: "tsav-convert {file} -o {sheet}",
+    TO_MEND: "tsav-convert {file} -o {sheet}",
     QUARTER: "tsav report --quarter {file} -o page.html",
 }
 
@@ -48,7 +53,17 @@ def of(data: bytes) -> Optional[str]:
     if any(map(layout.closes, lines)) and any(line[: columns.CODE].upper() in columns.CODES for line in lines):
         return QUARTER
     # With one code that isn't in small letters it is none in thousands.
-    return SHEET if SHEET in map(_line, lines) else kind
+    kind = SHEET if SHEET in map(_line, lines) else kind
+    return TO_MEND if kind == THOUSANDS and not _converted(data) else kind
+
+
+def _converted(data: bytes) -> bool:
+    """Whether the converter takes it as it stands."""
+    try:
+        tsav.convert(data)
+    except tsav.Refused:
+        return False
+    return True
 
 
 def _line(line: str) -> Optional[str]:

@@ -24,6 +24,8 @@ CLOSING = "-" * 39
 _WORD = re.compile(f"[^{BLANKS}]+")
 _NUMERIC = re.compile(r"[^\d\s]{0,2}\d[\d.,'\u2019_]*[^\d\s]{0,2}(\d*)")
 _CSV = re.compile(r"\s*[A-Za-z]{3}\s*([;,|])\s*\d")
+# Digits by three, as tsav import reads them: apart by one sign, the same throughout, with another one before the decimals.
+_BY_THREE = re.compile(r"\d{1,3}([ '_.,])\d{3}(?:\1\d{3})*(?:(?!\1)[.,]\d*)?")
 _FIELDS = (columns.BLOCK, columns.CLASS, columns.FIRST, columns.SECOND)
 
 # The names that `--json` has for the causes, with what people call them.
@@ -47,6 +49,7 @@ NAMES = {
     "not-in-column-1": N_("the code isn't in column 1"),
     "no-break-space": N_("a space that is no plain space"),
     "too-short": N_("the line is too short"),
+    "missing-number": N_("a number is missing"),
     "too-long": N_("the line is too long"),
     "trailing-spaces": N_("trailing spaces"),
     "title-line": N_("a title line"),
@@ -57,6 +60,9 @@ NAMES = {
     "wide-letter": N_("a letter of more than one byte"),
     "no-line-feed": N_("no line feed at the end"),
 }
+
+# Said of a closing line.
+TAKE_OUT = N_("Take the line out of a sheet; a quarter is explained by tsav explain --quarter.")
 
 # Those of lines that say nothing of any code, block and class.
 WITHOUT_A_LINE = ("title-line", "no-code", "closing-line", "empty-line")
@@ -151,13 +157,18 @@ def _no_figures(text: str, without: str, words: list) -> Optional[Reading]:
             else _("an empty line")
         )
         return _aside("empty-line", 1, found, _("lines of figures alone"), _("Take the line out."))
-    if len(text) > 9 and set(text) <= set(DASHES):
+    dashes = text.rstrip(" ")
+    if text != dashes == CLOSING:
+        spaces = len(text) - len(dashes)
+        found = ngettext("{count} space after the closing line", "{count} spaces after the closing line", spaces).format(count=spaces)
+        return _aside("trailing-spaces", columns.LENGTH, found, _("a line feed in column {column}").format(column=columns.LENGTH), _(TAKE_OUT))
+    if len(dashes) > 9 and set(dashes) <= set(DASHES):
         return _aside(
             "closing-line",
             1,
-            ngettext("{count} minus sign", "{count} minus signs", len(text)).format(count=len(text)),
+            ngettext("{count} minus sign", "{count} minus signs", len(dashes)).format(count=len(dashes)),
             _("39 minus signs where a sheet of a quarter ends, and no such line in a sheet alone"),
-            _("Take the line out of a sheet; a quarter is explained by tsav explain --quarter."),
+            _(TAKE_OUT),
         )
     delimited = _CSV.match(without)
     if delimited:
@@ -366,6 +377,10 @@ def _number(text: str, width: int, unit: Unit, name: str) -> _Number:
         found = _("{count} digits in {name}").format(count=len(digits), name=name)
         wanted = ngettext("at most {count} digit", "at most {count} digits", width).format(count=width)
         return _Number(causes + [("too-many-digits", 0, found, wanted)], None)
+    if not _by_three(text, marks):
+        return _Number(causes, None, _("{text}: its digits aren't grouped by three, or it has signs of more than two kinds.").format(text=visible(text)))
+    if digits is None and unit.decimals == 2 and fraction:
+        return _Number(causes, None, _finer(text))
     value = None if digits is None else int(digits)
     if unit == _OF_A_THOUSAND:
         return _Number(causes, *_in_thousands(text, whole, fraction, marks, value))
@@ -411,11 +426,11 @@ def _parts(text: str, decimals: int) -> tuple:
     """The digits before the decimal sign; those behind it, None without one; and the first separator and the sign with their places.
 
     A comma or a point is a decimal sign where it is the last of the separators and alone of its sort, and isn't followed by three
-    digits, as in 1,000, unless other separators go before it, or it is the scalar's, which is at most 2."""
+    digits, as in 1,000, unless other separators go before it, or nothing but 0, or it is the scalar's, which is at most 2."""
     places = [at for at, character in enumerate(text) if character in _THOUSANDS + _POINTS]
     sign = None
     if places and text[places[-1]] in _POINTS and text.count(text[places[-1]]) == 1:
-        if not _three(text, places) or (decimals == 4 and text[: places[0]] in ("0", "1", "2")):
+        if not _three(text, places) or not _digits(text[: places[0]]).strip("0") or (decimals == 4 and text[: places[0]] in ("1", "2")):
             sign = places.pop()
     marks = [("thousands-separator", places[0])] if places else []
     if sign is None:
@@ -426,6 +441,18 @@ def _parts(text: str, decimals: int) -> tuple:
 def _three(text: str, places: list) -> bool:
     """One separator alone, with three digits behind it."""
     return len(places) == 1 and len(_digits(text[places[0] :])) == 3
+
+
+def _by_three(text: str, marks: list) -> bool:
+    """Whether what stands between thousands does so; one separator alone that may be a decimal sign is told as that."""
+    plain = re.sub(f"[{BLANKS}]", " ", text.strip(_DOLLAR + _PLUS + BLANKS)).replace("\u2019", "'")
+    places = [at for at, character in enumerate(plain) if character in _THOUSANDS + _POINTS]
+    either = _three(plain, places) and plain[places[0]] in _POINTS
+    return either or all(mark != "thousands-separator" for mark, _at in marks) or _BY_THREE.fullmatch(plain) is not None
+
+
+def _finer(text: str) -> str:
+    return _("With decimals, {text} is finer than a cent: round it to the cent, up or down as it must be.").format(text=visible(text))
 
 
 def _digits(text: str) -> str:
@@ -449,9 +476,10 @@ def _in_dollars(text: str, marks: list, value: Optional[int], width: int, decima
         return value, ""
     places = [at for _mark, at in marks]
     if text[places[0]] in _POINTS and _three(text, places):
-        ways = sorted({value // 10, value, value * 100})
+        ways = sorted({value, value * 100} | ({value // 10} if value % 10 == 0 else set()))
         said = "; ".join(_("{cents} is {dollars}").format(cents=way, dollars=money.dollars(way)) for way in ways)
-        return None, _("Type the amount that is meant, in cents: {ways}.").format(ways=said)
+        said = _("Type the amount that is meant, in cents: {ways}.").format(ways=said)
+        return None, said if value % 10 == 0 else f"{said} {_finer(text)}"
     said = _("{cents} is {dollars}, since amounts are cents.").format(cents=value, dollars=money.dollars(value))
     if value and len(str(value * 100)) <= width:
         said += " " + _("If that many dollars are meant, type {cents}.").format(cents=value * 100)
@@ -495,7 +523,8 @@ def _lacking(text: str, code: str, klass: Optional[int], fields: list) -> list:
         return [Cause("too-long", extra.start + 1, found, _("five values in 39 characters"))]
     if len(fields) < len(_FIELDS):
         found = _("nothing for {name}").format(name=_name(code, klass, _FIELDS[len(fields)]))
-        return [Cause("too-short", len(text.rstrip()) + 1, found, _("five values in 39 characters"))]
+        cause = "too-short" if len(text) < columns.LENGTH - 1 else "missing-number"
+        return [Cause(cause, len(text.rstrip()) + 1, found, _("five values in 39 characters"))]
     return []
 
 

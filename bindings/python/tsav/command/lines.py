@@ -7,10 +7,10 @@ import tsav
 from tsav.command import columns, layout, money
 from tsav.command.faults import Amount, Mark, NotTested, key_of, line_words, shown, typed
 from tsav.command.labels import amounts, line_name, numbers
-from tsav.command.messages import N_, _, ngettext
+from tsav.command.messages import N_, _
 from tsav.command.rows import Row
 from tsav.command.visible import decoded, visible
-from tsav.command.whole import of_file, return_mark
+from tsav.command.whole import TAKE_RETURNS_OUT, of_file, return_mark, returns_found
 
 # The unit of a sheet in thousands, in cents, and its largest amount.
 THOUSANDS = 100_000
@@ -19,6 +19,8 @@ LARGEST_THOUSANDS = 999_999_999
 _OF_SMALL = N_("Codes in small letters throughout are those of a sheet in thousands of dollars.")
 # Said of a sheet in thousands, unless the command stands above its faults.
 CONVERT_FIRST = N_("Convert the sheet first: tsav-convert < FILE > cents.sheet.")
+# The same, where the converter refuses it as it stands.
+MEND_FIRST = N_("Once it is mended, convert the sheet: tsav-convert < FILE > cents.sheet.")
 
 
 def broken(finder, refusal) -> Optional[bool]:
@@ -98,17 +100,12 @@ def _set_layout_right(finder, row: Row, reading: layout.Reading) -> None:
 def _carriage_returns(finder, refusal, row: Row) -> None:
     """All of the file at once."""
     ended = [other for other in finder.rows.current if other.now.rstrip(b"\n").endswith(b"\r")]
-    found = ngettext(
-        "a carriage return at the end of {count} line of {all}",
-        "a carriage return at the end of {count} lines of {all}",
-        len(ended),
-    )
     of_file(
         finder,
         refusal,
-        return_mark(row.now.rstrip(b"\n"), found.format(count=len(ended), all=len(finder.rows.current))),
+        return_mark(row.now.rstrip(b"\n"), returns_found(len(ended), len(finder.rows.current))),
         shown(row),
-        _("Save it with Unix line ends (LF, not CRLF), or take them out: tr -d '\\r' < FILE > mended.sheet"),
+        _(TAKE_RETURNS_OUT),
     )
     for other in ended:
         end = b"\n" if other.now.endswith(b"\n") else b""
@@ -175,6 +172,12 @@ def code(finder, refusal) -> Optional[bool]:
 
 def _thousands(finder, refusal, row: Row) -> Optional[bool]:
     """A sheet in thousands of dollars: what else it has is told of the converted one, where it can be converted."""
+    sound = not finder.faults
+    try:
+        converted = tsav.convert(finder.rows.data())
+    except tsav.Refused:
+        converted = None
+    first = CONVERT_FIRST if sound and converted is not None else MEND_FIRST
     finder.add(
         refusal,
         "thousands-of-dollars",
@@ -183,11 +186,9 @@ def _thousands(finder, refusal, row: Row) -> Optional[bool]:
         marks=(
             Mark(1, "thousands-of-dollars", _("a code in small letters, as in all lines"), _("codes in capitals, and amounts in cents")),
         ),
-        advice=_(CONVERT_FIRST) + " " + _("What the converter says of it is explained by --convert."),
+        advice=_(first) + " " + _("What the converter says of it is explained by --convert."),
     )
-    try:
-        converted = tsav.convert(finder.rows.data())
-    except tsav.Refused:
+    if converted is None:
         finder.not_tested.append(NotTested(None, ()))
         return False
     for at, other in enumerate(finder.rows.current):

@@ -10,7 +10,7 @@ from tsav.command.faults import Fault, Mark, Shown, cut
 from tsav.command.finder import Finder
 from tsav.command.messages import _, ngettext
 from tsav.command.visible import decoded, visible
-from tsav.command.whole import narrow, return_mark
+from tsav.command.whole import TAKE_RETURNS_OUT, narrow, return_mark, returns_found
 
 # 60 sheets are a fortieth of this: what is longer is no quarter, and may have no end.
 MOST = 64 * 1024 * 1024
@@ -112,7 +112,18 @@ def _sheet(part: Part, said: Line) -> Optional[Finder]:
     refusal = ("REF", finder.first.number, finder.first.line or 0) if finder.first else ("SHT", said.number, said.value)
     if refusal != said:
         raise tsav.ContractBroken(f"{said} where the sheet call gives {refusal}")
+    # The sheet call takes no closing line, and a quarter has one here.
+    finder.faults = [fault._replace(advice=_closes()) if _trails(fault) else fault for fault in finder.faults]
     return finder
+
+
+def _trails(fault: Fault) -> bool:
+    """Of a closing line."""
+    return fault.cause == "trailing-spaces" and fault.advice == _(layout.TAKE_OUT)
+
+
+def _closes() -> str:
+    return _("Each sheet is closed by 39 minus signs and a line feed.")
 
 
 def _too_many(part: Part) -> Fault:
@@ -142,8 +153,9 @@ def _closed(data: bytes) -> tuple:
         return _fault(1, data.split(b"\n")[0], mark), text
     if CLOSING + b"\r\n" in data:
         at = data.index(CLOSING + b"\r\n")
-        mark = return_mark(CLOSING + b"\r", _("a carriage return at the end of a closing line"))
-        return _fault(1 + data[:at].count(b"\n"), CLOSING + b"\r", mark), data.replace(b"\r\n", b"\n")
+        mark = return_mark(CLOSING + b"\r", returns_found(data.count(b"\r\n"), data.count(b"\n") + (not data.endswith(b"\n"))))
+        fault = _fault(1 + data[:at].count(b"\n"), CLOSING + b"\r", mark, _(TAKE_RETURNS_OUT))
+        return fault._replace(title=_("a closing line ends with a carriage return")), data.replace(b"\r\n", b"\n")
     parts, rest = _parts(data)
     return _last_closed(data[: len(data) - len(rest.sheet)], rest)
 
@@ -161,9 +173,14 @@ def _last_closed(before: bytes, rest: Part) -> tuple:
     text = decoded(last)
     if last == CLOSING:
         behind = rest.sheet[len(kept) :]
+        spaces = len(behind) - len(behind.lstrip(b" "))
         if behind.startswith(b"\r"):
             last += b"\r"
             mark = return_mark(last, _("a carriage return"))
+        elif spaces:
+            last += behind[:spaces]
+            found = ngettext("{count} space after the closing line", "{count} spaces after the closing line", spaces).format(count=spaces)
+            mark = Mark(columns.LENGTH, "trailing-spaces", found, _("a line feed in column {column}").format(column=columns.LENGTH))
         else:
             column = _("a line feed in column {column}").format(column=columns.LENGTH)
             mark = Mark(columns.LENGTH, "no-line-feed", _("nothing after the closing line"), column)
@@ -191,7 +208,7 @@ def _fault(number: int, line: bytes, mark: Mark, advice: str = "") -> Fault:
         line=number,
         lines=(Shown(number, cut(visible(decoded(line)))),),
         marks=(mark,),
-        advice=advice or _("Each sheet is closed by 39 minus signs and a line feed."),
+        advice=advice or _closes(),
     )
 
 

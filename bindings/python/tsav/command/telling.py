@@ -26,7 +26,8 @@ def refusal_place(refusal: tsav.Refused) -> str:
 def paragraphs(faults: list, not_tested: list):
     """One of lines for each fault, and one for what isn't tested."""
     for count, fault in enumerate(faults, 1):
-        yield "\n".join([f"{count}. {_title(fault)}"] + [_MARGIN[1:] + line for line in _body(fault)]) + "\n"
+        proposed = any(before.instead is not None and before.line == fault.line for before in faults[: count - 1])
+        yield "\n".join([f"{count}. {_title(fault)}"] + [_MARGIN[1:] + line for line in _body(fault, proposed)]) + "\n"
     for some in not_tested:
         yield _not_tested(some) + "\n"
 
@@ -56,12 +57,13 @@ def _title(fault: Fault) -> str:
     return f"{place}{_(': ')}{fault.title}" + (f" ({fault.name})" if fault.name else "")
 
 
-def _body(fault: Fault):
-    """The line and its caret; what is there and wanted; the other lines and amounts; what to type; what to do."""
+def _body(fault: Fault, proposed: bool):
+    """The line and its caret; what is there and wanted; the other lines and amounts; what to type; what to do. Whether the line was set
+    right as it was proposed, or only so that what follows can be looked for."""
     if fault.counted is not None:
         yield _("The call counts 40 bytes for a line, and names line {line}.").format(line=fault.counted)
     if fault.set_right:
-        yield _("As it is set right above:")
+        yield _("As it is set right above:") if proposed else _("Until that is mended, the line is taken as this:")
     for at, shown in enumerate(fault.lines):
         yield from _line(shown, fault.marks if at == 0 else (), len(fault.lines) > 1)
     for mark, behind in zip(fault.marks, fault.marks[1:] + (None,)):

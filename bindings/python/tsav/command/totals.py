@@ -134,7 +134,7 @@ def credits(finder, refusal) -> None:
 
 
 def untested(finder) -> None:
-    """Where a line that may be of the refusal stands or was touched, and is touched or depends on one that is."""
+    """Where a line of the refusal stands or was touched, and is touched or depends on one that is. 16 and 17 need a line of their code."""
     if not _has_scalar(finder):
         _untested(finder, 12, finder.touched(("GEN", (0,), 4)))
     _untested_blocks(finder, 16, "MOR", columns.TERRITORIES, lambda blocks: (("MOR", blocks), ("RSK", blocks, 1)))
@@ -147,7 +147,7 @@ def untested(finder) -> None:
 def _untested_blocks(finder, number: int, code: str, blocks, depends) -> None:
     lines = set()
     for block in blocks:
-        stands = any(row.may_be(code, (block,)) for row in finder.rows.all)
+        stands = any(row.code == code and row.may_be(code, (block,)) for row in finder.rows.all)
         if stands and (number, block) not in finder.told:
             lines.update(finder.touched(*depends((block,))))
     _untested(finder, number, lines)

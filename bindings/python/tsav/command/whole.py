@@ -5,9 +5,11 @@ from typing import Optional
 import tsav
 from tsav.command import columns, layout, money
 from tsav.command.faults import Fault, Mark, NotTested, Shown, cut
-from tsav.command.messages import _
+from tsav.command.messages import N_, _, ngettext
 from tsav.command.visible import decoded, visible
 
+# Said of carriage returns at the ends of lines.
+TAKE_RETURNS_OUT = N_("Save it with Unix line ends (LF, not CRLF), or take them out: tr -d '\\r' < FILE > mended.sheet")
 _BYTE_ORDER_MARK = b"\xef\xbb\xbf"
 _WIDE_MARKS = (b"\xff\xfe", b"\xfe\xff")
 _WORKBOOK = b"PK\x03\x04"
@@ -119,6 +121,12 @@ def _line_of(data: bytes, number: int) -> Shown:
     lines = data.split(b"\n")
     number = min(number, len(lines))
     return Shown(number, cut(visible(decoded(lines[number - 1]))))
+
+
+def returns_found(count: int, lines: int) -> str:
+    """So many lines of all end with one."""
+    found = ngettext("a carriage return at the end of {count} line of {all}", "a carriage return at the end of {count} lines of {all}", count)
+    return found.format(count=count, all=lines)
 
 
 def return_mark(line: bytes, found: str, length: int = columns.LENGTH) -> Mark:
