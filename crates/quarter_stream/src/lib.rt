@@ -104,12 +104,15 @@ fn put_byte(room: &mut [u8], at: usize, b: u8) -> usize
     at
 }
 
-// The minus signs of a line that has a byte more.
+// The minus signs of a line that has a byte more. The byte is asked first: nearly none is a minus sign, and then what stood before doesn't count.
 fn count(minuses: Option<usize>, b: u8) -> Option<usize>
     ensures { minus_signs result ≡ counted (minus_signs minuses) b }
 {
+    if b != MINUS {
+        return None;
+    }
     match minuses {
-        Some(m) if b == MINUS && m < MINUSES => Some(m + 1),
+        Some(m) if m < MINUSES => Some(m + 1),
         _ => None,
     }
 }
