@@ -3,7 +3,7 @@
 -- In order: zeros behind a number, and spaces before it; a number's last two columns; an amount; the scalar's line; a line.
 use Rattle.basics.proofs.Common.{◌≡◌, ℕ, zero, suc, ◌+◌, ◌*◌, ◌/◌, ◌%◌, ◌^◌, ◌<◌, ◌≤◌, Bool, true, false, eqb, List, [], ◌∷◌, ◌++◌, map, length, take, drop, replicate, Ok, sym, refl, ap, ◌∙◌}
 use Rattle.basics.proofs.Common.{append-nil, lt_of_lt_of_le, mul_assoc, zero-add, arith, take_at, eq-eqb, ne_eqb, ℕ_discrete, dec_le, pow-le-pow_right, append_snoc, pick, if_true, if_false, if_eq}
-use Rattle.basics.proofs.Common.{if_ne, is_values, values}
+use Rattle.basics.proofs.Common.{if_ne, if_lt, if_ge, is_values, values}
 use native.Mathlib.Numerals.{unary_clauses}
 use Rattle.field.specs.Field.{digit_or_space, leading_digits, decimal}
 use Rattle.field.proofs.WrittenColumns.{length_decimal}
@@ -131,13 +131,13 @@ one_scalar : (k : Code) (b : ℕ) → pick (eqb (row_of k b).scalar 0) scalar_cl
 unfolding pick
 one_scalar = rows_same (λ r. pick (eqb r.scalar 0) scalar_class r.scalar) (λ r. scalar_class) refl
 
-scalar_shown : (d : Scale) (e : Entry) → 1 ≤ e.class → keeps_amounts (print_in d e) ≡ is_scalar e
-scalar_shown d e h =
+scalar_shown : (d : Scale) (e : Entry) → keeps_amounts (print_in d e) ≡ is_scalar e
+scalar_shown d e =
     scalar_by_bytes d (numbers_of e) e.code e.block
     ∙ ap (pick (eqb (row_for e).scalar 0) false) (last_two scalar_class e.class (omega arith))
     ∙ elim (ℕ_discrete (row_for e).scalar 0) [
-      | yes z ↦ let n : e.class ≡ (row_for e).scalar → ⊥ = λ q. omega arith in if_eq _ z ∙ sym (ne_eqb _ _ n)
-      | no n ↦ if_ne _ n ∙ ap (eqb e.class) (sym (one_scalar e.code e.block) ∙ if_ne _ n)
+      | yes z ↦ if_eq _ z ∙ sym (if_ge _ (omega (arith, z)))
+      | no n ↦ if_ne _ n ∙ ap (eqb e.class) (sym (one_scalar e.code e.block) ∙ if_ne _ n) ∙ sym (if_lt _ (omega (arith, n)))
     ]
 
 -- ---- a line
@@ -168,7 +168,7 @@ printed_moved d e a C =
     let m = a.amounts in
     let amount : (v : ℕ) → v ≤ limit → (is_scalar e ≡ false → Fits d v)
     → moved_amount d (keeps_amounts (lettered w n)) (decimal amount_columns v) ≡ decimal amount_columns (amount_of d e v) =
-    λ v b f. ap (λ (t : Bool). moved_amount d t (decimal amount_columns v)) (scalar_shown d e a.key.one) ∙ amount_moved d (is_scalar e) v b f in
+    λ v b f. ap (λ (t : Bool). moved_amount d t (decimal amount_columns v)) (scalar_shown d e) ∙ amount_moved d (is_scalar e) v b f in
     let first = amount e.first m.first_most (λ s. (C.fit s).0) in
     let second = amount e.second m.second_most (λ s. (C.fit s).1) in
     lettered_moved d w (three_in d e.code) n

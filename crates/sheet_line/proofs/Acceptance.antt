@@ -1,12 +1,13 @@
 -- What a line that no rule turns away guarantees: of its entry what each rule's test leaves, the rules one after the other, and of its columns that
 -- they hold the entry's code and numbers. Assumes nothing.
-use Rattle.basics.proofs.Common.{◌≡◌, ℕ, ◌≤◌, false, List, length, Some, None, Ok, Option, Result, sym, refl, ◌∙◌, subst, arith, ltb-false, eqb-true, not-false, if_true, if_eq, if_lt, by_test, never}
+use Rattle.basics.proofs.Common.{◌≡◌, ℕ, ◌≤◌, false, ltb, List, length, Some, None, Ok, Option, Result, sym, refl, ◌∙◌, subst, arith, ltb-false, lt-ltb, eq-eqb, eqb-true, not-false, if_true, if_lt, by_test, never}
+use Rattle.std.proofs.lemmas.Bool.{le-leb}
 use Rattle.amount.specs.Amount.{limit}
 use Rattle.codes.specs.Codes.{Key, code_of}
 use Rattle.layout.specs.Columns.{sheet_line_bytes, layout_of}
 use Rattle.layout.proofs.Columns.{kept_amounts}
 use Rattle.sheet_line.specs.Line.{numbers_of}
-use Rattle.sheet_line.specs.Rules.{outside, block_outside, class_outside, rule3, rule5, rule6, rule8, rule9, rule10, entry_of, parse_line, AcceptedLine}
+use Rattle.sheet_line.specs.Rules.{outside, row_for, block_outside, class_outside, is_single, rule3, rule5, rule6, rule8, rule9, rule10, entry_of, parse_line, AcceptedLine}
 use Rattle.codes.specs.declared.Code.{Code}
 use Rattle.layout.specs.declared.Numbers.{Numbers}
 use Rattle.refusal.specs.declared.Rule.{Rule}
@@ -23,6 +24,14 @@ key_of e p q =
     let b = inside _ _ _ p in
     let c = inside _ _ _ q in
     record { low = b.0; high = b.1; one = c.0; most = c.1 }
+
+-- of the classes that rule 6 lets pass, those behind the last one with two amounts have one alone
+pub single_within : (e : Entry) → class_outside e ≡ false → is_single e ≡ ltb (row_for e).paired e.class
+single_within e q =
+    let w = inside _ _ _ q in
+    by_test (λ t. t ≡ ltb (row_for e).paired e.class) _ _ _
+    (λ z. sym (lt-ltb _ _ (omega (arith, eqb-true _ _ z, w.0))))
+    (λ z. by_test (λ t. t ≡ ltb (row_for e).paired e.class) _ _ _ (λ s. le-leb _ _ w.1 ∙ sym s) (λ s. sym s))
 
 -- ---- rules 5 to 10
 
@@ -45,9 +54,9 @@ module _ (e : Entry) (a : e.first ≤ limit) (b : e.second ≤ limit) (d : Entry
           amounts = record {
             first_most = a;
             second_most = b;
-            single = λ s. eqb-true _ _ (not-false _ (sym (if_lt _ s) ∙ r8));
+            single = λ s. eqb-true _ _ (not-false _ (sym (if_true _ (single_within e r6 ∙ lt-ltb _ _ s)) ∙ r8));
             trend = λ s. ltb-false _ _ (sym (if_true _ s) ∙ r9);
-            scalar = λ s. inside _ _ _ (sym (if_eq _ s) ∙ r10);
+            scalar = λ h s. inside _ _ _ (sym (if_true _ (if_lt _ h ∙ eq-eqb _ _ s)) ∙ r10);
           };
         },
       )

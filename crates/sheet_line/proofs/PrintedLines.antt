@@ -13,7 +13,7 @@ use Rattle.sheet_line.specs.Rules.{outside, row_for, is_single, is_scalar, rule5
 use Rattle.codes.specs.declared.Code.{Code}
 use Rattle.codes.proofs.Table.{codes_same, each_row, three_letters}
 use Rattle.sheet_line.specs.declared.Entry.{Entry}
-use Rattle.sheet_line.proofs.Acceptance.{good_line, line_good}
+use Rattle.sheet_line.proofs.Acceptance.{single_within, good_line, line_good}
 
 -- ---- what stands in the columns of a printed line
 
@@ -37,11 +37,12 @@ test_passes applies h = by_test (λ t. t ≡ false) applies _ _ h (λ s. refl)
 rules_pass : (e : Entry) → AcceptedLine e → rule5 e ≡ Ok e
 unfolding rule5 rule6 rule8 rule9 rule10
 rules_pass e a =
+    let r6 = inside_passes a.key.one a.key.most in
     if_false _ (inside_passes a.key.low a.key.high)
-    ∙ if_false _ (inside_passes a.key.one a.key.most)
-    ∙ if_false _ (test_passes (is_single e) (λ s. ap not (eq-eqb _ _ (a.amounts.single (ltb-true _ _ s)))))
+    ∙ if_false _ r6
+    ∙ if_false _ (test_passes (is_single e) (λ s. ap not (eq-eqb _ _ (a.amounts.single (ltb-true _ _ (sym (single_within e r6) ∙ s))))))
     ∙ if_false _ (test_passes (row_for e).trend (λ s. le-ltb _ _ (a.amounts.trend s)))
-    ∙ if_false _ (test_passes (is_scalar e) (λ s. let g = a.amounts.scalar (eqb-true _ _ s) in inside_passes g.0 g.1))
+    ∙ if_false _ (test_passes (is_scalar e) (λ s. let t = both _ s in let g = a.amounts.scalar (ltb-true _ _ t.0) (eqb-true _ _ t.1) in inside_passes g.0 g.1))
 
 -- ---- what is printed is read back
 

@@ -1,7 +1,7 @@
 -- The order of a line's rules, shown by lines that break two of them: each is refused by the one that comes first, so no program with the two in
 -- the other order meets the contract of `read_line`. Rules 4 and 5 have no such line, since a range is that of a code that is known; nor have
 -- rules 9 and 10, so that rule 10 stands beside rule 8. Assumes nothing.
-use Rattle.basics.proofs.Common.{◌≡◌, ℕ, ◌≤◌, Bool, true, false, List, replicate, None, Err, sym, refl, ◌∙◌, arith, pick, if_true, if_ne, by_test, never}
+use Rattle.basics.proofs.Common.{◌≡◌, ℕ, Bool, true, false, List, replicate, None, Err, sym, refl, ◌∙◌, arith, pick, if_true, if_false, if_ge, by_test, never}
 use Rattle.field.specs.Field.{digits, field, digit_or_space, leading_digits, decimal}
 use Rattle.codes.specs.Codes.{row_of, is_code, code_among, code_of}
 use Rattle.key_columns.specs.Key.{key}
@@ -49,12 +49,11 @@ no_trend_scalar : (k : Code) (b : ℕ) → pick (row_of k b).trend (row_of k b).
 unfolding pick
 no_trend_scalar = rows_same (λ r. pick r.trend r.scalar 0) (λ r. 0) refl
 
--- so no line that rule 6 passes breaks rules 9 and 10
-pub not_both : (e : Entry) → 1 ≤ e.class → trend_above e ≡ true → scalar_outside e ≡ false
-not_both e h =
+-- so no line breaks rules 9 and 10
+pub not_both : (e : Entry) → trend_above e ≡ true → scalar_outside e ≡ false
+not_both e =
     by_test (λ t. t ≡ true → scalar_outside e ≡ false) (row_for e).trend _ _
     (λ t q.
     let s : (row_for e).scalar ≡ 0 = sym (if_true 0 t) ∙ no_trend_scalar e.code e.block in
-    let n : e.class ≡ (row_for e).scalar → ⊥ = λ z. omega arith in
-    if_ne _ n)
+    if_false _ (if_ge _ (omega (arith, s))))
     (λ t q. never (cc))

@@ -1,7 +1,7 @@
 -- What is turned away in a line: 'the first bad line, in it 3, 4, 5, 6, 8, 9, 10'; rules 11 and 19 look at more than a line and are not
 -- here. Each rule has a test, true where it turns the line away, and a definition that ends in the next rule's; the last one first. Assumes
 -- nothing.
-use Rattle.std.specs.Prelude.{◌≡◌, Option, Some, None, Result, Ok, Err, ℕ, ◌≤◌, ◌<◌, List, Bool, true, false, not, ltb, eqb}
+use Rattle.std.specs.Prelude.{◌≡◌, Option, Some, None, Result, Ok, Err, ℕ, ◌≤◌, ◌<◌, List, Bool, true, false, not, ltb, leb, eqb}
 use Rattle.basics.specs.Pick.{pick}
 use Rattle.amount.specs.Amount.{limit}
 use Rattle.refusal.specs.declared.Rule.{Rule}
@@ -32,9 +32,9 @@ block_outside e = outside (row_for e).lowest (row_for e).highest e.block
 abbrev pub class_outside : Entry → Bool
 class_outside e = outside 1 (row_for e).classes e.class
 
--- the lines that have one amount alone, of a class that rule 6 lets pass
+-- the lines that have one amount alone: all of a row without a second amount, else those of the classes behind the last that has one
 abbrev pub is_single : Entry → Bool
-is_single e = ltb (row_for e).paired e.class
+is_single e = pick (eqb (row_for e).paired 0) true (pick (ltb (row_for e).paired e.class) (leb e.class (row_for e).classes) false)
 
 -- rule 8: 'second amount not 0 for OTH or GEN; LT(7) not 0'
 abbrev pub second_barred : Entry → Bool
@@ -44,9 +44,9 @@ second_barred e = pick (is_single e) (not (eqb e.second 0)) false
 abbrev pub trend_above : Entry → Bool
 trend_above e = pick (row_for e).trend (ltb e.first e.second) false
 
--- the line of the scalar g, of a class that rule 6 lets pass
+-- the line of the scalar g: a row without a scalar has no such line
 abbrev pub is_scalar : Entry → Bool
-is_scalar e = eqb e.class (row_for e).scalar
+is_scalar e = pick (ltb 0 (row_for e).scalar) (eqb e.class (row_for e).scalar) false
 
 -- rule 10: 'g outside 1–20,000'
 abbrev pub scalar_outside : Entry → Bool
@@ -100,7 +100,7 @@ pub record AcceptedAmounts (r : CodeRow) (c first second : ℕ) : Type 0 where
   pub second_most : second ≤ limit
   pub single : r.paired < c → second ≡ 0
   pub trend : r.trend ≡ true → second ≤ first
-  pub scalar : c ≡ r.scalar → (1 ≤ first) × (first ≤ largest_scalar)
+  pub scalar : 0 < r.scalar → c ≡ r.scalar → (1 ≤ first) × (first ≤ largest_scalar)
 
 -- an entry that the rules let pass
 pub record AcceptedLine (e : Entry) : Type 0 where

@@ -7,7 +7,7 @@ use refusal::Rule;
 use sizes::LARGEST_SCALAR;
 
 // Rules 5 to 10: the entry, where none of them turns it away. Rule 5 is that the block is outside the code's range, rule 6 that the class is.
-#[tactic(auto, unfolding(crate::specs::Rules::rule5, crate::specs::Rules::rule6, crate::specs::Rules::rule8, crate::specs::Rules::rule9, crate::specs::Rules::rule10, basics::specs::Pick::pick))]
+#[tactic(auto, using(crate::proofs::Acceptance::single_within), unfolding(crate::specs::Rules::rule5, crate::specs::Rules::rule6, crate::specs::Rules::rule8, crate::specs::Rules::rule9, crate::specs::Rules::rule10, basics::specs::Pick::pick))]
 pub(crate) fn judged(e: Entry) -> Result<Entry, Rule>
     ensures { result ≡ rule5 e }
 {
@@ -31,10 +31,14 @@ pub(crate) fn judged(e: Entry) -> Result<Entry, Rule>
 }
 
 // Whether a line is that of the scalar g.
+//
+// Kept: asked of the class too that it is not 0, the scalar of a row without one. Where rule 6 was tested before, the compiler leaves that out; of the
+// row's scalar it would not.
+#[tactic(auto, unfolding(basics::specs::Pick::pick))]
 pub fn is_scalar(e: Entry) -> bool
     ensures { result ≡ is_scalar e }
 {
-    e.class == codes::row_of(e.code, e.block).scalar
+    0 < e.class && e.class == codes::row_of(e.code, e.block).scalar
 }
 
 // Whether n is outside low to high.
