@@ -1,6 +1,6 @@
 -- The two passes over a sheet's lines, after i of them: the first has tested them, with the marks and the last key; the second has written them.
 -- Assumes nothing.
-use Rattle.basics.proofs.Common.{◌≡◌, ℕ, ◌+◌, ◌-◌, ◌*◌, ◌%◌, ◌<◌, ◌≤◌, Bool, List, [], ◌∷◌, ◌++◌, length, take, drop, Ok, Err, Result, sym, refl, ap, ◌∙◌, subst, arith, length-drop, length-take-le}
+use Rattle.basics.proofs.Common.{◌≡◌, ℕ, ◌+◌, ◌-◌, ◌*◌, ◌%◌, ◌<◌, ◌≤◌, List, [], ◌∷◌, ◌++◌, length, take, drop, Ok, Err, Result, sym, refl, ap, ◌∙◌, subst, arith, length-drop, length-take-le}
 use Rattle.basics.proofs.Common.{put_mid, never, Wrote, nothing, part}
 use borrow.Rule.Slice.PartMut.{same_len_mid}
 use Rattle.refusal.specs.Outcome.{rule_number, Outcome.accepted, Outcome.refused}
@@ -29,17 +29,17 @@ use Rattle.convert.proofs.Reading.{reads}
 
 -- ---- the lines tested
 
-pub record TestedTo (d : Scale) (s : List ℕ) (m : List Bool) (last i : ℕ) : Type 0 where
+pub record TestedTo (d : Scale) (s m : List ℕ) (last i : ℕ) : Type 0 where
   pub seen : List Entry
   pub read : ReadTo (parse_in d) (convertible d) s m last i seen
 
-module _ {d : Scale} {s : List ℕ} {m : List Bool} {last i : ℕ} (B : TestedTo d s m last i) where
+module _ {d : Scale} {s m : List ℕ} {last i : ℕ} (B : TestedTo d s m last i) where
   pub test_done : whole_lines s ≤ i → accepted (whole_lines s ∷ []) ≡ outcome_of (reading_in d s)
   test_done h =
       let n : whole_lines s ≡ length B.seen = omega (arith, B.read.count, B.read.some) in
       rw (lines.done (reads d) B.read h, n)
 
-  module _ (h : i < whole_lines s) {r : Result Entry Rule} {m' : List Bool} (A : Admits (parse_in d (line_at s i)) last m r m')
+  module _ (h : i < whole_lines s) {r : Result Entry Rule} {m' : List ℕ} (A : Admits (parse_in d (line_at s i)) last m r m')
       {l : Result Entry Rule} (c : l ≡ convertible d r) where
     pub test_turned : {n : Rule} → l ≡ Err n → refused (rule_number n) (place.Line (i + 1)) ≡ outcome_of (reading_in d s)
     test_turned q = rw (lines.turned (reads d) B.read h A (sym c ∙ q))

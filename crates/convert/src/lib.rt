@@ -46,7 +46,7 @@ fn convert_lines(scale: Scale, sheet: &[u8], room: &mut [u8]) -> Result<usize, R
     requires { length sheet.now % sheet_line_bytes ≡ 0 }
     ensures { ◌≡◌ {A = Done} (record { outcome = stated_number result; room = room.new }) (lines_call scale sheet.now room.old) }
 {
-    let mut marks = [false; PLACES];
+    let mut marks = [0; PLACES];
     test_lines(scale, sheet, &mut marks)?;
     if room.len() < sheet.len() {
         return Err(Refusal(Rule::RoomTooShort, Place::Nowhere));
@@ -57,7 +57,7 @@ fn convert_lines(scale: Scale, sheet: &[u8], room: &mut [u8]) -> Result<usize, R
 
 // Tests the lines of a sheet one after the other, up to the first bad one. There is no text yet: all good, it gives how many lines there are.
 // Kept: beside `sheet_reader::read_lines`, which enters amounts; here are marks alone. One over the step would be a closure that both are lent to.
-fn test_lines(scale: Scale, sheet: &[u8], marks: &mut [bool; PLACES]) -> Result<usize, Refusal>
+fn test_lines(scale: Scale, sheet: &[u8], marks: &mut [u8; PLACES]) -> Result<usize, Refusal>
     requires { marks.old ≡ marks_of [] }
     ensures { stated_number result ≡ outcome_of (reading_in scale sheet.now) }
 {

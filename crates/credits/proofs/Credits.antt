@@ -1,6 +1,6 @@
 -- The credits of blocks 1 to 16 found one after the other, off the places of the blocks' MOR lines; and the test for one above its block's
 -- LT(1). Assumes nothing.
-use Rattle.basics.proofs.Common.{◌≡◌, ℕ, zero, suc, ◌+◌, ◌-◌, ◌<◌, ◌≤◌, Bool, false, ltb, List, length, get_or, set, sym, ap, ◌∙◌, arith, length-set, get_or-set_other, get_or-set_same, ℕ_discrete}
+use Rattle.basics.proofs.Common.{◌≡◌, ℕ, zero, suc, ◌+◌, ◌-◌, ◌<◌, ◌≤◌, false, ltb, List, length, get_or, set, sym, ap, ◌∙◌, arith, length-set, get_or-set_other, get_or-set_same, ℕ_discrete}
 use Rattle.basics.proofs.Common.{Each, sum_to, sum_next}
 use Rattle.amount.specs.Amount.{limit}
 use Rattle.sizes.specs.Sizes.{non_participating, adjustable_products}
@@ -37,7 +37,7 @@ dividend_low (suc b) h v = v.low
 pub adjustable_key : (c : ℕ) → 1 ≤ c → c ≤ adjustable_products → Key Crd 0 c
 adjustable_key c h l = record { low = omega arith; high = omega arith; one = h; most = l }
 
-module _ {es : List Entry} {f s : List ℕ} {m : List Bool} (H : TablesHold es f s m) {i : ℕ} (h : i < non_participating) where
+module _ {es : List Entry} {f s m : List ℕ} (H : TablesHold es f s m) {i : ℕ} (h : i < non_participating) where
   -- S and T are amounts
   pub sums_most : (tabled f Mor (i + 1) sums_class ≤ limit) × (tabled s Mor (i + 1) sums_class ≤ limit)
   sums_most =
@@ -68,7 +68,7 @@ module _ {es : List Entry} {f s : List ℕ} {m : List Bool} (H : TablesHold es f
       rw (t, q)
 
 -- the credits of adjustable products, one more
-pub next_adjustable : {es : List Entry} {f s : List ℕ} {m : List Bool} (H : TablesHold es f s m) {i sum a : ℕ} → i < adjustable_products → sum ≡ sum_to (adjustable_credit es) i
+pub next_adjustable : {es : List Entry} {f s m : List ℕ} (H : TablesHold es f s m) {i sum a : ℕ} → i < adjustable_products → sum ≡ sum_to (adjustable_credit es) i
     → a ≡ tabled f Crd 0 (i + 1) → sum + a ≡ sum_to (adjustable_credit es) (i + 1)
 next_adjustable {es} H {i} h p q =
     let e : i + 1 - 1 ≡ i = omega arith in

@@ -1,5 +1,5 @@
 -- Volume and growth of the classes of a territory, one class more: as code adds them up off the tables. Assumes nothing.
-use Rattle.basics.proofs.Common.{◌≡◌, ℕ, ◌+◌, ◌-◌, ◌*◌, ◌/◌, ◌%◌, ◌<◌, ◌≤◌, Bool, List, length, get_or, ap, ◌∙◌, arith, Each}
+use Rattle.basics.proofs.Common.{◌≡◌, ℕ, ◌+◌, ◌-◌, ◌*◌, ◌/◌, ◌%◌, ◌<◌, ◌≤◌, List, length, get_or, ap, ◌∙◌, arith, Each}
 use Rattle.amount.specs.Amount.{limit}
 use Rattle.sizes.specs.Sizes.{territories, volume_classes, volume_pairs}
 use Rattle.guideline.specs.Operational.{volume_factors, largest_factor, factor_of, current, prior, volume, growth, charged}
@@ -24,7 +24,7 @@ all_charged es all =
     let e : volume_pairs ≡ length (volumes_of es) / 2 = omega (arith, length_volumes es all) in
     ap (charged (volumes_of es)) e ∙ charged_all (volumes_of es)
 
-module _ {es : List Entry} {f s : List ℕ} {m : List Bool} (H : TablesHold es f s m) {t i : ℕ} (h : t < territories) (l : i < volume_classes) where
+module _ {es : List Entry} {f s m : List ℕ} (H : TablesHold es f s m) {t i : ℕ} (h : t < territories) (l : i < volume_classes) where
   abbrev pair : ℕ
   pair = volume_classes * t + i
 

@@ -1,5 +1,5 @@
 -- What is read off the tables that hold a sheet's lines is what the lines say. Assumes nothing.
-use Rattle.basics.proofs.Common.{◌≡◌, ℕ, ◌+◌, ◌^◌, ◌<◌, ◌≤◌, Bool, false, List, [], ◌∷◌, length, set, replicate, Ok, Err, Result, sym, refl, ◌∙◌, arith, set_out}
+use Rattle.basics.proofs.Common.{◌≡◌, ℕ, ◌+◌, ◌^◌, ◌<◌, ◌≤◌, List, [], ◌∷◌, length, set, replicate, Ok, Err, Result, sym, refl, ◌∙◌, arith, set_out}
 use Rattle.std.proofs.Math.Logic.{∥∥₁_elim}
 use Rattle.sizes.specs.Sizes.{blocks}
 use Rattle.codes.specs.Codes.{general_classes, scalar_class, Key}
@@ -22,7 +22,7 @@ use Rattle.ledger.specs.Lines.{Holds, Sound}
 use Rattle.ledger.specs.declared.Ledger.{Ledger}
 
 -- tables of zeros hold no line
-pub none_held : TablesOf [] (replicate places 0) (replicate second_places 0) (replicate places false)
+pub none_held : TablesOf [] (replicate places 0) (replicate second_places 0) (replicate places 0)
 unfolding table marks_of
 none_held = record { first = refl; second = refl; mark = refl }
 
@@ -33,12 +33,12 @@ of_lines l c f = ∥∥₁_elim l.held c (λ w. f w.0 w.1)
 -- ---- a line more
 
 -- an admitted line is the one that was read
-pub admitted_sound : {line r : Result Entry Rule} {last : ℕ} {m m' : List Bool} → Admits line last m r m' → Sound line → {e : Entry} → r ≡ Ok e → AcceptedLine e
+pub admitted_sound : {line r : Result Entry Rule} {last : ℕ} {m m' : List ℕ} → Admits line last m r m' → Sound line → {e : Entry} → r ≡ Ok e → AcceptedLine e
 admitted_sound {line} {r} {last} A p {e} q =
     let w : line ≡ Ok e = (good_admitted _ last line e (sym A.line ∙ q)).read in
     rw w at p
 
-module _ {es : List Entry} {f s : List ℕ} {m m' : List Bool} {line r : Result Entry Rule} {last : ℕ} (H : TablesHold es f s m) (A : Admits line last m r m') where
+module _ {es : List Entry} {f s m m' : List ℕ} {line r : Result Entry Rule} {last : ℕ} (H : TablesHold es f s m) (A : Admits line last m r m') where
   pub more_held : {e : Entry} → r ≡ Ok e → AcceptedLine e → {at : ℕ} → at ≡ index_for e → TablesHold (e ∷ es) (set f at e.first) (set s at e.second) m'
   unfolding table marks_of
   more_held {e} q a p =
@@ -61,7 +61,7 @@ module _ {es : List Entry} {f s : List ℕ} {m m' : List Bool} {line r : Result 
 
 -- ---- what is read off the tables
 
-module _ {es : List Entry} {f s : List ℕ} {m : List Bool} (H : TablesHold es f s m) where
+module _ {es : List Entry} {f s m : List ℕ} (H : TablesHold es f s m) where
   pub exists_is : (b : ℕ) → 1 ≤ b → b ≤ blocks → block_marked m b ≡ exists es b
   exists_is b l h = rw H.tables.mark (exists_table es b H.lines (l, h))
 

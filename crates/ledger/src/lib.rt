@@ -22,7 +22,7 @@ use sizes::{BLOCK_NUMBERS, CREDIT_POSITION, MARKET_POSITION, PC_POSITION};
 pub struct Ledger {
     firsts: [u64; PLACES],
     seconds: [u64; SECOND_PLACES],
-    marks: [bool; PLACES],
+    marks: [u8; PLACES],
     pub ghost held: { ∥ HoldSome firsts seconds marks ∥₁ },
 }
 
@@ -49,7 +49,7 @@ impl Ledger {
         Ledger {
             firsts: [0; PLACES],
             seconds: [0; SECOND_PLACES],
-            marks: [false; PLACES],
+            marks: [0; PLACES],
         }
     }
 

@@ -1,5 +1,5 @@
 -- What tables that hold a sheet's lines tell of a need is what the lines do. Assumes nothing.
-use Rattle.basics.proofs.Common.{◌≡◌, ℕ, Bool, false, not, ltb, List, Some, None, Option, sym, refl, ap, ◌∙◌, ℕ_discrete, pick, any_same, if_eq, if_ne}
+use Rattle.basics.proofs.Common.{◌≡◌, ℕ, false, not, ltb, List, Some, None, Option, sym, refl, ap, ◌∙◌, ℕ_discrete, pick, any_same, if_eq, if_ne}
 use Rattle.codes.specs.Codes.{risk_classes, Key}
 use Rattle.codes.specs.declared.Code.TheVariants.{Rsk}
 use Rattle.sheet_line.specs.declared.Entry.{Entry}
@@ -12,7 +12,7 @@ use Rattle.needs.specs.declared.Label.{Label}
 use Rattle.needs_unmet.specs.Companions.{HasPlace}
 use Rattle.needs_unmet.proofs.Companions.{risk_key, companion_placed}
 
-module _ {es : List Entry} {f s : List ℕ} {m : List Bool} (H : TablesHold es f s m) where
+module _ {es : List Entry} {f s m : List ℕ} (H : TablesHold es f s m) where
   same_counts : (l : Label) → HasPlace l → companion_serves (tabled f) l ≡ companion_serves (lookup first_of es) l
   unfolding companion_serves some_risk
   same_counts l a =

@@ -2,7 +2,7 @@
 -- nothing.
 -- In order: a line more; what holds of the lines that were read: what each new line keeps; a reading is stopped by the number of a rule, at a line of
 -- the sheet; a loop over the lines, after i of them.
-use Rattle.basics.proofs.Common.{◌≡◌, ℕ, zero, suc, ◌+◌, ◌-◌, ◌*◌, ◌<◌, ◌≤◌, Bool, false, List, [], ◌∷◌, length, take, drop, Ok, Err, Result, sym, refl, ap, ◌∙◌, add-one, arith, length-drop}
+use Rattle.basics.proofs.Common.{◌≡◌, ℕ, zero, suc, ◌+◌, ◌-◌, ◌*◌, ◌<◌, ◌≤◌, false, List, [], ◌∷◌, length, take, drop, Ok, Err, Result, sym, refl, ap, ◌∙◌, add-one, arith, length-drop}
 use Rattle.basics.proofs.Common.{length-take-le, drop-drop, Each, never}
 use Rattle.refusal.specs.Outcome.{rule_number, Judging}
 use Rattle.layout.specs.Columns.{sheet_line_bytes}
@@ -149,7 +149,7 @@ reading_stopped s es n i q =
 -- ---- a loop over the lines, after i of them
 
 -- the marks are those of the i lines seen, last is the key of the last one, and what is left to read gives what all lines give
-pub record ReadTo (parse : List ℕ → Result Entry Rule) (test : Result Entry Rule → Result Entry Rule) (s : List ℕ) (m : List Bool) (last i : ℕ) (seen : List Entry) : Type 0 where
+pub record ReadTo (parse : List ℕ → Result Entry Rule) (test : Result Entry Rule → Result Entry Rule) (s m : List ℕ) (last i : ℕ) (seen : List Entry) : Type 0 where
   pub some : i ≤ whole_lines s
   pub count : length seen ≡ i
   pub all : Each AcceptedLine seen
@@ -162,14 +162,14 @@ keyed (Err r) a = tt
 keyed (Ok e) a = (a e refl).key
 
 -- the marks of the lines seen say of a line what those lines do
-marks_serve : (seen : List Entry) → Each AcceptedLine seen → (m : List Bool) → m ≡ marks_of seen → (last : ℕ) → last ≡ last_key seen → (l : Result Entry Rule) → Keyed l
+marks_serve : (seen : List Entry) → Each AcceptedLine seen → (m : List ℕ) → m ≡ marks_of seen → (last : ℕ) → last ≡ last_key seen → (l : Result Entry Rule) → Keyed l
     → admitted (λ e. has_mark m e.code e.block e.class) last l ≡ line_after seen l
 marks_serve seen all m p last q (Err r) k = refl
 marks_serve seen all m p last q (Ok e) k =
     rw (p, q, mark_table seen all e.code e.block e.class k)
 
 module _ {parse : List ℕ → Result Entry Rule} {test : Result Entry Rule → Result Entry Rule} (R : Reads parse test)
-    {s : List ℕ} {m : List Bool} {last i : ℕ} {seen : List Entry} (B : ReadTo parse test s m last i seen) where
+    {s m : List ℕ} {last i : ℕ} {seen : List Entry} (B : ReadTo parse test s m last i seen) where
   pub done : whole_lines s ≤ i → reading_by parse test s ≡ complete seen
   done h = sym B.rest ∙ read_none parse test s (whole_lines s) i seen h
 
@@ -180,7 +180,7 @@ module _ {parse : List ℕ → Result Entry Rule} {test : Result Entry Rule → 
     pub line_keyed : Keyed (parse (line_at s i))
     line_keyed = keyed (parse (line_at s i)) acceptable
 
-    module _ {r : Result Entry Rule} {m' : List Bool} (A : Admits (parse (line_at s i)) last m r m') where
+    module _ {r : Result Entry Rule} {m' : List ℕ} (A : Admits (parse (line_at s i)) last m r m') where
       -- what is left to read goes on from the line that was admitted, or stops at it
       more : reading_by parse test s
           ≡ on_line (test r) (i + 1) seen (λ t. read_from parse test (whole_lines s - (i + 1)) (i + 1 + 1) (drop (sheet_line_bytes * (i + 1)) s) t)

@@ -1,7 +1,7 @@
 -- The order of a sheet's lines, and what admits a line after those before it. Document 02, #105: 'Lines now ascend strictly by code, in the order
 -- RSK, OTH, MOR, VOL, GEN, CRD, then by block, then by class. It refuses, as number 19 with its line, a line that doesn't come after the one before
 -- it, tested after 11.' ACQ 'stands after VOL in the order of lines' (#106). Assumes nothing.
-use Rattle.std.specs.Prelude.{Result, Ok, Err, ◌≡◌, ◌⊎◌, ◌↔◌, Bool, List, [], ◌∷◌, ℕ, ◌+◌, ◌*◌, ◌≤◌, ◌<◌, ltb, true, set}
+use Rattle.std.specs.Prelude.{Result, Ok, Err, ◌≡◌, ◌⊎◌, ◌↔◌, Bool, List, [], ◌∷◌, ℕ, ◌+◌, ◌*◌, ◌≤◌, ◌<◌, ltb, set}
 use Rattle.std.proofs.Common.{inl, inr, arith}
 use Rattle.std.proofs.Math.Decide.{dec_le}
 use Rattle.basics.specs.Pick.{pick}
@@ -98,12 +98,12 @@ admitted stood last (Err r) = Err r
 admitted stood last (Ok e) = rule11 (stood e) last e
 
 -- the marks after a line: that of an admitted one is there
-abbrev pub marks_after : Result Entry Rule → List Bool → List Bool
-marks_after (Ok e) m = set m (index_for e) true
+abbrev pub marks_after : Result Entry Rule → List ℕ → List ℕ
+marks_after (Ok e) m = set m (index_for e) 1
 marks_after (Err r) m = m
 
 -- a line after others, of which the marks and the last key tell; and the marks after it
-pub record Admits (l : Result Entry Rule) (last : ℕ) (m : List Bool) (r : Result Entry Rule) (m' : List Bool) : Type 0 where
+pub record Admits (l : Result Entry Rule) (last : ℕ) (m : List ℕ) (r : Result Entry Rule) (m' : List ℕ) : Type 0 where
   pub line : r ≡ admitted (λ e. has_mark m e.code e.block e.class) last l
   pub marks : m' ≡ marks_after r m
 

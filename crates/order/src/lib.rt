@@ -19,23 +19,19 @@ const ORDER_BASE: u64 = 128;
 // Kept: inlined. The ledger works the line's place out too, and the compiler makes one of both where this is taken in.
 #[tactic(auto, using(crate::proofs::Admission::stands_marked))]
 #[inline(always)]
-pub fn admit(
-    line: Result<Entry, Rule>,
-    last: u64,
-    marks: &mut [bool; PLACES],
-) -> Result<Entry, Rule>
+pub fn admit(line: Result<Entry, Rule>, last: u64, marks: &mut [u8; PLACES]) -> Result<Entry, Rule>
     requires { Keyed line }
     ensures { Admits line last marks.old result marks.new }
 {
     let e = line?;
     let at = places::index_for(e);
-    if marks[at] {
+    if 0 < marks[at] {
         return Err(Rule::LineRepeated);
     }
     if key_of(e) <= last {
         return Err(Rule::OutOfOrder);
     }
-    marks[at] = true;
+    marks[at] = 1;
     Ok(e)
 }
 

@@ -12,8 +12,8 @@ use Rattle.codes.proofs.Table.{rows_same, rank_of_row, rank_one}
 use Rattle.sheet_line.specs.Rules.{AcceptedLine}
 use Rattle.codes.specs.declared.Code.{Code, TheVariants.Rsk, TheVariants.Oth}
 use Rattle.sheet_line.specs.declared.Entry.{Entry}
-use Rattle.places.specs.Entries.{lookup, has_line, SameKey, exists}
-use Rattle.places.specs.Places.{places, index_of, index_for}
+use Rattle.places.specs.Entries.{lookup, mark_of, has_line, SameKey, exists}
+use Rattle.places.specs.Places.{places, index_of, index_for, tabled}
 use Rattle.places.specs.Marks.{marks_of, has_mark, block_marked}
 use Rattle.places.proofs.Keys.{has_key_lem, no_key}
 use Rattle.places.proofs.Indexes.{index_most, index_one, other_key}
@@ -22,22 +22,24 @@ use Rattle.places.proofs.Indexes.{index_most, index_one, other_key}
 
 length_marks : (es : List Entry) → length (marks_of es) ≡ places
 unfolding marks_of
-length_marks [] = length-replicate {A = Bool} places false
+length_marks [] = length-replicate {A = ℕ} places 0
 length_marks (e ∷ es) = simp length-set (length_marks es)
 
-pub mark_table : (es : List Entry) → Each AcceptedLine es → (k : Code) (b c : ℕ) → Key k b c → has_mark (marks_of es) k b c ≡ has_line es k b c
+marks_say : (es : List Entry) → Each AcceptedLine es → (k : Code) (b c : ℕ) → Key k b c → tabled (marks_of es) k b c ≡ lookup mark_of es k b c
 unfolding marks_of lookup
-mark_table [] all k b c v = get_or-replicate places (index_of k b c) false false (index_most k b c v)
-mark_table (e ∷ es) all k b c v =
+marks_say [] all k b c v = get_or-replicate places (index_of k b c) 0 0 (index_most k b c v)
+marks_say (e ∷ es) all k b c v =
     let w = all.0.key in
     elim (ℕ_discrete (index_of k b c) (index_for e)) [
       | yes q ↦
-          rw q (get_or-set_same (marks_of es) (index_for e) true false (rw length_marks (index_most e.code e.block e.class w)))
-          ∙ sym (ap (λ (n : ℕ). ltb 0 n) (if_true _ (has_key_lem k b c e (index_one k b c e v w q))))
+          rw q (get_or-set_same (marks_of es) (index_for e) 1 0 (rw length_marks (index_most e.code e.block e.class w)))
+          ∙ sym (if_true _ (has_key_lem k b c e (index_one k b c e v w q)))
       | no q ↦
-          get_or-set_other (marks_of es) (index_for e) (index_of k b c) true false q
-          ∙ mark_table es all.1 k b c v ∙ sym (ap (λ (n : ℕ). ltb 0 n) (if_false _ (other_key k b c e q)))
+          get_or-set_other (marks_of es) (index_for e) (index_of k b c) 1 0 q ∙ marks_say es all.1 k b c v ∙ sym (if_false _ (other_key k b c e q))
     ]
+
+pub mark_table : (es : List Entry) → Each AcceptedLine es → (k : Code) (b c : ℕ) → Key k b c → has_mark (marks_of es) k b c ≡ has_line es k b c
+mark_table es all k b c v = ap (λ (n : ℕ). ltb 0 n) (marks_say es all k b c v)
 
 -- ---- the marks of a code and block
 
@@ -52,18 +54,18 @@ unfolding index_of
 class_at k b n = omega arith
 
 -- their first n marks, joined one after the other
-joined : (m : List Bool) (k : Code) (b n : ℕ) → index_of k b 1 + n ≤ length m
-    → fold (λ any y. any || y) false (take n (drop (index_of k b 1) m)) ≡ any_to (has_mark m k b) n
+joined : (m : List ℕ) (k : Code) (b n : ℕ) → index_of k b 1 + n ≤ length m
+    → fold (λ any y. any || ltb 0 y) false (take n (drop (index_of k b 1) m)) ≡ any_to (has_mark m k b) n
 unfolding any_to
 joined m k b zero h = refl
 joined m k b (suc n) h =
     let first = index_of k b 1 in
     let l : n < length (drop first m) = rw length-drop (omega arith) in
-    rw (add-one n, joined m k b n (omega arith), get_or-drop first m n false, ← class_at k b n) at (fold_more (λ any y. any || y) false (drop first m) n false l)
+    rw (add-one n, joined m k b n (omega arith), get_or-drop first m n 0, ← class_at k b n) at (fold_more (λ any y. any || ltb 0 y) false (drop first m) n 0 l)
     ∙ or_pick (any_to (has_mark m k b) n) (has_mark m k b (suc n))
 
-pub classes_marked : (m : List Bool) (k : Code) (b n : ℕ) {first : ℕ} → first ≡ index_of k b 1 → first + n ≤ length m
-    → fold (λ any y. any || y) false (take (first + n - first) (drop first m)) ≡ any_to (has_mark m k b) n
+pub classes_marked : (m : List ℕ) (k : Code) (b n : ℕ) {first : ℕ} → first ≡ index_of k b 1 → first + n ≤ length m
+    → fold (λ any y. any || ltb 0 y) false (take (first + n - first) (drop first m)) ≡ any_to (has_mark m k b) n
 classes_marked m k b n {first} e h = rw (add-sub_cancel_left first n, e) (joined m k b n (rw e at h))
 
 -- the places of a code and block up to a class

@@ -1,4 +1,4 @@
-// Where a line stands in the tables, and the marks of the lines that are there.
+// Where a line stands in the tables, and the marks of the lines that are there. A mark is a byte, of which any but 0 counts.
 //
 // A table has a place for each line that there can be: a code's lines follow one another by block, and in a block by class. The lines that can have a
 // second amount come first, so that one index serves the table of first amounts and the shorter one of second amounts.
@@ -30,18 +30,18 @@ pub fn index_for(e: Entry) -> usize
 }
 
 // Whether the sheet has the scalar's line.
-pub fn has_scalar(marks: &[bool; PLACES]) -> bool
+pub fn has_scalar(marks: &[u8; PLACES]) -> bool
     ensures { result ≡ has_mark marks.now Code.Gen 0 scalar_class }
 {
     has_mark(marks, Code::Gen, 0, SCALAR_CLASS)
 }
 
 // Whether a code, block and class has a mark.
-pub fn has_mark(marks: &[bool; PLACES], code: Code, block: usize, class: usize) -> bool
+pub fn has_mark(marks: &[u8; PLACES], code: Code, block: usize, class: usize) -> bool
     requires { Key code block class }
     ensures { result ≡ has_mark marks.now code block class }
 {
-    marks[index_of(code, block, class)]
+    0 < marks[index_of(code, block, class)]
 }
 
 // The index of a code, block and class in each table.
@@ -56,7 +56,7 @@ pub fn index_of(code: Code, block: usize, class: usize) -> usize
 
 // Whether a block has an RSK or OTH line.
 // Kept: the block's range as a clause, as in credits, which says why.
-pub fn block_exists(marks: &[bool; PLACES], block: usize) -> bool
+pub fn block_exists(marks: &[u8; PLACES], block: usize) -> bool
     requires { (1 ≤ block) × (block ≤ blocks) }
     ensures { result ≡ block_marked marks.now block }
 {
@@ -65,7 +65,7 @@ pub fn block_exists(marks: &[bool; PLACES], block: usize) -> bool
 }
 
 // Whether one of the first classes of a code and block has a mark. All their marks are joined, so that there is no jump at the first.
-fn any_class(marks: &[bool; PLACES], code: Code, block: usize, classes: usize) -> bool
+fn any_class(marks: &[u8; PLACES], code: Code, block: usize, classes: usize) -> bool
     requires { Key code block classes }
     ensures { result ≡ any_to (has_mark marks.now code block) classes }
 {
@@ -73,5 +73,5 @@ fn any_class(marks: &[bool; PLACES], code: Code, block: usize, classes: usize) -
     marks[first..first + classes]
         .iter()
         .copied()
-        .fold(false, |any, mark| any | mark)
+        .fold(false, |any, mark| any | (0 < mark))
 }

@@ -5,8 +5,8 @@ use Rattle.order.proofs.admit.Goals as goal
 
 pub returns-then-key_of-last : goal.returns-then-key_of-last
 returns-then-key_of-last c =
-    comes_before c.in_ok-e.was _ _ c.index_for-at.ensures.0 c.key_of.ensures c.if-marks-at.false (omega (arith, c.if-key_of-last.true))
+    comes_before c.in_ok-e.was _ _ c.index_for-at.ensures.0 c.key_of.ensures c.if-marks-at-gt0.false (omega (arith, c.if-key_of-last.true))
 
 pub returns : goal.returns
 returns c =
-    comes_after c.in_ok-e.was _ _ c.index_for-at.ensures.0 c.key_of.ensures c.if-marks-at.false (omega (arith, c.if-key_of-last.false))
+    comes_after c.in_ok-e.was _ _ c.index_for-at.ensures.0 c.key_of.ensures c.if-marks-at-gt0.false (omega (arith, c.if-key_of-last.false))

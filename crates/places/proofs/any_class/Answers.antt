@@ -1,5 +1,5 @@
 -- The marks of a code's classes stand beside one another, within the table. Assumes nothing.
-use Rattle.basics.proofs.Common.{◌≡◌, ◌+◌, ◌-◌, ◌≤◌, false, ◌||◌, take, drop, fold, ◌∙◌, rules}
+use Rattle.basics.proofs.Common.{◌≡◌, ◌+◌, ◌-◌, ◌≤◌, false, ◌||◌, ltb, take, drop, fold, ◌∙◌, rules}
 use Rattle.std.proofs.iter.runs.Made.{chains}
 use Rattle.places.specs.Places.{places}
 use Rattle.places.proofs.Marks.{classes_most, classes_marked}
@@ -18,5 +18,5 @@ returns c =
     let n = c.args.classes in
     let marks = c.args.marks.now in
     let h = within (goal.at.returns c).After-index_of-first in
-    let joined : c.fold.result ≡ fold (λ any y. any || y) false (take (first + n - first) (drop first marks)) = search (rules, chains) in
+    let joined : c.fold.result ≡ fold (λ any y. any || ltb 0 y) false (take (first + n - first) (drop first marks)) = search (rules, chains) in
     joined ∙ classes_marked marks c.args.code c.args.block n c.index_of-first.ensures.0 (search rules)
