@@ -35,16 +35,16 @@ module _ (stood : Entry → Bool) (last : ℕ) where
 
 -- ---- a line after those that the marks and the last key tell of
 
-module _ {l : Result Entry Rule} {e : Entry} (q : l ≡ Ok e) (last : ℕ) (m : List ℕ) {at k : ℕ} (p : at ≡ index_for e) (c : k ≡ key_for e) where
-  pub stands_marked : 0 < get_or m at 0 → Admits l last m (Err rule.LineRepeated) m
+module _ (e : Entry) (last : ℕ) (m : List ℕ) {at k : ℕ} (p : at ≡ index_for e) (c : k ≡ key_for e) where
+  pub stands_marked : 0 < get_or m at 0 → Admits (Ok e) last m (Err rule.LineRepeated) m
   unfolding rule11
-  stands_marked h = rw q (record { line = sym (if_lt _ (rw p at h)); marks = refl })
+  stands_marked h = record { line = sym (if_lt _ (rw p at h)); marks = refl }
 
   module _ (z : get_or m at 0 ≤ 0) where
-    pub comes_before : k ≤ last → Admits l last m (Err rule.OutOfOrder) m
+    pub comes_before : k ≤ last → Admits (Ok e) last m (Err rule.OutOfOrder) m
     unfolding rule11 rule19
-    comes_before h = rw q (record { line = sym (if_ge _ (rw p at z) ∙ if_ge _ (rw c at h)); marks = refl })
+    comes_before h = record { line = sym (if_ge _ (rw p at z) ∙ if_ge _ (rw c at h)); marks = refl }
 
-    pub comes_after : last < k → Admits l last m (Ok e) (set m at 1)
+    pub comes_after : last < k → Admits (Ok e) last m (Ok e) (set m at 1)
     unfolding rule11 rule19
-    comes_after h = rw q (record { line = sym (if_ge _ (rw p at z) ∙ if_lt _ (rw c at h)); marks = rw p })
+    comes_after h = record { line = sym (if_ge _ (rw p at z) ∙ if_lt _ (rw c at h)); marks = rw p }

@@ -1,5 +1,5 @@
 // The amounts of a line in the two sorts of sheet: rules 20 and 21.
-ghost use Rattle.std.specs.Prelude.{◌≡◌};
+ghost use Rattle.std.specs.Prelude.{◌≡◌, Result, Ok};
 ghost use Rattle.scaled_line.specs.Amounts.{barred, barred_by, has_barred, convertible};
 
 use super::Scale;
@@ -14,12 +14,19 @@ const THOUSAND_DOLLARS: u64 = 100000;
 const MOST_THOUSANDS: u64 = LARGEST_AMOUNT / THOUSAND_DOLLARS;
 
 impl Scale {
-    // The last test of a line: rule 20 of a sheet in cents, rule 21 of one in thousands.
-    #[tactic(auto, unfolding(crate::specs::Amounts::rule20or21, basics::specs::Pick::pick))]
+    // The last test of a line. One that was turned away is handed on with its rule; who turns lines away by anything else hands those on, and calls
+    // `convertible_entry`.
     pub fn convertible(self, line: Result<Entry, Rule>) -> Result<Entry, Rule>
         ensures { result ≡ convertible self line }
     {
-        let e = line?;
+        self.convertible_entry(line?)
+    }
+
+    // The last test of an entry: rule 20 of a sheet in cents, rule 21 of one in thousands.
+    #[tactic(auto, unfolding(crate::specs::Amounts::rule20or21, basics::specs::Pick::pick))]
+    pub fn convertible_entry(self, e: Entry) -> Result<Entry, Rule>
+        ensures { result ≡ convertible self (Ok e) }
+    {
         if self.has_barred(e) {
             return Err(self.barred_by());
         }
