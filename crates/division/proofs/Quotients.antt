@@ -1,6 +1,7 @@
--- Long division: how many binary digits fit a step, one step, what holds between two, and the quotient rounded up. Assumes nothing.
+-- Long division: how many binary digits fit a step, one step, what holds between two, and the quotient rounded up, once and twice. Assumes nothing.
 use Rattle.basics.proofs.Common.{◌≡◌, ℕ, ◌+◌, ◌-◌, ◌*◌, ◌/◌, ◌%◌, ◌^◌, ◌<◌, ◌≤◌, leb, sym, ap, ◌∙◌, mul-le-mul_right, lt_of_mul-lt-mul_right, mul-le-mul_left, arith, pow_mono, pow-add, dec_le}
-use Rattle.basics.proofs.Common.{count_leading_zeros, least, ceil_eq}
+use Rattle.basics.proofs.Common.{suc, mul_assoc, mod-lt, div-add-mod', count_leading_zeros, least, ceil_eq, leb_same}
+use native.Mathlib.Nat.{div-lt_iff_lt-mul}
 use lib.Count.{leading_length}
 use lib.Pow.{mod-pow-add}
 
@@ -104,3 +105,22 @@ module _ (n d q r : ℕ) (whole : q * d + r ≡ n) (small : r < d) (fits : n ≤
 
   pub up_exact : r ≡ 0 → q ≡ least (λ q. leb n (d * q))
   up_exact h = sym (ceil_eq n d q (quotient_below n d q r whole small fits) (omega arith) (omega arith))
+
+-- ---- rounded up twice, over any two divisors
+
+module _ (n d : ℕ) (positive : 0 < d) where
+  -- the quotient rounded up is at most m just where n is at most d × m
+  pub up_most : (m : ℕ) → n ≤ d * m → (n + (d - 1)) / d ≤ m
+  up_most m h =
+      let l : (n + (d - 1)) / d < suc m = (div-lt_iff_lt-mul {k = d} {x = n + (d - 1)} {y = suc m} positive).1 (omega arith) in
+      omega arith
+
+  up_reaches : (m : ℕ) → (n + (d - 1)) / d ≤ m → n ≤ d * m
+  up_reaches m h = omega (arith, mul-le-mul_left d h, div-add-mod' (n + (d - 1)) d, mod-lt (n + (d - 1)) positive)
+
+  -- rounded up by d and then by e is rounded up by d × e
+  pub up_twice : (e : ℕ) → least (λ q. leb ((n + (d - 1)) / d) (e * q)) ≡ least (λ q. leb n (d * e * q))
+  up_twice e = λ i. least (λ q. same q i)
+    where
+      same : (q : ℕ) → leb ((n + (d - 1)) / d) (e * q) ≡ leb n (d * e * q)
+      same q = leb_same _ _ n (d * (e * q)) (up_reaches (e * q)) (up_most (e * q)) ∙ ap (leb n) (sym (mul_assoc d e q))
