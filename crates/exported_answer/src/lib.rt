@@ -3,9 +3,10 @@
 
 ghost use Rattle.std.specs.Prelude.{◌≡◌, [], ◌∷◌};
 ghost use Rattle.refusal.specs.Outcome.{Never0, place_of, rule_number, stated_number, stated_numbers};
+ghost use Rattle.text_answer.specs.Lent.{stated_by_number};
 ghost use Rattle.exported_answer.specs.Caller.{CallerHas};
 
-use refusal::Refusal;
+use refusal::{Place, Refusal};
 
 // Given by a call that is accepted. No refusal has this number.
 // Kept: a number, since the C interface has it: include/tsav.h says that 0 is accepted.
@@ -37,12 +38,30 @@ pub fn give_length(
 ) -> u64
     ensures { CallerHas (stated_number answer) result written.old place.old written.new place.new }
 {
-    let lengths = answer.map(
-        |length: usize|
-            ensures { result ≡ length ∷ [] }
-        { [cast::word(length)] },
+    let by_number = answer.map_err(
+        |refusal: Refusal|
+            ensures { (result.0 ≡ rule_number refusal.0) × (result.1 ≡ refusal.1) }
+        { (refusal.0.number(), refusal.1) },
     );
-    give_values(lengths, written, place)
+    give_length_by_number(by_number, written, place)
+}
+
+// The same of an answer that tells its refusal by any number but 0, a caller's own too.
+pub fn give_length_by_number(
+    answer: Result<usize, (u64, Place)>,
+    written: &mut [u64; 1],
+    place: &mut [u64; 2],
+) -> u64
+    requires { Never0 (stated_by_number answer) }
+    ensures { CallerHas (stated_by_number answer) result written.old place.old written.new place.new }
+{
+    match answer {
+        Ok(length) => {
+            *written = [cast::word(length)];
+            ACCEPTED
+        }
+        Err((number, at)) => give_refusal_by_number(number, at, place),
+    }
 }
 
 // A refusal's number is given, and its place is written.
@@ -50,6 +69,13 @@ pub fn give_refusal(refusal: Refusal, place: &mut [u64; 2]) -> u64
     ensures { (result ≡ rule_number refusal.0) × (place.new ≡ place_of refusal.1) }
 {
     let Refusal(rule, at) = refusal;
+    give_refusal_by_number(rule.number(), at, place)
+}
+
+// The same of a refusal by any number, a caller's own too.
+pub fn give_refusal_by_number(number: u64, at: Place, place: &mut [u64; 2]) -> u64
+    ensures { (result ≡ number) × (place.new ≡ place_of at) }
+{
     *place = at.into();
-    rule.number()
+    number
 }

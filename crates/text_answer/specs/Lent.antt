@@ -3,7 +3,7 @@
 -- last, 'lent report shorter than the report', and then the text: it gives the length written, 'and bytes past it keep their content'. 'A refusal
 -- writes nothing.'
 -- Assumes nothing.
-use Rattle.std.specs.Prelude.{◌≡◌, List, [], ◌∷◌, ◌++◌, ℕ, ◌≤◌, ◌<◌, ltb, length, drop}
+use Rattle.std.specs.Prelude.{◌≡◌, Result, Ok, Err, List, [], ◌∷◌, ◌++◌, ℕ, ◌≤◌, ◌<◌, ltb, length, drop}
 use Rattle.basics.specs.Pick.{pick}
 use Rattle.refusal.specs.Outcome.{Outcome}
 use Rattle.refusal.specs.Outcome.Outcome.{accepted, refused}
@@ -16,6 +16,11 @@ pub data Text : Type 0 where
   no_text : ℕ → Place → Text
   -- the bytes to be written
   bytes : List ℕ → Text
+
+-- what a call's result says that tells its refusal by a number
+abbrev pub stated_by_number : Result ℕ (ℕ × Place) → Outcome
+stated_by_number (Ok n) = accepted (n ∷ [])
+stated_by_number (Err (n, p)) = refused n p
 
 -- the outcome, and what is in the lent room afterwards
 pub record Done : Type 0 where

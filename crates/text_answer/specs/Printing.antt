@@ -45,3 +45,8 @@ pub record Printed (text : List ℕ) (given : ℕ) (before after : List ℕ) : T
 abbrev pub Shown : Result ℕ Refusal → ℕ → List ℕ → List ℕ → Type 0
 Shown (Ok n) given before after = (given ≡ n) × (after ≡ before)
 Shown (Err r) given before after = Printed (refusal_line (rule_number r.0) r.1) given before after
+
+-- the same after an answer that tells its refusal by a number
+abbrev pub ShownByNumber : Result ℕ (ℕ × Place) → ℕ → List ℕ → List ℕ → Type 0
+ShownByNumber (Ok n) given before after = (given ≡ n) × (after ≡ before)
+ShownByNumber (Err (n, p)) given before after = Printed (refusal_line n p) given before after
