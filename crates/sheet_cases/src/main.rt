@@ -46,11 +46,11 @@ fn next_case<R: Read>(input: &mut R) -> Option<Header> {
     })
 }
 
-// The number that digits spell.
+// The number that digits spell; of a byte that is no digit one is made, so that a header always gives five.
 fn number(digits: &[u8]) -> usize {
     digits.iter().fold(0, |n: usize, &digit| {
         n.wrapping_mul(10)
-            .wrapping_add(usize::from(digit.saturating_sub(b'0')))
+            .wrapping_add(usize::from(digit.saturating_sub(b'0') % 10))
     })
 }
 
