@@ -1,7 +1,7 @@
 // What a call gives to C and Rust of its answer: its number, its values or how many bytes it has written, or the place of its refusal.
 #![tactic(auto)]
 
-ghost use Rattle.std.specs.Prelude.{◌≡◌, [], ◌∷◌};
+ghost use Rattle.std.specs.Prelude.{◌≡◌};
 ghost use Rattle.refusal.specs.Outcome.{Never0, place_of, rule_number, stated_number, stated_numbers};
 ghost use Rattle.text_answer.specs.Lent.{stated_by_number};
 ghost use Rattle.exported_answer.specs.Caller.{CallerHas};
