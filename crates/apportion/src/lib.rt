@@ -13,13 +13,6 @@ use division::Division;
 use sizes::PARTS;
 use wide::Wide;
 
-// Each share rounded down with its remainder, and the cents left over.
-#[derive(Clone, Copy)]
-struct RoundedDown {
-    shares: [Division<u64>; PARTS],
-    left: u64,
-}
-
 // The shares of k by margins that are not all zero, whose sum is handed with them.
 // Kept: k and the sum as two parameters, here and in two below; a struct of them would be filled by one caller and opened at once.
 #[tactic(auto, using(crate::proofs::Parts::base_fits, crate::proofs::Parts::shared))]
@@ -27,28 +20,29 @@ pub fn shared_out(k: u64, margins: &[u64; PARTS], sum: u64) -> [u64; PARTS]
     requires { Shareable k (value_of_part margins.now) sum }
     ensures { result ≡ shares k (value_of_part margins.now) }
 {
-    let d = divided(k, margins, sum);
-    with_cents(&d.shares, d.left)
-}
-
-// Each share rounded down; what is taken off k for them leaves the cents.
-#[tactic(auto, using(crate::proofs::Parts::parts_divided), unfolding(basics::specs::Total::sum_to))]
-fn divided(k: u64, margins: &[u64; PARTS], sum: u64) -> RoundedDown
-    requires { Shareable k (value_of_part margins.now) sum }
-    ensures quotients { (quotients result.shares ≡ list_to (base k (value_of_part margins.now)) parts) × (result.left ≡ left_over k (value_of_part margins.now)) }
-    ensures remainders { rests result.shares ≡ list_to (remainder k (value_of_part margins.now)) parts }
-{
     let mut shares = [Division {
         quotient: 0,
         rest: 0,
     }; PARTS];
+    let left = divided(k, margins, sum, &mut shares);
+    with_cents(&shares, left)
+}
+
+// Each share rounded down with its remainder, and the cents left over: what is left of k when they are taken off it. The shares are lent: given
+// back, an array of more than 128 bytes is copied by a call of memcpy, which the archive for C does without.
+#[tactic(auto, using(crate::proofs::Parts::parts_divided), unfolding(basics::specs::Total::sum_to))]
+fn divided(k: u64, margins: &[u64; PARTS], sum: u64, shares: &mut [Division<u64>; PARTS]) -> u64
+    requires { Shareable k (value_of_part margins.now) sum }
+    ensures quotients { (quotients shares.new ≡ list_to (base k (value_of_part margins.now)) parts) × (result ≡ left_over k (value_of_part margins.now)) }
+    ensures remainders { rests shares.new ≡ list_to (remainder k (value_of_part margins.now)) parts }
+{
     let mut left = k;
     for part in 0..PARTS {
         let by = part_of(k, margins[part], sum);
         shares[part] = by;
         left -= by.quotient;
     }
-    RoundedDown { shares, left }
+    left
 }
 
 // k × margin over the sum of the margins. No margin is above the sum, so the quotient is at most k: one word.

@@ -7,3 +7,4 @@ pub mod Figures
 pub mod Charges
 pub mod Totals
 pub mod FinerRoots
+pub mod Numbers

@@ -65,6 +65,9 @@ impl Block {
         requires { AcceptedBlock numbers }
         ensures { result.numbers ≡ numbers }
     {
+        // A number at a time: an array of more than 128 bytes that is copied as one is a call of memcpy, which the archive for C does without.
+        let [a, b, c, d, e, f, g, h, i, j, k, l, m, n, o, p, q] = numbers;
+        let numbers = [a, b, c, d, e, f, g, h, i, j, k, l, m, n, o, p, q];
         Block { numbers }
     }
 

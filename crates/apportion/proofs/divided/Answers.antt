@@ -1,9 +1,15 @@
 -- Whenever the loop's test is reached, the first parts are divided, and what is left of K is K less their quotients. Assumes nothing.
-use Rattle.basics.proofs.Common.{◌≡◌, arith, listed_more, listed_all}
+use Rattle.basics.proofs.Common.{◌≡◌, ◌∙◌, length-map, sum_to, arith, listed_start, listed_more, listed_all}
 use Rattle.std.proofs.lemmas.List.{map-set}
 use Rattle.sizes.specs.Sizes.{parts}
 use Rattle.apportion.proofs.Parts.{base_is, remainder_is, takes, left_after, left_all}
 use Rattle.apportion.proofs.divided.Goals as goal
+
+pub loop-part-init : goal.loop-part-init
+unfolding sum_to
+loop-part-init c =
+    let l = c.told-shares in
+    (listed_start _ _ _ (length-map _ _ ∙ l), listed_start _ _ _ (length-map _ _ ∙ l), omega arith)
 
 pub overflow_sub-left : goal.overflow_sub-left
 overflow_sub-left c =

@@ -5,5 +5,5 @@ use Rattle.apportion.proofs.shared_out.Goals as goal
 
 pub returns : goal.returns
 returns c =
-    let e = c.divided-d.ensures in
+    let e = c.divided-left.ensures in
     c.with_cents.ensures ∙ shared _ _ _ c.requires _ e.quotients.0 _ _ e.remainders e.quotients.1
