@@ -41,7 +41,7 @@ length_risk_line b t i =
     by_test (λ (l : List ℕ). length l ≡ report_line_bytes) _ _ _ (λ e. length_line REF 22 0 i refl) (λ e. length_signed_line i (movement b t i))
 
 -- risks counted from 0: the place of a component
-place : (i : ℕ) → 2 * suc i - 2 ≡ 2 * i
+pub place : (i : ℕ) → 2 * suc i - 2 ≡ 2 * i
 place i = omega arith
 
 pub raised_is : (b : List ℕ) (t i : ℕ) → set b (2 * i) (get_or b (2 * i) 0 + t) ≡ raised b (suc i) t

@@ -47,7 +47,9 @@ fn raised(block: &Block, raise: u64, i: usize) -> Block
     requires { (length block.now.numbers ≡ block_numbers) × (i < risks) × (ir block.now.numbers (suc i) + raise ≤ limit) }
     ensures { result.numbers ≡ raised block.now.numbers (suc i) raise }
 {
-    let mut numbers = *block.numbers();
+    // A number at a time, as in `Block::new`.
+    let [a, b, c, d, e, f, g, h, j, k, l, m, n, o, p, q, r] = *block.numbers();
+    let mut numbers = [a, b, c, d, e, f, g, h, j, k, l, m, n, o, p, q, r];
     numbers[2 * i] += raise;
     Block::new(numbers)
 }

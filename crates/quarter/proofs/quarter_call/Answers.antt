@@ -1,6 +1,6 @@
 -- The input is one chunk, taken from nothing on; what `finish` leaves in front of the output is its text, and goes into the room where it has its
 -- length. Assumes nothing.
-use Rattle.basics.proofs.Common.{[], sym, ◌∙◌, arith, length-take-le, rules}
+use Rattle.basics.proofs.Common.{◌≡◌, [], length, take, sym, arith, length-take-le, rules}
 use Rattle.text_answer.specs.Printing.{Printed}
 use Rattle.quarter_text.specs.Printout.{quarter_text}
 use Rattle.quarter.proofs.Calls.{at_once, text_within, no_room, taken_over, promised}
@@ -23,16 +23,16 @@ returns-then-room-length c =
 pub slice_bounds-out-end : goal.slice_bounds-out-end
 slice_bounds-out-end c = text_within _ c.args.room.now (text (goal.at.slice_bounds-out-end c).After-finish-length)
 
-pub slice_bounds-copy_from_slice-end-3 : goal.slice_bounds-copy_from_slice-end-3
-slice_bounds-copy_from_slice-end-3 c =
-    sym (length-take-le _ _ (text_within _ c.args.room.now (text (goal.at.slice_bounds-copy_from_slice-end-3 c).After-finish-length)))
+within : (c : After-finish-length) → length (take c.finish-length.result c.finish-length.new.out) ≡ c.finish-length.result
+within c = length-take-le _ _ (text_within _ c.args.room.now (text c))
 
-pub copy_from_slice-requires : goal.copy_from_slice-requires
-copy_from_slice-requires c =
-    length-take-le _ _ (omega (arith, c.if-room-length.false))
-    ∙ sym (length-take-le _ _ (text_within _ c.args.room.now (text (goal.at.copy_from_slice-requires c).After-finish-length)))
+pub slice_bounds-copy_text-end : goal.slice_bounds-copy_text-end
+slice_bounds-copy_text-end c = sym (within (goal.at.slice_bounds-copy_text-end c).After-finish-length)
+
+pub copy_text-requires : goal.copy_text-requires
+copy_text-requires c = omega (arith, within (goal.at.copy_text-requires c).After-finish-length, c.if-room-length.false)
 
 pub returns : goal.returns
 returns c =
-    promised _ _ _
-    (taken_over _ _ (text (goal.at.returns c).After-finish-length) (omega (arith, c.if-room-length.false)) (search rules))
+    let f = (goal.at.returns c).After-finish-length in
+    promised _ _ _ (taken_over _ _ (text f) (omega (arith, c.if-room-length.false)) (rw (within f) at c.copy_text.ensures))
