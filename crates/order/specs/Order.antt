@@ -7,6 +7,7 @@ use Rattle.std.proofs.Math.Decide.{dec_le}
 use Rattle.basics.specs.Pick.{pick}
 use Rattle.codes.specs.Codes.{rank, Key}
 use Rattle.codes.specs.declared.Code.{Code}
+use Rattle.refusal.specs.Outcome.{rule_number}
 use Rattle.refusal.specs.declared.Rule.{Rule}
 use Rattle.refusal.specs.declared.Rule.TheVariants as rule
 use Rattle.sheet_line.specs.declared.Entry.{Entry}
@@ -106,6 +107,19 @@ marks_after (Err r) m = m
 pub record Admits (l : Result Entry Rule) (last : ℕ) (m : List ℕ) (r : Result Entry Rule) (m' : List ℕ) : Type 0 where
   pub line : r ≡ admitted (λ e. has_mark m e.code e.block e.class) last l
   pub marks : m' ≡ marks_after r m
+
+-- the same of lines that are turned away by any number, a caller's own too
+abbrev pub by_number : Result Entry Rule → Result Entry ℕ
+by_number (Ok e) = Ok e
+by_number (Err r) = Err (rule_number r)
+
+abbrev pub KeyedByNumber : Result Entry ℕ → Type 0
+KeyedByNumber (Err n) = Unit {0}
+KeyedByNumber (Ok e) = Key e.code e.block e.class
+
+abbrev pub AdmitsByNumber : Result Entry ℕ → ℕ → List ℕ → Result Entry ℕ → List ℕ → Type 0
+AdmitsByNumber (Err n) last m r m' = (r ≡ Err n) × (m' ≡ m)
+AdmitsByNumber (Ok e) last m r m' = (a : Result Entry Rule) × Admits (Ok e) last m a m' × (r ≡ by_number a)
 
 -- ---- sheets that are alike
 

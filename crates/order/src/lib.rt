@@ -3,7 +3,8 @@
 
 ghost use Rattle.std.specs.Prelude.{◌≡◌, Result, Ok};
 ghost use Rattle.codes.specs.Codes.{Key};
-ghost use Rattle.order.specs.Order.{key_for, Keyed, Admits};
+ghost use Rattle.refusal.specs.Outcome.{rule_number};
+ghost use Rattle.order.specs.Order.{key_for, Keyed, KeyedByNumber, Admits, AdmitsByNumber};
 
 use places::PLACES;
 use refusal::Rule;
@@ -12,8 +13,7 @@ use sheet_line::Entry;
 // A power of two above every block and class, which have two columns each.
 const ORDER_BASE: u64 = 128;
 
-// What admits a line after those before it. One that was turned away is handed on with its rule; who turns lines away by anything else hands those on,
-// and calls `admit_entry`.
+// What admits a line after those before it. One that was turned away is handed on with its rule.
 //
 // Kept: inlined, and so is the next. The ledger works the line's place out too, and the compiler makes one of both where this is taken in.
 #[inline(always)]
@@ -30,7 +30,7 @@ pub fn admit(line: Result<Entry, Rule>, last: u64, marks: &mut [u8; PLACES]) -> 
 // Kept: 0 for no last key. No key is 0, so that one comparison serves the first line too; an Option would be no plainer.
 #[tactic(auto, using(crate::proofs::Admission::stands_marked))]
 #[inline(always)]
-pub fn admit_entry(e: Entry, last: u64, marks: &mut [u8; PLACES]) -> Result<Entry, Rule>
+fn admit_entry(e: Entry, last: u64, marks: &mut [u8; PLACES]) -> Result<Entry, Rule>
     requires { Key e.code e.block e.class }
     ensures { Admits (Ok e) last marks.old result marks.new }
 {
@@ -43,6 +43,23 @@ pub fn admit_entry(e: Entry, last: u64, marks: &mut [u8; PLACES]) -> Result<Entr
     }
     marks[at] = 1;
     Ok(e)
+}
+
+// The same of a line that was turned away by any number, a caller's own too: it is handed on with its number.
+pub fn admit_by_number(
+    line: Result<Entry, u64>,
+    last: u64,
+    marks: &mut [u8; PLACES],
+) -> Result<Entry, u64>
+    requires { KeyedByNumber line }
+    ensures { AdmitsByNumber line last marks.old result marks.new }
+{
+    let admitted = admit_entry(line?, last, marks);
+    admitted.map_err(
+        |rule: Rule|
+            ensures { result ≡ rule_number rule }
+        { rule.number() },
+    )
 }
 
 // The key of an entry in the order of lines.

@@ -5,6 +5,7 @@ use Rattle.std.specs.Prelude.{Result, Ok, Err, Bool, true, false, not, ℕ, ◌*
 use Rattle.basics.specs.Pick.{pick}
 use Rattle.amount.specs.Amount.{limit}
 use Rattle.sheet_line.specs.Rules.{is_scalar}
+use Rattle.refusal.specs.Outcome.{rule_number}
 use Rattle.refusal.specs.declared.Rule.{Rule}
 use Rattle.refusal.specs.declared.Rule.TheVariants as rule
 use Rattle.sheet_line.specs.declared.Entry.{Entry}
@@ -39,6 +40,11 @@ rule20or21 d e = pick (has_barred d e) (Err (barred_by d)) (Ok e)
 abbrev pub convertible : Scale → Result Entry Rule → Result Entry Rule
 convertible d (Err r) = Err r
 convertible d (Ok e) = rule20or21 d e
+
+-- the same of a line that was turned away by any number, a caller's own too
+abbrev pub convertible_by_number : Scale → Result Entry ℕ → Result Entry ℕ
+convertible_by_number d (Err n) = Err n
+convertible_by_number d (Ok e) = pick (has_barred d e) (Err (rule_number (barred_by d))) (Ok e)
 
 -- ---- what is written
 

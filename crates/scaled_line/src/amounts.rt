@@ -1,6 +1,6 @@
 // The amounts of a line in the two sorts of sheet: rules 20 and 21.
-ghost use Rattle.std.specs.Prelude.{◌≡◌, Result, Ok};
-ghost use Rattle.scaled_line.specs.Amounts.{barred, barred_by, has_barred, convertible};
+ghost use Rattle.std.specs.Prelude.{◌≡◌};
+ghost use Rattle.scaled_line.specs.Amounts.{barred, barred_by, has_barred, convertible, convertible_by_number};
 
 use super::Scale;
 use amount::LARGEST_AMOUNT;
@@ -14,21 +14,27 @@ const THOUSAND_DOLLARS: u64 = 100000;
 const MOST_THOUSANDS: u64 = LARGEST_AMOUNT / THOUSAND_DOLLARS;
 
 impl Scale {
-    // The last test of a line. One that was turned away is handed on with its rule; who turns lines away by anything else hands those on, and calls
-    // `convertible_entry`.
+    // The last test of a line: rule 20 of a sheet in cents, rule 21 of one in thousands.
+    #[tactic(auto, unfolding(crate::specs::Amounts::rule20or21, basics::specs::Pick::pick))]
     pub fn convertible(self, line: Result<Entry, Rule>) -> Result<Entry, Rule>
         ensures { result ≡ convertible self line }
     {
-        self.convertible_entry(line?)
-    }
-
-    // The last test of an entry: rule 20 of a sheet in cents, rule 21 of one in thousands.
-    #[tactic(auto, unfolding(crate::specs::Amounts::rule20or21, basics::specs::Pick::pick))]
-    pub fn convertible_entry(self, e: Entry) -> Result<Entry, Rule>
-        ensures { result ≡ convertible self (Ok e) }
-    {
+        let e = line?;
         if self.has_barred(e) {
             return Err(self.barred_by());
+        }
+        Ok(e)
+    }
+
+    // The same of a line that was turned away by any number, a caller's own too: it is handed on with its number.
+    #[tactic(auto, unfolding(basics::specs::Pick::pick))]
+    pub fn convertible_by_number(self, line: Result<Entry, u64>) -> Result<Entry, u64>
+        ensures { result ≡ convertible_by_number self line }
+    {
+        let e = line?;
+        let barred = self.has_barred(e);
+        if barred {
+            return Err(self.barred_by().number());
         }
         Ok(e)
     }
