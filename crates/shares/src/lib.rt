@@ -81,7 +81,9 @@ fn without_part(b: &[u64; BLOCK_NUMBERS], part: usize) -> [u64; BLOCK_NUMBERS]
     requires { (1 ≤ part) × (part ≤ parts) }
     ensures { result ≡ without b.now part }
 {
-    let mut less = *b;
+    // A number at a time, as in `Block::new`.
+    let [a, c, d, e, f, g, h, i, j, k, l, m, n, o, p, q, r] = *b;
+    let mut less = [a, c, d, e, f, g, h, i, j, k, l, m, n, o, p, q, r];
     if RISKS < part {
         less[PC_POSITION + (part - PC_PART)] = 0;
         return less;
