@@ -3,6 +3,8 @@
 // with '#' before the call, and written whole after it.
 #![tactic(auto)]
 
+ghost use Rattle.std.specs.Prelude.{◌<◌};
+
 use refusal::Refusal;
 use report::LONGEST_REPORT;
 use report_line::{REPORT_LINE_BYTES, Row};
@@ -46,12 +48,16 @@ fn next_case<R: Read>(input: &mut R) -> Option<Header> {
     })
 }
 
-// The number that digits spell; of a byte that is no digit one is made, so that a header always gives five.
+// The number that digits spell.
 fn number(digits: &[u8]) -> usize {
-    digits.iter().fold(0, |n: usize, &digit| {
-        n.wrapping_mul(10)
-            .wrapping_add(usize::from(digit.saturating_sub(b'0') % 10))
-    })
+    digits.iter().fold(0, |n: usize, &b| n.wrapping_mul(10).wrapping_add(digit(b)))
+}
+
+// A digit. A byte that is none counts by its remainder by 10, so that five columns are never more than 99,999.
+fn digit(b: u8) -> usize
+    ensures { result < 10 }
+{
+    usize::from(b.saturating_sub(b'0')) % 10
 }
 
 // One case, where the program has room for its sheet and for the report.
