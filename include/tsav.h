@@ -28,8 +28,8 @@
 
    Not counted: a signal handler on the same stack; what the C library keeps of a thread's stack, some 5 KiB of the size that
    pthread_attr_setstacksize is given with glibc; and 3 KiB or more of the dynamic linker, where it looks up a name at its first
-   use, a call's in libtsav.so or the C library's memset, the only name that a call needs from elsewhere. A program that is linked with -z now has its names looked up
-   before, and libtsav.so is linked so.
+   use, a call's in libtsav.so or the C library's memset, the only name that a call needs from elsewhere. A program that is
+   linked with -z now has its names looked up before, and libtsav.so is linked so.
 
    All amounts are whole cents, 0 to TSAV_LARGEST_AMOUNT; those of a sheet in small letters, which the convert call alone takes,
    are thousands of dollars.
