@@ -60,7 +60,7 @@ module _ (es : List Entry) (all : Each AcceptedLine es) where
   -- rule 10 lets no other scalar pass, where there is one
   pub scalar_within : 0 < lookup mark_of es Gen 0 scalar_class → (1 ≤ general_amount es scalar_class) × (general_amount es scalar_class ≤ largest_scalar)
   scalar_within =
-      looked_up (λ f s m. 0 < m → (1 ≤ f) × (f ≤ largest_scalar)) Gen 0 scalar_class (λ h. absurd (omega arith)) (λ f s v a h. a.scalar (omega arith) refl) es all
+      looked_up (λ f s m. 0 < m → (1 ≤ f) × (f ≤ largest_scalar)) Gen 0 scalar_class (λ h. absurd (omega arith)) (λ f s v a h. a.scalar refl) es all
 
   pub general_most : (c : ℕ) → general_amount es c ≤ limit
   general_most c = first_most Gen 0 c

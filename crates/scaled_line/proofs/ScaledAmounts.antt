@@ -1,9 +1,10 @@
 -- Amounts of one sort in the other: where the rules leave them, they fit there, pass its rules and come back. Assumes nothing.
 -- In order: one amount; what the last test leaves of an entry; the entry in the other sort, which passes that sort's rules; and back again.
 use Rattle.basics.proofs.Common.{◌≡◌, ℕ, ◌*◌, ◌/◌, ◌%◌, ◌≤◌, Bool, true, false, not, Ok, Err, Result, sym, refl, ap, ◌∙◌, arith, ltb-false, le-ltb, eq-eqb, eqb-true, not-false, pick, if_true}
-use Rattle.basics.proofs.Common.{if_false, if_lt, by_test, never}
+use Rattle.basics.proofs.Common.{if_false, by_test, never}
 use Rattle.amount.specs.Amount.{limit}
 use Rattle.sheet_line.specs.Rules.{row_for, is_scalar, AcceptedAmounts, AcceptedLine}
+use Rattle.sheet_line.proofs.Acceptance.{scalar_line}
 use Rattle.refusal.specs.declared.Rule.{Rule}
 use Rattle.sheet_line.specs.declared.Entry.{Entry}
 use Rattle.scaled_line.specs.Scale.{other}
@@ -93,7 +94,7 @@ module _ (d : Scale) (e : Entry) (C : Convertible d e) (a : AcceptedLine e) wher
         second_most = other_most d g m.second_most (C.fit s).1;
         single = λ o. other_none d g (m.single o);
         trend = λ o. other_up d g f (m.trend o);
-        scalar = λ h o. let t : is_scalar e ≡ true = if_lt _ h ∙ eq-eqb _ _ o in never (cc);
+        scalar = λ o. let t = scalar_line e a.key.one o in never (cc);
       })
 
   -- the rules of a line leave it in the other sort too

@@ -1,13 +1,13 @@
 -- What a line that no rule turns away guarantees: of its entry what each rule's test leaves, the rules one after the other, and of its columns that
 -- they hold the entry's code and numbers. Assumes nothing.
-use Rattle.basics.proofs.Common.{◌≡◌, ℕ, ◌≤◌, false, ltb, List, length, Some, None, Ok, Option, Result, sym, refl, ◌∙◌, subst, arith, ltb-false, lt-ltb, eq-eqb, eqb-true, not-false, if_true, if_lt, by_test, never}
+use Rattle.basics.proofs.Common.{◌≡◌, ℕ, ◌≤◌, true, false, ltb, List, length, Some, None, Ok, Option, Result, sym, refl, ◌∙◌, subst, arith, ltb-false, lt-ltb, eq-eqb, eqb-true, not-false, if_true, if_lt, by_test, never}
 use Rattle.std.proofs.lemmas.Bool.{le-leb}
 use Rattle.amount.specs.Amount.{limit}
 use Rattle.codes.specs.Codes.{Key, code_of}
 use Rattle.layout.specs.Columns.{sheet_line_bytes, layout_of}
 use Rattle.layout.proofs.Columns.{kept_amounts}
 use Rattle.sheet_line.specs.Line.{numbers_of}
-use Rattle.sheet_line.specs.Rules.{outside, row_for, block_outside, class_outside, is_single, rule3, rule5, rule6, rule8, rule9, rule10, entry_of, parse_line, AcceptedLine}
+use Rattle.sheet_line.specs.Rules.{outside, row_for, block_outside, class_outside, is_single, is_scalar, rule3, rule5, rule6, rule8, rule9, rule10, entry_of, parse_line, AcceptedLine}
 use Rattle.codes.specs.declared.Code.{Code}
 use Rattle.layout.specs.declared.Numbers.{Numbers}
 use Rattle.refusal.specs.declared.Rule.{Rule}
@@ -33,6 +33,10 @@ single_within e q =
     (λ z. sym (lt-ltb _ _ (omega (arith, eqb-true _ _ z, w.0))))
     (λ z. by_test (λ t. t ≡ ltb (row_for e).paired e.class) _ _ _ (λ s. le-leb _ _ w.1 ∙ sym s) (λ s. sym s))
 
+-- a class that is the scalar of its row, and not 0 as in a row without one, is that of the scalar's line
+pub scalar_line : (e : Entry) → 1 ≤ e.class → e.class ≡ (row_for e).scalar → is_scalar e ≡ true
+scalar_line e h s = if_lt _ (omega (arith, h, s)) ∙ eq-eqb _ _ s
+
 -- ---- rules 5 to 10
 
 module _ (e : Entry) (a : e.first ≤ limit) (b : e.second ≤ limit) (d : Entry) where
@@ -56,7 +60,7 @@ module _ (e : Entry) (a : e.first ≤ limit) (b : e.second ≤ limit) (d : Entry
             second_most = b;
             single = λ s. eqb-true _ _ (not-false _ (sym (if_true _ (single_within e r6 ∙ lt-ltb _ _ s)) ∙ r8));
             trend = λ s. ltb-false _ _ (sym (if_true _ s) ∙ r9);
-            scalar = λ h s. inside _ _ _ (sym (if_true _ (if_lt _ h ∙ eq-eqb _ _ s)) ∙ r10);
+            scalar = λ s. inside _ _ _ (sym (if_true _ (scalar_line e (inside _ _ _ r6).0 s)) ∙ r10);
           };
         },
       )

@@ -42,7 +42,7 @@ rules_pass e a =
     ∙ if_false _ r6
     ∙ if_false _ (test_passes (is_single e) (λ s. ap not (eq-eqb _ _ (a.amounts.single (ltb-true _ _ (sym (single_within e r6) ∙ s))))))
     ∙ if_false _ (test_passes (row_for e).trend (λ s. le-ltb _ _ (a.amounts.trend s)))
-    ∙ if_false _ (test_passes (is_scalar e) (λ s. let t = both _ s in let g = a.amounts.scalar (ltb-true _ _ t.0) (eqb-true _ _ t.1) in inside_passes g.0 g.1))
+    ∙ if_false _ (test_passes (is_scalar e) (λ s. let g = a.amounts.scalar (eqb-true _ _ (both _ s).1) in inside_passes g.0 g.1))
 
 -- ---- what is printed is read back
 

@@ -100,7 +100,7 @@ pub record AcceptedAmounts (r : CodeRow) (c first second : ℕ) : Type 0 where
   pub second_most : second ≤ limit
   pub single : r.paired < c → second ≡ 0
   pub trend : r.trend ≡ true → second ≤ first
-  pub scalar : 0 < r.scalar → c ≡ r.scalar → (1 ≤ first) × (first ≤ largest_scalar)
+  pub scalar : c ≡ r.scalar → (1 ≤ first) × (first ≤ largest_scalar)
 
 -- an entry that the rules let pass
 pub record AcceptedLine (e : Entry) : Type 0 where
